@@ -1,0 +1,8 @@
+-- What a declaration book is. Read in this order: Forest, Node, Book, Encode, Fits, Layout.
+pub mod Forest
+pub mod Node
+pub mod Book
+pub mod Encode
+pub mod Fits
+pub mod Layout
+pub mod Rules
