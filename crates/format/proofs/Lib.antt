@@ -1,2 +1,13 @@
 -- Laws of the definitions, and the theorems that pin them.
 pub mod Logic
+pub mod Lists
+pub mod Trees
+pub mod Bytes
+pub mod Names
+pub mod Rows
+pub mod Nodes
+pub mod References
+pub mod Entries
+pub mod Encoded
+pub mod Decoded
+pub mod Theorems

@@ -6,3 +6,5 @@ pub mod Encode
 pub mod Fits
 pub mod Layout
 pub mod Rules
+pub mod Whole
+pub mod References

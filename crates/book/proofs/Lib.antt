@@ -1,0 +1,7 @@
+-- Laws that the proofs of the functions cite.
+mod Tests
+mod Entries
+mod Trees
+mod Names
+mod Parts
+mod Named

@@ -1,0 +1,37 @@
+-- `rules::modes_fine` meets its contract: what is left of the digits is judged. Assumes nothing.
+use mathlib.Core.Path.{_≡_, refl, sym, _∙_}
+use native.Mathlib.Omega.{arith}
+use Rattle.format.specs.Rules.{goodModes}
+use Rattle.book.proofs.Tests.{modes-none, modes-stop, modes-on}
+use Rattle.book.proofs.rules.modes_fine.Statement.{statement}
+use Rattle.book.proofs.rules.modes_fine.Tie as tie
+use Rattle.book.proofs.rules.modes_fine.Reads as reads
+use Rattle.book.proofs.rules.modes_fine.Lts as lts
+
+abbrev Inv-loop : tie.InvT-loop
+Inv-loop modes m₀ left₀ m left = goodModes left m ≡ goodModes 8 modes
+
+abbrev μ-loop : tie.MeasureT-loop
+μ-loop modes m₀ left₀ m left = left
+
+loop-holds : tie.Need-loop-holds Inv-loop μ-loop
+loop-holds c = refl
+
+returns : tie.Need-returns Inv-loop μ-loop
+returns c = sym (modes-stop _ _ (c .before .loop-test .taken) (c .if1 .taken)) ∙ c .before .before .loop .inv
+
+sub-left : tie.Need-sub-left Inv-loop μ-loop
+sub-left c = omega arith
+
+loop-less : tie.Need-loop-less Inv-loop μ-loop
+loop-less c = omega arith
+
+loop-again : tie.Need-loop-again Inv-loop μ-loop
+loop-again c = sym (modes-on _ _ (c .before .loop-test .taken) (c .if1 .left)) ∙ c .before .before .loop .inv
+
+returns-2 : tie.Need-returns-2 Inv-loop μ-loop
+returns-2 c = sym (modes-none _ _ (c .loop-test .left)) ∙ c .before .loop .inv
+
+pub modes-fine-spec : {M : Type 1} → statement M
+modes-fine-spec =
+    tie.close (tie.spec Inv-loop μ-loop loop-holds returns sub-left loop-less loop-again returns-2)

@@ -1,0 +1,138 @@
+// The numbers that document 01 gives to kinds, roles and limits, each with the type that it describes.
+ghost use mathlib.Core.Path.{_≡_};
+ghost use mathlib.Core.Bool.{_&&_};
+ghost use lib.Dec.{leb};
+
+// A node's kind. Kinds below VAR hold no other type and no name.
+pub struct Kind {
+    pub number: u8,
+}
+
+impl Kind {
+    pub const NULL: u8 = 0;
+
+    pub const BOOL: u8 = 1;
+
+    pub const NAT: u8 = 2;
+
+    pub const INT: u8 = 3;
+
+    pub const NAT8: u8 = 4;
+
+    pub const NAT16: u8 = 5;
+
+    pub const NAT32: u8 = 6;
+
+    pub const NAT64: u8 = 7;
+
+    pub const INT8: u8 = 8;
+
+    pub const INT16: u8 = 9;
+
+    pub const INT32: u8 = 10;
+
+    pub const INT64: u8 = 11;
+
+    pub const FLOAT32: u8 = 12;
+
+    pub const FLOAT64: u8 = 13;
+
+    pub const TEXT: u8 = 14;
+
+    pub const RESERVED: u8 = 15;
+
+    pub const EMPTY: u8 = 16;
+
+    pub const PRINCIPAL: u8 = 17;
+
+    pub const VAR: u8 = 18;
+
+    pub const OPT: u8 = 19;
+
+    pub const VEC: u8 = 20;
+
+    pub const RECORD: u8 = 21;
+
+    pub const VARIANT: u8 = 22;
+
+    pub const FUNC: u8 = 23;
+
+    pub const SERVICE: u8 = 24;
+
+    pub const CLASS: u8 = 25;
+
+    pub const INIT: u8 = 26;
+
+    pub fn new(number: u8) -> Kind
+        ensures { λ r. ⌜ r .number ≡ number ⌝ }
+    {
+        Kind { number }
+    }
+}
+
+// A file's role.
+pub struct Role {
+    pub number: u16,
+}
+
+impl Role {
+    pub const MAIN: u16 = 0;
+
+    pub const TYPE_IMPORT: u16 = 1;
+
+    pub const SERVICE_IMPORT: u16 = 2;
+
+    pub const INIT: u16 = 3;
+
+    pub fn new(number: u16) -> Role
+        ensures { λ r. ⌜ r .number ≡ number ⌝ }
+    {
+        Role { number }
+    }
+}
+
+// The most that a book holds.
+pub struct Limits {
+    pub names: usize,
+    pub nodes: usize,
+    pub definitions: usize,
+}
+
+impl Limits {
+    pub const BYTES: usize = 65536;
+
+    pub const NAMES: usize = 1024;
+
+    pub const NODES: usize = 4096;
+
+    pub const DEFINITIONS: usize = 512;
+
+    pub const FILES: usize = 16;
+
+    // The limits of every model so far.
+    pub fn full() -> Limits
+        ensures { λ r. ⌜ (r .names ≡ 1024) × (r .nodes ≡ 4096) × (r .definitions ≡ 512) ⌝ }
+    {
+        Limits {
+            names: Limits::NAMES,
+            nodes: Limits::NODES,
+            definitions: Limits::DEFINITIONS,
+        }
+    }
+}
+
+// Where the bodies of a book lie, and how much each holds: its table of contents. The names begin after the table, at `Contents::SIZE`.
+pub struct Contents {
+    pub names: usize,
+    pub nodes_at: usize,
+    pub nodes: usize,
+    pub definitions_at: usize,
+    pub definitions: usize,
+    pub files_at: usize,
+    pub files: usize,
+}
+
+impl Contents {
+    // The bytes of the table itself.
+    pub const SIZE: usize = 32;
+}

@@ -1,0 +1,78 @@
+-- The names that types refer to are read off their rows, one after the other: theorem `references-siblings`. Assumes nothing.
+use mathlib.Core.Path.{_≡_, refl, sym, ap, ap₂, _∙_}
+use mathlib.Core.Bool.{Bool, true, false, cond}
+use mathlib.Core.List.{List, [], _∷_, _++_, map}
+use Prim.Native.Nat.{ℕ, zero, suc, _-_}
+use native.Mathlib.Omega.{arith}
+use borrow.Author.Tests.{eqb-true, eqb-false}
+use lib.Dec.{eqb}
+use lib.ListN.{length, getD, replicate, List·getD-map}
+use lib.Seq.{getD-set-other}
+use Rattle.format.specs.Forest.{Forest, end, tree, preorder}
+use Rattle.format.specs.Node.{VarT, InitT, Node}
+use Rattle.format.specs.Encode.{Row, flat}
+use Rattle.format.specs.Layout.{rowAt, run, kinds, kindOf, nodeOf, siblings}
+use Rattle.format.specs.References.{nameOf, references}
+use Rattle.format.proofs.Lists.{flat-append}
+use Rattle.format.proofs.Rows.{preorder-siblings}
+
+-- The names among nodes, and the values of the rows of kind 18: each in order.
+abbrev pub namesIn : List Node → List ℕ
+namesIn ns = flat (λ (n : Node). nameOf (n .kind)) ns
+
+unfoldable pub varsOf : List Row → List ℕ
+varsOf [] = []
+varsOf (r ∷ rs) = cond (eqb (r .kind) 18) (r .value ∷ varsOf rs) (varsOf rs)
+
+pub references-preorder : (f : Forest Node) → references f ≡ namesIn (preorder f)
+unfolding references preorder flat
+references-preorder end = refl
+references-preorder (tree n k m) =
+    ap (λ (l : List ℕ). nameOf (n .kind) ++ l)
+    (ap₂ _++_ (references-preorder k) (references-preorder m) ∙ sym (flat-append (λ (a : Node). nameOf (a .kind)) (preorder k) (preorder m)))
+
+-- ---- Kind 18 alone is a name
+
+-- Nothing but d, inside and outside.
+everywhere : {A : Type 0} (k i : ℕ) (d : A) → getD (replicate k d) i d ≡ d
+everywhere zero i d = refl
+everywhere (suc k) zero d = refl
+everywhere (suc k) (suc i) d = everywhere k i d
+
+-- The 26 kinds of the table have no name each, but for the one at place 18.
+pub kind-name : (k v : ℕ) → nameOf (kindOf k v) ≡ cond (eqb k 18) (v ∷ []) []
+unfolding nameOf kindOf kinds
+kind-name k v = go (eqb k 18) refl
+  where
+    go : (b : Bool) → eqb k 18 ≡ b → nameOf (kindOf k v) ≡ cond b (v ∷ []) []
+    go true e = rw (eqb-true k 18 e)
+    go false e =
+        sym (List·getD-map nameOf (kinds v) k InitT) ∙ getD-set-other (replicate 26 []) 18 k (v ∷ []) [] (eqb-false k 18 e) ∙ everywhere 26 k []
+
+-- A node is a name exactly if its row is of kind 18, and then the row's value is that name.
+pub node-var : (r : Row) → r .kind ≡ 18 → nodeOf r .kind ≡ VarT (r .value)
+unfolding nodeOf kindOf kinds
+node-var r h = rw h
+
+pub var-node : (r : Row) {n : ℕ} → nodeOf r .kind ≡ VarT n → (r .kind ≡ 18) × (r .value ≡ n)
+unfolding nodeOf nameOf
+var-node r {n} h = go (eqb (r .kind) 18) refl (sym (kind-name (r .kind) (r .value)) ∙ ap nameOf h)
+  where
+    go : (b : Bool) → eqb (r .kind) 18 ≡ b → cond b (r .value ∷ []) [] ≡ n ∷ [] → (r .kind ≡ 18) × (r .value ≡ n)
+    go true e q = (eqb-true (r .kind) 18 e, ap (λ (l : List ℕ). getD l 0 0) q)
+    go false e q = let z : _≡_ {A = ℕ} 0 1 = ap length q in let f : ⊥ = omega arith in absurd f
+
+-- ---- The names of rows
+pub names-rows : (rs : List Row) → namesIn (map nodeOf rs) ≡ varsOf rs
+unfolding flat nodeOf varsOf
+names-rows [] = refl
+names-rows (r ∷ rs) = rw (kind-name (r .kind) (r .value), names-rows rs) (go (eqb (r .kind) 18))
+  where
+    go : (b : Bool) → cond b (r .value ∷ []) [] ++ varsOf rs ≡ cond b (r .value ∷ varsOf rs) (varsOf rs)
+    go true = refl
+    go false = refl
+
+-- Trees from node i up to node e refer to the values of the rows of kind 18 there, in order.
+pub references-siblings : (ns : List ℕ) (i e : ℕ) → references (siblings ns i e) ≡ varsOf (run (rowAt ns) i (e - i))
+references-siblings ns i e =
+    references-preorder (siblings ns i e) ∙ ap namesIn (preorder-siblings ns i e) ∙ names-rows (run (rowAt ns) i (e - i))
