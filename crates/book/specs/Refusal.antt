@@ -1,5 +1,8 @@
 -- Document 01's number, name and entries needed of each refusal. Definitions; assumes nothing.
+use mathlib.Core.Bool.{Bool, true, false, cond}
 use Prim.Native.Nat.{ℕ}
+use Rattle.book.specs.declared.refusal.Verdict.{Verdict}
+use Rattle.book.specs.declared.refusal.Verdict.the-variants.{Passed, Refused}
 use Rattle.book.specs.declared.refusal.Refusal.{Refusal}
 use Rattle.book.specs.declared.refusal.Refusal.the-variants.{Broken, Twice, Unbound, Class, Modes, Oneway, Circle, NoFunction, MethodNoFunction, NoService, Differs, ImportWithoutActor, ImportNoService, SameHash, Absent, Short, NoActor}
 
@@ -62,3 +65,16 @@ neededOf (SameHash n) = 0
 neededOf (Absent n) = 0
 neededOf (Short n) = n
 neededOf NoActor = 0
+
+-- A verdict that lets a check go on.
+abbrev pub isPassed : Verdict → Bool
+isPassed Passed = true
+isPassed (Refused r) = false
+
+-- The first of two verdicts, unless it passes.
+abbrev pub andThen : Verdict → Verdict → Verdict
+andThen v w = cond (isPassed v) w v
+
+-- A refusal, unless a test is passed.
+abbrev pub unless : Bool → Refusal → Verdict
+unless test r = cond test Passed (Refused r)

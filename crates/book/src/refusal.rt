@@ -1,6 +1,6 @@
 // What the reader answers where it refuses: document 01's table, row by row.
 ghost use mathlib.Core.Path.{_≡_};
-ghost use Rattle.book.specs.Refusal.{numberOf, nameOf, neededOf};
+ghost use Rattle.book.specs.Refusal.{numberOf, nameOf, neededOf, isPassed};
 
 // Rows 1 to 17 in order. Those with a name hold its number, a place in the book's table of names.
 pub enum Refusal {
@@ -116,6 +116,24 @@ impl Refusal {
             Refusal::SameHash(_) => 0,
             Refusal::Absent(_) => 0,
             Refusal::NoActor => 0,
+        }
+    }
+}
+
+// What a check finds.
+pub enum Verdict {
+    Passed,
+    Refused(Refusal),
+}
+
+impl Verdict {
+    // Whether the check goes on.
+    pub fn passed(self) -> bool
+        ensures { λ r. ⌜ r ≡ isPassed self ⌝ }
+    {
+        match self {
+            Verdict::Passed => true,
+            Verdict::Refused(_) => false,
         }
     }
 }

@@ -4,6 +4,7 @@
 --     rows-read, rows-write, entries-read, ..     the same of rows and of entries
 --     toc-read, toc-write                         the table of contents
 --     part-of, part-join, ..                      the bytes from one place up to another
+--     append-bytes, flat-bytes, row-bytes, ..     what is put together of bytes is bytes
 use mathlib.Core.Path.{_≡_, refl, sym, ap, ap₂, _∙_}
 use mathlib.Core.List.{List, [], _∷_, _++_, append-assoc}
 use Prim.Native.Nat.{ℕ, zero, suc, _+_, _-_, _*_, _/_, _%_, _≤_, _<_}
@@ -14,7 +15,7 @@ use lib.Seq.{take-all, take-length, take-at, drop-at, drop-drop, take-add, getD-
 use Rattle.format.specs.Encode.{bytes16, bytes32, flat, Row, rowBytes, Entry, entryBytes, tocRow}
 use Rattle.format.specs.Layout.{le16, le32, rowAt, entryAt, run, part}
 use Rattle.format.specs.Rules.{Bytes}
-use Rattle.format.proofs.Lists.{All}
+use Rattle.format.proofs.Lists.{All, all-of}
 
 -- ---- Numbers
 
@@ -118,6 +119,26 @@ take-bytes (suc k) [] h i = omega arith
 take-bytes (suc k) (b ∷ bs) h zero = h 0
 take-bytes (suc k) (b ∷ bs) h (suc i) = take-bytes k bs (λ j. h (suc j)) i
 
+pub no-bytes : Bytes []
+no-bytes i = omega arith
+
+pub cons-bytes : (b : ℕ) (bs : List ℕ) → b < 256 → Bytes bs → Bytes (b ∷ bs)
+cons-bytes b bs h g zero = h
+cons-bytes b bs h g (suc i) = g i
+
+pub append-bytes : (xs ys : List ℕ) → Bytes xs → Bytes ys → Bytes (xs ++ ys)
+append-bytes [] ys h g i = g i
+append-bytes (x ∷ xs) ys h g zero = h 0
+append-bytes (x ∷ xs) ys h g (suc i) = append-bytes xs ys (λ j. h (suc j)) g i
+
+pub append-bytes₄ : (a b c d : List ℕ) → Bytes a → Bytes b → Bytes c → Bytes d → Bytes (a ++ b ++ c ++ d)
+append-bytes₄ a b c d x y z t = append-bytes (a ++ b ++ c) d (append-bytes (a ++ b) c (append-bytes a b x y) z) t
+
+pub flat-bytes : {A : Type 0} (f : A → List ℕ) (l : List A) → All (λ (a : A). Bytes (f a)) l → Bytes (flat f l)
+unfolding flat
+flat-bytes f [] h = no-bytes
+flat-bytes f (a ∷ l) h = append-bytes (f a) (flat f l) (h .0) (flat-bytes f l (h .1))
+
 -- ---- Records of one width that lie end to end
 
 -- A way to lay a thing out in w bytes, and to read the n-th one of bytes.
@@ -217,6 +238,17 @@ rows-read = chunks-read row-chunks
 pub rows-write : (bs : List ℕ) (k : ℕ) → Bytes bs → length bs ≡ k * 12 → flat rowBytes (run (rowAt bs) 0 k) ≡ bs
 rows-write = chunks-write row-chunks
 
+-- A row's kind and label kind are bytes; its other numbers are laid out as bytes.
+pub row-bytes : (r : Row) → r .kind < 256 → r .lkind < 256 → Bytes (rowBytes r)
+unfolding rowBytes
+row-bytes r h g =
+    let size : List ℕ = bytes16 (r .size) in
+    let value : List ℕ = bytes32 (r .value) in
+    let label : List ℕ = bytes32 (r .label) in
+    append-bytes (r .kind ∷ r .lkind ∷ size ++ value) label
+    (append-bytes (r .kind ∷ r .lkind ∷ size) value
+    (cons-bytes (r .kind) (r .lkind ∷ size) h (cons-bytes (r .lkind) size g (bytes16-bytes (r .size)))) (bytes32-bytes (r .value))) (bytes32-bytes (r .label))
+
 -- A row that is read.
 pub record RowRead (r : Row) : Type 0 where
   pub kind : r .kind < 256
@@ -283,7 +315,20 @@ entryAt-good bs n h =
       reserved = le16-small bs (n * 8 + 6) h;
     }
 
+entry-bytes : (e : Entry) → Bytes (entryBytes e)
+unfolding entryBytes
+entry-bytes e =
+    append-bytes₄ (bytes16 (e .name)) (bytes16 (e .owner)) (bytes16 (e .root)) (bytes16 (e .reserved))
+    (bytes16-bytes (e .name)) (bytes16-bytes (e .owner)) (bytes16-bytes (e .root)) (bytes16-bytes (e .reserved))
+
+pub entries-bytes : (es : List Entry) → Bytes (flat entryBytes es)
+entries-bytes es = flat-bytes entryBytes es (all-of (λ (e : Entry). Bytes (entryBytes e)) entry-bytes es)
+
 -- ---- The table of contents
+
+toc-row : (offset n : ℕ) → Bytes (tocRow offset n)
+unfolding tocRow
+toc-row offset n = append-bytes (bytes32 offset) (bytes32 n) (bytes32-bytes offset) (bytes32-bytes n)
 
 -- The numbers that the bytes begin with.
 pub record Toc (bs : List ℕ) (a b c d e f g h : ℕ) : Type 0 where
@@ -304,6 +349,9 @@ module _ (a b c d e f g h : ℕ) where
   pub toc-length : length (tocRow a b ++ tocRow c d ++ tocRow e f ++ tocRow g h) ≡ 32
   unfolding tocRow bytes32
   toc-length = refl
+
+  pub toc-bytes : Bytes (tocRow a b ++ tocRow c d ++ tocRow e f ++ tocRow g h)
+  toc-bytes = append-bytes₄ (tocRow a b) (tocRow c d) (tocRow e f) (tocRow g h) (toc-row a b) (toc-row c d) (toc-row e f) (toc-row g h)
 
   pub toc-read : (rest : List ℕ) → Four a → Four b → Four c → Four d → Four e → Four f → Four g → Four h →
       Toc (tocRow a b ++ tocRow c d ++ tocRow e f ++ tocRow g h ++ rest) a b c d e f g h

@@ -192,7 +192,7 @@ module _ {b : Book} (p : FitsParts b) where
   unfolding trees
   all-fit = trees-fit (length (b .names)) (length (b .files)) (b .definitions) (b .files) (p .definitions) (p .files)
 
-  rows-run : run (rowAt (nodesBytes b)) 0 (count (trees b)) ≡ preorder (sized (trees b))
+  pub rows-run : run (rowAt (nodesBytes b)) 0 (count (trees b)) ≡ preorder (sized (trees b))
   unfolding nodesBytes
   rows-run =
       let rs : List Row = preorder (sized (trees b)) in

@@ -43,9 +43,9 @@ pub init-role : (r : Role) → eqb (roleNumber r) 3 ≡ isInitRole r
 unfolding roleNumber isInitRole
 init-role = by-role (λ r. eqb (roleNumber r) 3 ≡ isInitRole r) refl refl refl refl
 
-role-small : (r : Role) → roleNumber r < 65536
+pub role-small : (r : Role) → roleNumber r < 4
 unfolding roleNumber
-role-small = by-role (λ r. roleNumber r < 65536) (omega arith) (omega arith) (omega arith) (omega arith)
+role-small = by-role (λ r. roleNumber r < 4) (omega arith) (omega arith) (omega arith) (omega arith)
 
 -- an import's role, where it stands last and where it does not
 import-last : (r : Role) → not (isMain r) ≡ (goodRole false true (roleNumber r) && true)
@@ -92,7 +92,11 @@ length-files next (f ∷ fs) = ap suc (length-files (next + count (f .actor)) fs
 
 -- ---- Definitions that fit
 module _ (names files : ℕ) where
-  one-body : (d : Definition) → T (definitionFits names files d) → breadth (d .body) ≡ 1
+  pub definition-numbers : (d : Definition) → T (definitionFits names files d) → (d .name < names) × (d .file < files)
+  unfolding definitionFits
+  definition-numbers d h = (simp says at h) .0 .0 .0
+
+  pub one-body : (d : Definition) → T (definitionFits names files d) → breadth (d .body) ≡ 1
   unfolding definitionFits
   one-body d h = (simp says at h) .0 .0 .1
 
@@ -151,6 +155,14 @@ module _ (names files : ℕ) where
 
 -- ---- Files that fit
 module _ (names : ℕ) where
+  pub file-name : (f : File) → T (fileFits names f) → f .name < names
+  unfolding fileFits
+  file-name f h = (simp says at h) .0 .0 .0
+
+  pub one-actor : (f : File) → T (fileFits names f) → breadth (f .actor) ≤ 1
+  unfolding fileFits
+  one-actor f h = (simp says at h) .0 .0 .1
+
   -- What a file's entry must be, whatever its tree.
   record Good (main : Bool) (e : Entry) (es : List Entry) : Type 0 where
     name : e .name < names
@@ -267,7 +279,7 @@ module _ (names : ℕ) (few : names ≤ maxNames) where
       let p = simp says at a in
       let n : f .name < names = p .0 .0 .0 .0 in
       let c = count-beside (f .actor) (actors fs) in (
-        record { name = omega arith; owner = role-small (f .role); root = root-small next (f .actor) (omega arith); reserved = omega arith },
+        record { name = omega arith; owner = omega (arith, role-small (f .role)); root = root-small next (f .actor) (omega arith); reserved = omega arith },
         files-small (next + count (f .actor)) fs (omega arith) (p .1),
       )
 

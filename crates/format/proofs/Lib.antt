@@ -8,6 +8,8 @@ pub mod Rows
 pub mod Nodes
 pub mod References
 pub mod Entries
+pub mod Stored
 pub mod Encoded
 pub mod Decoded
 pub mod Theorems
+pub mod Admitted

@@ -4,6 +4,7 @@
 --     names-fuel                  how often `namesOf` may go on does not matter once it is often enough
 --     filled-step, filled-not     the names that are read are laid out as the very bytes, unless a name runs past the end
 --     names-are                   names that are read are names
+--     names-bytes                 names are laid out as bytes
 --     same-eq, eq-same            `same` is equality
 use mathlib.Core.Path.{_≡_, refl, sym, ap, ap₂, _∙_}
 use mathlib.Core.Logic.{_↔_}
@@ -12,7 +13,7 @@ use Prim.Native.Nat.{ℕ, zero, suc, _+_, _-_, _≤_, _<_}
 use native.Mathlib.Nat.{not-suc-le-zero, le-of-suc-le-suc}
 use native.Mathlib.Numerals.{add-one}
 use native.Mathlib.Omega.{arith}
-use lib.Dec.{T, leb, ltb, eqb, le→leb, lt→ltb, eqb→eq, eqb-refl}
+use lib.Dec.{T, leb, ltb, eqb, leb→le, ltb→lt, le→leb, lt→ltb, eqb→eq, eqb-refl}
 use lib.ListN.{length, getD, take, drop, length-append, length-take, length-drop, drop-of-length-le, take-append-drop}
 use lib.Seq.{drop-cons, drop-drop, drop-at, take-append-seam, drop-append-seam, length-take-le}
 use Rattle.format.specs.Encode.{flat, nameBytes}
@@ -20,7 +21,8 @@ use Rattle.format.specs.Fits.{every, isByte, isName}
 use Rattle.format.specs.Layout.{namesOf, same}
 use Rattle.format.specs.Rules.{Bytes}
 use Rattle.format.proofs.Logic.{both, join}
-use Rattle.format.proofs.Bytes.{drop-bytes, take-bytes}
+use Rattle.format.proofs.Lists.{all-map, all-every}
+use Rattle.format.proofs.Bytes.{drop-bytes, take-bytes, no-bytes, cons-bytes, flat-bytes}
 
 -- ---- There and back
 
@@ -155,6 +157,20 @@ names-are (suc k) (b ∷ bs) h =
     join (isName t) (every isName (namesOf k (drop b bs)))
     (join (leb (length t) 255) (every isByte t) (le→leb (length t) 255 few) (every-byte t (take-bytes b bs tail)))
     (names-are k (drop b bs) (drop-bytes b bs tail))
+
+byte-every : (bs : List ℕ) → T (every isByte bs) → Bytes bs
+unfolding every isByte
+byte-every [] h = no-bytes
+byte-every (b ∷ bs) h = let p = both (ltb b 256) (every isByte bs) h in cons-bytes b bs (ltb→lt b 256 (p .0)) (byte-every bs (p .1))
+
+name-bytes : (n : List ℕ) → T (isName n) → Bytes (nameBytes n)
+unfolding isName nameBytes
+name-bytes n h =
+    let p = both (leb (length n) 255) (every isByte n) h in
+    cons-bytes (length n) n (omega (arith, leb→le (length n) 255 (p .0))) (byte-every n (p .1))
+
+pub names-bytes : (ns : List (List ℕ)) → T (every isName ns) → Bytes (flat nameBytes ns)
+names-bytes ns h = flat-bytes nameBytes ns (all-map name-bytes ns (all-every isName ns h))
 
 pub same-eq : (xs ys : List ℕ) → T (same xs ys) → xs ≡ ys
 unfolding same

@@ -1,6 +1,7 @@
 -- Rows and nodes: a row meets the rules exactly if its node fits and the row is the one that encodes the node. Assumes nothing.
 --     kind-write, label-write, row-write, forest-write    what is good is the encoding of what it is read as, and that fits
 --     kind-read, label-read, row-read, forest-read        what fits has a good encoding, and is read back from it
+--     RowFits, rows-fit                                   each row of trees that fit, by itself
 use mathlib.Core.Path.{_≡_, refl, sym, ap, subst, _∙_}
 use mathlib.Core.Bool.{Bool, true, false, cond, _&&_, _||_, not, Bool·not-not}
 use mathlib.Core.List.{List, [], _∷_}
@@ -447,6 +448,57 @@ forest-read names p (tree n k m) t =
             all-append RowGood (preorder (sized k)) (preorder (sized m)) (wk .small h (omega arith)) (wm .small h (omega arith)),
           );
     }
+
+-- ---- The rows of trees that fit, each by itself
+
+-- The kinds are those of document 01, the names exist, and the row is the one of its node.
+pub record RowFits (names : ℕ) (r : Row) : Type 0 where
+  pub kind : r .kind < 27
+  pub lkind : r .lkind < 4
+  pub name : r .kind ≡ 18 → r .value < names
+  pub label : r .lkind ≡ 2 → r .label < names
+  pub same : rowOf (nodeOf r) (r .size) ≡ r
+
+label-small : (x : Labelled) → labelKind x < 4
+unfolding labelKind
+label-small unlabelled = lit< tt
+label-small (labelled (Id n)) = lit< tt
+label-small (labelled (Named n)) = lit< tt
+label-small (labelled (Unnamed n)) = lit< tt
+
+var-named : (names v kids : ℕ) → T (goodKind names 18 v kids) → v < names
+unfolding goodKind
+var-named names v kids t = ltb→lt v names (both (ltb v names) (eqb kids 0) t .0)
+
+label-named : (names : ℕ) (p : Place) (l : ℕ) → T (goodLabel names p 2 l) → l < names
+unfolding goodLabel
+label-named names Root l t = absurd t
+label-named names Field l t = ltb→lt l names t
+label-named names Method l t = ltb→lt l names t
+label-named names Inner l t = absurd t
+
+row-fits : (names : ℕ) (p : Place) (n : Node) (size kids : ℕ) → T (nodeFits names p n kids) → RowFits names (rowOf n size)
+unfolding rowOf
+row-fits names p n size kids t =
+    let w = row-read names p n size kids t in
+    let r = rowOf n size in
+    let g = row-rules names p r kids (w .good) in
+    record {
+      kind = kind-small (n .kind);
+      lkind = label-small (n .label);
+      name = λ e. var-named names (r .value) kids (subst (λ (k : ℕ). T (goodKind names k (r .value) kids)) e (g .0));
+      label = λ e. label-named names p (r .label) (subst (λ (k : ℕ). T (goodLabel names p k (r .label))) e (g .2));
+      same = ap (λ (m : Node). rowOf m size) (w .same);
+    }
+
+pub rows-fit : (names : ℕ) (p : Place) (f : Forest Node) → T (forestFits names p f) → All (RowFits names) (preorder (sized f))
+unfolding sized preorder forestFits
+rows-fit names p end t = tt
+rows-fit names p (tree n k m) t =
+    let g = both₃ (nodeFits names p n (breadth k)) (forestFits names (placeBelow (n .kind)) k) (forestFits names p m) t in (
+      row-fits names p n (suc (count k)) (breadth k) (g .0),
+      all-append (RowFits names) (preorder (sized k)) (preorder (sized m)) (rows-fit names (placeBelow (n .kind)) k (g .1)) (rows-fit names p m (g .2)),
+    )
 
 -- ---- Roots: which are of kind 26
 

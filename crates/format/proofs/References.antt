@@ -1,8 +1,9 @@
--- The names that types refer to are read off their rows, one after the other: theorem `references-siblings`. Assumes nothing.
+-- The names that types refer to are read off their rows, one after the other: theorem `references-siblings`; and they exist where the rows
+-- fit: `vars-named`. Assumes nothing.
 use mathlib.Core.Path.{_≡_, refl, sym, ap, ap₂, _∙_}
 use mathlib.Core.Bool.{Bool, true, false, cond}
 use mathlib.Core.List.{List, [], _∷_, _++_, map}
-use Prim.Native.Nat.{ℕ, zero, suc, _-_}
+use Prim.Native.Nat.{ℕ, zero, suc, _-_, _<_}
 use native.Mathlib.Omega.{arith}
 use borrow.Author.Tests.{eqb-true, eqb-false}
 use lib.Dec.{eqb}
@@ -13,8 +14,9 @@ use Rattle.format.specs.Node.{VarT, InitT, Node}
 use Rattle.format.specs.Encode.{Row, flat}
 use Rattle.format.specs.Layout.{rowAt, run, kinds, kindOf, nodeOf, siblings}
 use Rattle.format.specs.References.{nameOf, references}
-use Rattle.format.proofs.Lists.{flat-append}
+use Rattle.format.proofs.Lists.{All, flat-append}
 use Rattle.format.proofs.Rows.{preorder-siblings}
+use Rattle.format.proofs.Nodes.{RowFits}
 
 -- The names among nodes, and the values of the rows of kind 18: each in order.
 abbrev pub namesIn : List Node → List ℕ
@@ -76,3 +78,12 @@ names-rows (r ∷ rs) = rw (kind-name (r .kind) (r .value), names-rows rs) (go (
 pub references-siblings : (ns : List ℕ) (i e : ℕ) → references (siblings ns i e) ≡ varsOf (run (rowAt ns) i (e - i))
 references-siblings ns i e =
     references-preorder (siblings ns i e) ∙ ap namesIn (preorder-siblings ns i e) ∙ names-rows (run (rowAt ns) i (e - i))
+
+pub vars-named : (names : ℕ) (rs : List Row) → All (RowFits names) rs → All (λ (n : ℕ). n < names) (varsOf rs)
+unfolding varsOf
+vars-named names [] h = tt
+vars-named names (r ∷ rs) h = go (eqb (r .kind) 18) refl (vars-named names rs (h .1))
+  where
+    go : (b : Bool) → eqb (r .kind) 18 ≡ b → All (λ (n : ℕ). n < names) (varsOf rs) → All (λ (n : ℕ). n < names) (cond b (r .value ∷ varsOf rs) (varsOf rs))
+    go true e g = (h .0 .name (eqb-true (r .kind) 18 e), g)
+    go false e g = g

@@ -2,7 +2,7 @@
 use mathlib.Core.Path.{_≡_, refl, sym, ap, ap₂, _∙_}
 use mathlib.Core.Bool.{_&&_, and-assoc}
 use mathlib.Core.List.{List, _∷_, _++_, map, append-assoc, map-append}
-use Prim.Native.Nat.{ℕ, zero, suc, _+_}
+use Prim.Native.Nat.{ℕ, zero, suc, _+_, _≤_}
 use native.Mathlib.Omega.{arith}
 use lib.Dec.{T}
 use lib.ListN.{length, length-append}
@@ -20,6 +20,11 @@ module _ {A : Type 0} where
   length-preorder end = refl
   length-preorder (tree n k m) =
       ap suc (length-append (preorder k) (preorder m) ∙ ap₂ _+_ (length-preorder k) (length-preorder m))
+
+  pub breadth-count : (f : Forest A) → breadth f ≤ count f
+  unfolding breadth count
+  breadth-count end = omega arith
+  breadth-count (tree n k m) = omega (arith, breadth-count m)
 
   -- ---- Beside
   pub beside-end : (f : Forest A) → beside f end ≡ f

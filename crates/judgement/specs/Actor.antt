@@ -1,0 +1,90 @@
+-- The actor that a book means: `IDLMergedProg::resolve_actor` of syntax/mod.rs, where nothing is refused. Definitions; assumes nothing.
+use mathlib.Core.Bool.{Bool, true, false, cond}
+use mathlib.Core.List.{List, [], _∷_}
+use Prim.Native.Nat.{ℕ}
+use Rattle.format.specs.Forest.{Forest, end, tree, beside}
+use Rattle.format.specs.Node.{Kind, PrimT, VarT, OptT, VecT, RecordT, VariantT, FuncT, ServT, ClassT, InitT, Labelled, unlabelled, Node}
+use Rattle.format.specs.Book.{Definition, Role, Main, TypeImport, ServiceImport, InitArgs, File, Book}
+use Rattle.judgement.specs.Environment.{mainDefinitions, aliasEnd, kidsOf, methodsAt}
+
+-- ---- Files by role
+unfoldable pub isServiceImport : Role → Bool
+isServiceImport Main = false
+isServiceImport TypeImport = false
+isServiceImport ServiceImport = true
+isServiceImport InitArgs = false
+
+unfoldable pub serviceImports : List File → List File
+serviceImports [] = []
+serviceImports (f ∷ fs) = cond (isServiceImport (f .role)) (f ∷ serviceImports fs) (serviceImports fs)
+
+-- The main file's actor as written: the main file is the first.
+unfoldable pub firstActor : List File → Forest Node
+firstActor [] = end
+firstActor (f ∷ fs) = f .actor
+
+unfoldable pub mainActor : Book → Forest Node
+mainActor b = firstActor (b .files)
+
+-- ---- A class: its arguments, and its service, which is the last child
+unfoldable pub isClassKind : Kind → Bool
+isClassKind (PrimT p) = false
+isClassKind (VarT n) = false
+isClassKind OptT = false
+isClassKind VecT = false
+isClassKind RecordT = false
+isClassKind VariantT = false
+isClassKind (FuncT a ms) = false
+isClassKind ServT = false
+isClassKind ClassT = true
+isClassKind InitT = false
+
+unfoldable pub isClass : Forest Node → Bool
+isClass end = false
+isClass (tree n kids next) = isClassKind (n .kind)
+
+unfoldable pub lastTree : Forest Node → Forest Node
+lastTree end = end
+lastTree (tree n kids end) = tree n kids end
+lastTree (tree n kids (tree m lids next)) = lastTree (tree m lids next)
+
+unfoldable pub allButLast : Forest Node → Forest Node
+allButLast end = end
+allButLast (tree n kids end) = end
+allButLast (tree n kids (tree m lids next)) = tree n kids (allButLast (tree m lids next))
+
+-- The arguments of an actor that is a class, and what stands below a class's top.
+unfoldable pub classArguments : Forest Node → Forest Node
+classArguments t = cond (isClass t) (allButLast (kidsOf t)) end
+
+unfoldable pub belowClass : Forest Node → Forest Node
+belowClass t = cond (isClass t) (lastTree (kidsOf t)) t
+
+-- ---- The resolved actor
+abbrev pub serviceOf : Forest Node → Forest Node
+serviceOf methods = tree (record { kind = ServT; label = unlabelled }) methods end
+
+abbrev pub classOf : Forest Node → Forest Node → Forest Node
+classOf arguments service = tree (record { kind = ClassT; label = unlabelled }) (beside arguments service) end
+
+-- The methods of an actor or of a class's service, its alias end followed: `chase_service`.
+unfoldable pub methodsOf : List Definition → Forest Node → Forest Node
+methodsOf ds t = methodsAt (aliasEnd ds t)
+
+unfoldable pub importedMethods : List Definition → List File → Forest Node
+importedMethods ds [] = end
+importedMethods ds (f ∷ fs) = beside (methodsOf ds (f .actor)) (importedMethods ds fs)
+
+-- Main's methods first, then each import's in file order; a class keeps its arguments.
+unfoldable pub mergedActor : List Definition → Forest Node → List File → Forest Node
+mergedActor ds main imports =
+    let service = serviceOf (beside (methodsOf ds (belowClass main)) (importedMethods ds imports)) in
+    cond (isClass main) (classOf (classArguments main) service) service
+
+-- Without service imports the main actor is taken as written; `end` where there is none.
+unfoldable pub resolveWith : List Definition → Forest Node → List File → Forest Node
+resolveWith ds main [] = main
+resolveWith ds main (f ∷ fs) = mergedActor ds main (f ∷ fs)
+
+unfoldable pub resolveActor : Book → Forest Node
+resolveActor b = resolveWith (mainDefinitions b) (mainActor b) (serviceImports (b .files))

@@ -1,0 +1,3 @@
+-- What is proved of the table.
+pub mod Computed
+pub mod Theorems
