@@ -1,6 +1,6 @@
 -- The check: document 01's refusals in their order, function by function as typing.rs and syntax/mod.rs have them. Definitions; assumes nothing.
 use mathlib.Core.Bool.{Bool, true, false, cond, _&&_, _||_, not}
-use mathlib.Core.List.{List, [], _∷_, _++_}
+use mathlib.Core.List.{List, [], _∷_}
 use Prim.Native.Nat.{ℕ, zero, suc, _+_}
 use lib.ListN.{length, getD}
 use lib.Dec.{ltb, eqb}
@@ -17,7 +17,7 @@ use Rattle.book.specs.declared.refusal.Refusal as refusal
 use Rattle.book.specs.declared.refusal.Verdict.{Verdict}
 use Rattle.book.specs.declared.refusal.Verdict.the-variants.{Passed, Refused}
 use Rattle.book.specs.Refusal.{andThen, unless}
-use Rattle.judgement.specs.Environment.{mainDefinitions, initDefinitions, Found, missing, body, findType, End, unbound, circle, ends, aliasEnd, isServKind, rootPasses, asFunc, asService, kidsOf, sameForest}
+use Rattle.judgement.specs.Environment.{mainDefinitions, initDefinitions, mergeDefinitions, Found, missing, body, findType, End, unbound, circle, ends, aliasEnd, isServKind, rootPasses, asFunc, asService, kidsOf, sameForest}
 use Rattle.judgement.specs.Actor.{isServiceImport, serviceImports, mainActor, isClass, lastTree, belowClass, resolveActor}
 
 -- ---- Types: `check_type`, `check_fields`, `check_meths`
@@ -188,7 +188,7 @@ initVerdict b =
     let ds = mainDefinitions b in
     andThen (decsVerdict (length (b .names)) ids)
     (andThen (mergeVerdict (b .names) ids ds)
-    (checkForest false false (ids ++ ds) (kidsOf (initTree (b .files)))))
+    (checkForest false false (mergeDefinitions ids ds) (kidsOf (initTree (b .files)))))
 
 unfoldable pub initCheck : Book → Verdict
 initCheck b = andThen (check b) (initVerdict b)

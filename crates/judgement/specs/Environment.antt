@@ -1,6 +1,6 @@
 -- What names stand for: type_env.rs. Definitions; assumes nothing.
 use mathlib.Core.Bool.{Bool, true, false, cond, _&&_, not}
-use mathlib.Core.List.{List, [], _∷_}
+use mathlib.Core.List.{List, [], _∷_, _++_}
 use Prim.Native.Nat.{ℕ, zero, suc}
 use lib.ListN.{length, getD}
 use lib.Dec.{eqb}
@@ -38,6 +38,14 @@ pub data Found : Type 0 where
 unfoldable pub findType : List Definition → ℕ → Found
 findType [] n = missing
 findType (d ∷ ds) n = cond (eqb (d .name) n) (body (d .body)) (findType ds n)
+
+-- `merge`: a name that both have keeps its first definition.
+unfoldable pub isMissing : Found → Bool
+isMissing missing = true
+isMissing (body t) = false
+
+unfoldable pub mergeDefinitions : List Definition → List Definition → List Definition
+mergeDefinitions init main = init ++ keep (λ d. isMissing (findType init (d .name))) main
 
 -- ---- The alias chain: a type that is a name, its definition if that is a name, and so on
 

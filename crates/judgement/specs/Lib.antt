@@ -2,3 +2,5 @@
 pub mod Environment
 pub mod Actor
 pub mod Check
+pub mod WellFormed
+pub mod Rows

@@ -1,0 +1,1 @@
+-- Laws of the check, and the theorems that pin it.

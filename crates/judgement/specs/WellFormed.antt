@@ -1,0 +1,145 @@
+-- Well-formed declarations, as Candid.md states them, and what the Rust asks beyond. Predicates on trees and environments: none of them
+-- knows of the check or its verdicts (proofs/Theorems.antt joins the two). Definitions; assumes nothing.
+use mathlib.Core.Path.{_≡_}
+use mathlib.Core.Logic.{_⊎_}
+use mathlib.Core.Bool.{Bool, true, false, cond}
+use mathlib.Core.List.{List, [], _∷_, map, List·Memᴰ}
+use Prim.Native.Nat.{ℕ, zero, suc, _+_, _≤_, _<_}
+use lib.ListN.{length, getD}
+use lib.Dec.{T}
+use Rattle.labels.specs.Number.{labelNumber}
+use Rattle.format.specs.declared.Place.the-variants.{Root}
+use Rattle.format.specs.Forest.{Forest, end, tree, breadth}
+use Rattle.format.specs.Node.{Kind, RecordT, VariantT, FuncT, ServT, ClassT, FuncMode, Oneway, Node, labelValue}
+use Rattle.format.specs.Book.{Definition, File, Book}
+use Rattle.format.specs.References.{references}
+use Rattle.judgement.specs.Environment.{mainDefinitions, initDefinitions, mergeDefinitions, Head, named, other, head, isFuncKind, isServKind, kidsOf, labelId, sameForest}
+use Rattle.judgement.specs.Actor.{serviceImports, mainActor, isClass, belowClass, resolveActor}
+use Rattle.judgement.specs.Check.{initTree}
+
+-- ---- Trees
+
+-- A node with these children stands somewhere in a forest.
+pub data Occurs (n : Node) (kids : Forest Node) : Forest Node → Type 0 where
+  here : {next : Forest Node} → Occurs n kids (tree n kids next)
+  below : {m : Node} {lids next : Forest Node} → Occurs n kids lids → Occurs n kids (tree m lids next)
+  after : {m : Node} {lids next : Forest Node} → Occurs n kids next → Occurs n kids (tree m lids next)
+
+-- It is one of the trees beside each other.
+pub data Beside (n : Node) (kids : Forest Node) : Forest Node → Type 0 where
+  first : {next : Forest Node} → Beside n kids (tree n kids next)
+  later : {m : Node} {lids next : Forest Node} → Beside n kids next → Beside n kids (tree m lids next)
+
+-- No element stands twice.
+pub data Distinct {A : Type 0} : List A → Type 0 where
+  none : Distinct []
+  more : {a : A} {l : List A} → (List·Memᴰ a l → ⊥) → Distinct l → Distinct (a ∷ l)
+
+-- ---- Names
+abbrev pub nameOf : Definition → ℕ
+nameOf d = d .name
+
+-- A name has a definition.
+abbrev pub Defined : List Definition → ℕ → Type 0
+Defined ds n = List·Memᴰ n (map nameOf ds)
+
+-- A type leads to another by aliases alone: it is no name, or its definition leads there.
+pub data Leads (ds : List Definition) : Forest Node → Forest Node → Type 0 where
+  arrived : {t : Forest Node} → head t ≡ other → Leads ds t t
+  onward : {t u : Forest Node} {n : ℕ} {d : Definition} → head t ≡ named n → List·Memᴰ d ds → d .name ≡ n → Leads ds (d .body) u → Leads ds t u
+
+-- The root of a type passes a test.
+abbrev pub RootIs : (Kind → Bool) → Forest Node → Type 0
+RootIs test end = ⊥
+RootIs test (tree n kids next) = T (test (n .kind))
+
+-- A type stands for one of a kind: by aliases it leads there.
+pub record StandsFor (test : Kind → Bool) (ds : List Definition) (t : Forest Node) : Type 0 where
+  pub type : Forest Node
+  pub leads : Leads ds t type
+  pub root : RootIs test type
+
+-- ---- Well-formed trees
+abbrev pub Bound : List Definition → Forest Node → Type 0
+Bound ds f = (n : ℕ) → List·Memᴰ n (references f) → Defined ds n
+
+abbrev pub NoClass : Forest Node → Type 0
+NoClass f = (n : Node) (kids : Forest Node) → Occurs n kids f → n .kind ≡ ClassT → ⊥
+
+abbrev pub OnewayWithoutResults : Forest Node → Type 0
+OnewayWithoutResults f =
+    (n : Node) (kids : Forest Node) (a : ℕ) (ms : List FuncMode) → Occurs n kids f → n .kind ≡ FuncT a ms → List·Memᴰ Oneway ms → breadth kids ≤ a
+
+abbrev pub MethodsAreFunctions : List Definition → Forest Node → Type 0
+MethodsAreFunctions ds f =
+    (n : Node) (kids : Forest Node) → Occurs n kids f → n .kind ≡ ServT →
+    (m : Node) (lids : Forest Node) → Beside m lids kids → StandsFor isFuncKind ds (tree m lids end)
+
+pub record WellFormedTrees (ds : List Definition) (f : Forest Node) : Type 0 where
+  pub bound : Bound ds f
+  pub noClass : NoClass f
+  pub oneway : OnewayWithoutResults f
+  pub methods : MethodsAreFunctions ds f
+
+-- What the Rust asks of trees beyond: at most one mode.
+abbrev pub OneMode : Forest Node → Type 0
+OneMode f = (n : Node) (kids : Forest Node) (a : ℕ) (ms : List FuncMode) → Occurs n kids f → n .kind ≡ FuncT a ms → length ms ≤ 1
+
+-- ---- Definitions, all in one space
+pub record WellFormedDefinitions (ds : List Definition) : Type 0 where
+  pub once : Distinct (map nameOf ds)
+  pub trees : (d : Definition) → List·Memᴰ d ds → WellFormedTrees ds (d .body)
+  pub chains : (d : Definition) → List·Memᴰ d ds → StandsFor (λ k. true) ds (d .body)
+
+abbrev pub OneModeDefinitions : List Definition → Type 0
+OneModeDefinitions ds = (d : Definition) → List·Memᴰ d ds → OneMode (d .body)
+
+-- ---- The book
+
+-- What is walked of an actor: all of it, but for a class's own node.
+unfoldable pub belowTop : Forest Node → Forest Node
+belowTop t = cond (isClass t) (kidsOf t) t
+
+-- Candid.md: each name is defined once, every name is bound, no class below the top, a oneway function has no results, alias chains
+-- end, each method's alias end is a function, and the actor's is a service.
+pub record WellFormed (b : Book) : Type 0 where
+  pub definitions : WellFormedDefinitions (mainDefinitions b)
+  pub actor : WellFormedTrees (mainDefinitions b) (belowTop (resolveActor b))
+  pub service : (mainActor b ≡ end) ⊎ StandsFor isServKind (mainDefinitions b) (belowClass (mainActor b))
+
+-- The methods of the resolved actor, by their hashes.
+unfoldable pub methodHashes : List (List ℕ) → Forest Node → List ℕ
+methodHashes names end = []
+methodHashes names (tree n kids next) = labelNumber (getD names (labelValue (n .label)) []) ∷ methodHashes names next
+
+-- The Rust: at most one mode, a service import has an actor and it is a plain service, and with service imports all methods differ by hash.
+pub record Rust (b : Book) : Type 0 where
+  pub modes : OneModeDefinitions (mainDefinitions b)
+  pub actorModes : OneMode (belowTop (resolveActor b))
+  pub imports : (f : File) → List·Memᴰ f (serviceImports (b .files)) → StandsFor isServKind (mainDefinitions b) (f .actor)
+  pub hashes : (serviceImports (b .files) ≡ []) ⊎ Distinct (methodHashes (b .names) (kidsOf (belowClass (resolveActor b))))
+
+-- ---- Init arguments: definitions of their own, and arguments under these and main's
+pub record WellFormedInit (b : Book) : Type 0 where
+  pub definitions : WellFormedDefinitions (initDefinitions b)
+  pub arguments : WellFormedTrees (mergeDefinitions (initDefinitions b) (mainDefinitions b)) (kidsOf (initTree (b .files)))
+
+-- The Rust: one mode, and what both files define is the same.
+pub record RustInit (b : Book) : Type 0 where
+  pub modes : OneModeDefinitions (initDefinitions b)
+  pub argumentModes : OneMode (kidsOf (initTree (b .files)))
+  pub merged : (d e : Definition) → List·Memᴰ d (initDefinitions b) → List·Memᴰ e (mainDefinitions b) → d .name ≡ e .name → T (sameForest (b .names) Root (d .body) (e .body))
+
+-- ---- Candid.md: labels of a record or variant differ by number, methods of a service by name. The Rust leaves this to its grammar, so
+-- books with repeats pass: it is written here and not asked.
+unfoldable pub labelIds : List (List ℕ) → Forest Node → List ℕ
+labelIds names end = []
+labelIds names (tree n kids next) = labelId names (n .label) ∷ labelIds names next
+
+unfoldable pub methodNames : Forest Node → List ℕ
+methodNames end = []
+methodNames (tree n kids next) = labelValue (n .label) ∷ methodNames next
+
+pub record Labels (names : List (List ℕ)) (f : Forest Node) : Type 0 where
+  pub fields : (n : Node) (kids : Forest Node) → Occurs n kids f → (n .kind ≡ RecordT) ⊎ (n .kind ≡ VariantT) → Distinct (labelIds names kids)
+  pub methods : (n : Node) (kids : Forest Node) → Occurs n kids f → n .kind ≡ ServT → Distinct (methodNames kids)
