@@ -136,3 +136,24 @@ impl Contents {
     // The bytes of the table itself.
     pub const SIZE: usize = 32;
 }
+
+// A function's mode, a digit in base 4 of its value's upper half.
+pub struct Mode {
+    pub number: u32,
+}
+
+impl Mode {
+    pub const NONE: u32 = 0;
+    pub const ONEWAY: u32 = 1;
+    pub const QUERY: u32 = 2;
+    pub const COMPOSITE_QUERY: u32 = 3;
+
+    // How many digits there are, each below BASE.
+    pub const BASE: u32 = 4;
+
+    pub fn new(number: u32) -> Mode
+        ensures { λ r. ⌜ r .number ≡ number ⌝ }
+    {
+        Mode { number }
+    }
+}

@@ -143,5 +143,5 @@ pub fn name(book: &[u8], number: u16) -> &[u8]
     if names <= number as usize {
         return &book[0..0];
     }
-    read::name(&book[Contents::SIZE..nodes_at], number as usize)
+    read::name_at(&book[Contents::SIZE..nodes_at], number as usize)
 }

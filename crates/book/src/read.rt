@@ -97,7 +97,7 @@ impl Entry {
 }
 
 // Name `number` of the names' bytes.
-pub fn name(names: &[u8], number: usize) -> &[u8]
+pub fn name_at(names: &[u8], number: usize) -> &[u8]
     requires { ⌜ HasName (now names) number ⌝ }
     ensures { λ r. ⌜ now r ≡ getD (namesOf (length (now (names .entry))) (now (names .entry))) number [] ⌝ }
 {

@@ -22,15 +22,15 @@ use Rattle.format.specs.Fits.{definitionFits, fileFits, Fits}
 use Rattle.format.specs.Layout.{rowAt, entryAt, run, namesOf, namesPart, nodesPart, definitionsPart, filesPart, rowTrees, siblings, roleOf, whole, layout}
 use Rattle.format.specs.References.{references}
 use Rattle.format.specs.Rules.{Bytes, Rules, Sized}
-use Rattle.format.specs.Whole.{Whole}
+use Rattle.format.specs.Whole.{Whole, WholeIn, RowFits, treeAt, definitionAt, actorAt, fileAt}
 use Rattle.format.proofs.Lists.{All, all-map, all-every, all-between, run-all, made-at, made-passes}
 use Rattle.format.proofs.Trees.{sized-sized}
 use Rattle.format.proofs.Bytes.{append-bytes, append-bytes₄, flat-bytes, row-bytes, entries-bytes, toc-bytes}
 use Rattle.format.proofs.Names.{names-bytes, names-all}
-use Rattle.format.proofs.Nodes.{RowFits, rows-fit}
+use Rattle.format.proofs.Nodes.{rows-fit}
 use Rattle.format.proofs.References.{references-siblings, vars-named}
 use Rattle.format.proofs.Entries.{role-small, definition-numbers, one-body, file-name, one-actor}
-use Rattle.format.proofs.Stored.{WholeIn, node-whole, treeAt, definitionAt, DefinitionsStored, definitions-stored, actorAt, fileAt, actor-none, actor-some, FilesStored, files-stored}
+use Rattle.format.proofs.Stored.{node-whole, DefinitionsStored, definitions-stored, actor-none, actor-some, FilesStored, files-stored}
 use Rattle.format.proofs.Encoded.{FitsParts, fit-parts, Placed, placed, nodes-length, definitions-length, files-length, names-part, nodes-part, definitions-part, files-part, all-fit, rows-run, definitions-run, files-run, trees-rows, trees-nodes}
 use Rattle.format.proofs.Theorems.{found, encode-read, fit-rules}
 

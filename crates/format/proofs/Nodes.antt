@@ -1,7 +1,7 @@
 -- Rows and nodes: a row meets the rules exactly if its node fits and the row is the one that encodes the node. Assumes nothing.
 --     kind-write, label-write, row-write, forest-write    what is good is the encoding of what it is read as, and that fits
 --     kind-read, label-read, row-read, forest-read        what fits has a good encoding, and is read back from it
---     RowFits, rows-fit                                   each row of trees that fit, by itself
+--     rows-fit                                            each row of trees that fit, by itself
 use mathlib.Core.Path.{_≡_, refl, sym, ap, subst, _∙_}
 use mathlib.Core.Bool.{Bool, true, false, cond, _&&_, _||_, not, Bool·not-not}
 use mathlib.Core.List.{List, [], _∷_}
@@ -20,6 +20,7 @@ use Rattle.format.specs.Encode.{Row, rowOf, sized}
 use Rattle.format.specs.Fits.{placeBelow, kindFits, notInit, kindAllowed, labelFits, nodeFits, forestFits}
 use Rattle.format.specs.Layout.{modeOf, modesOf, kinds, kindOf, labelOf, nodeOf}
 use Rattle.format.specs.Rules.{goodModes, goodKind, goodPlace, goodLabel, goodRow, belowKind, goodForest, Sized}
+use Rattle.format.specs.Whole.{RowFits}
 use Rattle.format.proofs.Logic.{both, join, both₃, join₃, of-true}
 use Rattle.format.proofs.Lists.{All, all-parts, all-append, numbered, number-at}
 use Rattle.format.proofs.Trees.{count-map, breadth-map, breadth-sized}
@@ -450,14 +451,6 @@ forest-read names p (tree n k m) t =
     }
 
 -- ---- The rows of trees that fit, each by itself
-
--- The kinds are those of document 01, the names exist, and the row is the one of its node.
-pub record RowFits (names : ℕ) (r : Row) : Type 0 where
-  pub kind : r .kind < 27
-  pub lkind : r .lkind < 4
-  pub name : r .kind ≡ 18 → r .value < names
-  pub label : r .lkind ≡ 2 → r .label < names
-  pub same : rowOf (nodeOf r) (r .size) ≡ r
 
 label-small : (x : Labelled) → labelKind x < 4
 unfolding labelKind

@@ -16,7 +16,7 @@ use Rattle.format.specs.Layout.{rowAt, run, kinds, kindOf, nodeOf, sibli
 use Rattle.format.specs.References.{nameOf, references}
 use Rattle.format.proofs.Lists.{All, flat-append}
 use Rattle.format.proofs.Rows.{preorder-siblings}
-use Rattle.format.proofs.Nodes.{RowFits}
+use Rattle.format.specs.Whole.{RowFits}
 
 -- The names among nodes, and the values of the rows of kind 18: each in order.
 abbrev pub namesIn : List Node → List ℕ

@@ -1,8 +1,8 @@
 -- Where trees, definitions and files are in the nodes' bytes. Assumes nothing.
---     WholeIn, node-whole                 each node among whole trees is the root of a whole tree
---     treeAt, tree-whole, tree-opens      the tree at a node
---     definitionAt, definitions-stored    definitions that lie end to end are stored at the roots that their entries say
---     fileAt, files-stored                the same of files
+--     node-whole                          each node among whole trees is the root of a whole tree
+--     tree-whole, tree-opens              the tree at a node
+--     definitions-stored                  definitions that lie end to end are stored at the roots that their entries say
+--     files-stored                        the same of files
 use mathlib.Core.Path.{_≡_, refl, sym, ap, subst, _∙_}
 use mathlib.Core.Bool.{cond}
 use mathlib.Core.List.{List, [], _∷_, map}
@@ -17,18 +17,13 @@ use Rattle.format.specs.Node.{Node}
 use Rattle.format.specs.Book.{Definition, File, bodies, actors}
 use Rattle.format.specs.Encode.{Entry, roleNumber, rootOf, definitionEntries, fileEntries}
 use Rattle.format.specs.Layout.{rowAt, nodeOf, siblings, roleOf}
-use Rattle.format.specs.Whole.{Whole, WholeAt}
+use Rattle.format.specs.Whole.{Whole, WholeAt, WholeIn, treeAt, definitionAt, actorAt, fileAt}
 use Rattle.format.proofs.Lists.{All}
 use Rattle.format.proofs.Trees.{beside-assoc, count-beside, breadth-count, first-one, other-one}
 use Rattle.format.proofs.Rows.{opens, closes, nothing, kids-whole, siblings-none, siblings-opens, count-siblings}
 use Rattle.format.proofs.Entries.{role-back}
 
 -- ---- Each node is the root of a whole tree
-
--- Node n is the root of a whole tree, all of which is before node e.
-pub record WholeIn (ns : List ℕ) (n e : ℕ) : Type 0 where
-  pub whole : WholeAt ns n
-  pub ends : n + rowAt ns n .size ≤ e
 
 pub whole-later : {ns : List ℕ} {n e e′ : ℕ} → e ≤ e′ → WholeIn ns n e → WholeIn ns n e′
 whole-later h w = record { whole = w .whole; ends = omega (arith, w .ends) }
@@ -53,9 +48,6 @@ pub node-whole : {ns : List ℕ} {i e : ℕ} → Whole ns i e → (n : ℕ) → 
 node-whole {i = i} {e = e} w = node-among e w (omega arith)
 
 -- ---- The tree at a node
-abbrev pub treeAt : List ℕ → ℕ → Forest Node
-treeAt ns n = siblings ns n (n + rowAt ns n .size)
-
 module _ {ns : List ℕ} {n : ℕ} (w : WholeAt ns n) where
   pub tree-whole : Whole ns n (n + rowAt ns n .size)
   tree-whole = closes (w .one) (kids-whole w) (nothing ns (n + rowAt ns n .size) (n + rowAt ns n .size) refl (w .within))
@@ -92,10 +84,6 @@ rooted {ns} {i} {e} f g w h one =
 
 -- ---- Definitions
 
--- The definition that an entry says.
-abbrev pub definitionAt : List ℕ → Entry → Definition
-definitionAt ns e = record { name = e .name; file = e .owner; body = treeAt ns (e .root) }
-
 -- Definitions whose trees are those from node `next` on, before trees g, which end before node `last`.
 pub record DefinitionsStored (ns : List ℕ) (next last : ℕ) (ds : List Definition) (g : Forest Node) : Type 0 where
   pub are : map (definitionAt ns) (definitionEntries next ds) ≡ ds
@@ -120,13 +108,6 @@ definitions-stored {ns} {next} {last} (d ∷ ds) g one w h =
     }
 
 -- ---- Files
-
--- The tree that a file's entry says: none where its root is 65,535.
-abbrev pub actorAt : List ℕ → ℕ → Forest Node
-actorAt ns root = cond (eqb root 65535) end (treeAt ns root)
-
-abbrev pub fileAt : List ℕ → Entry → File
-fileAt ns e = record { name = e .name; role = roleOf (e .owner); actor = actorAt ns (e .root) }
 
 pub actor-none : (ns : List ℕ) (root : ℕ) → root ≡ 65535 → actorAt ns root ≡ end
 actor-none ns root h = rw h

@@ -8,7 +8,7 @@ use Rattle.book.proofs.name.Tie as tie
 use Rattle.book.proofs.name.Reads as reads
 use Rattle.book.proofs.name.Lts as lts
 use Rattle.book.proofs.layout.Reads as layout-reads
-use Rattle.book.proofs.read.name.Reads as name-reads
+use Rattle.book.proofs.read.name_at.Reads as name-at-reads
 
 layout-requires : tie.Need-layout-requires
 layout-requires c κs = search needs
@@ -47,22 +47,22 @@ part-result-end-2 c = search needs
 returns-2 : tie.Need-returns-2
 returns-2 c = name-outside (the-book (c .before .before)) _ (c .before .if1 .taken)
 
-sub-name : tie.Need-sub-name
-sub-name c = names-start (the-book (c .before))
+sub-name-at : tie.Need-sub-name-at
+sub-name-at c = names-start (the-book (c .before))
 
-part-name-start : tie.Need-part-name-start
-part-name-start c = names-start (the-book (c .before))
+part-name-at-start : tie.Need-part-name-at-start
+part-name-at-start c = names-start (the-book (c .before))
 
-part-name-end : tie.Need-part-name-end
-part-name-end c = names-within (the-book (c .before))
+part-name-at-end : tie.Need-part-name-at-end
+part-name-at-end c = names-within (the-book (c .before))
 
-name-requires : tie.Need-name-requires
+name-at-requires : tie.Need-name-at-requires
 unfolding part
-name-requires c κs = has-name (the-book (c .before .before)) _ (c .before .if1 .left)
+name-at-requires c κs = has-name (the-book (c .before .before)) _ (c .before .if1 .left)
 
 returns-3 : tie.Need-returns-3
 unfolding part
-returns-3 c = c .name .ensures ∙ name-there (the-book (c .before .before .before)) _
+returns-3 c = c .name-at .ensures ∙ name-there (the-book (c .before .before .before)) _
 
 pub name-spec : {M : Type 1} → statement M
 name-spec =
@@ -79,8 +79,8 @@ name-spec =
     part-result-start-2
     part-result-end-2
     returns-2
-    sub-name
-    part-name-start
-    part-name-end
-    name-requires
+    sub-name-at
+    part-name-at-start
+    part-name-at-end
+    name-at-requires
     returns-3)

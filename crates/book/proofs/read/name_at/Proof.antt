@@ -1,13 +1,13 @@
--- `read::name` meets its contract: the name that is left to find is the one sought. Assumes nothing.
+-- `read::name_at` meets its contract: the name that is left to find is the one sought. Assumes nothing.
 use mathlib.Core.Path.{_≡_, sym, ap, _∙_}
 use Prim.Native.Nat.{_+_, _-_}
 use native.Mathlib.Omega.{arith}
 use lib.ListN.{getD, take, drop}
 use Rattle.book.proofs.Named.{Sought, sought-start, sought-here, sought-fits, sought-on, sought-found}
-use Rattle.book.proofs.read.name.Statement.{statement}
-use Rattle.book.proofs.read.name.Tie as tie
-use Rattle.book.proofs.read.name.Reads as reads
-use Rattle.book.proofs.read.name.Lts as lts
+use Rattle.book.proofs.read.name_at.Statement.{statement}
+use Rattle.book.proofs.read.name_at.Tie as tie
+use Rattle.book.proofs.read.name_at.Reads as reads
+use Rattle.book.proofs.read.name_at.Lts as lts
 
 abbrev Inv-loop : tie.InvT-loop
 Inv-loop names number at₀ left₀ at left = Sought names number at left
@@ -63,8 +63,8 @@ part-result-end c = sought-fits (c .before .before .loop .inv)
 returns : tie.Need-returns Inv-loop μ-loop
 returns c = sought-found (c .before .before .before .loop .inv) (c .before .before .loop-test .left)
 
-pub name-spec : {M : Type 1} → statement M
-name-spec =
+pub name-at-spec : {M : Type 1} → statement M
+name-at-spec =
     tie.close
     (tie.spec
     Inv-loop

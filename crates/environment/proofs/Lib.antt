@@ -1,0 +1,5 @@
+-- Laws that the proofs of the functions cite.
+pub mod Links
+pub mod Defines
+pub mod Ends
+pub mod EndKinds

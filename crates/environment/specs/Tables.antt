@@ -1,0 +1,134 @@
+-- Tables by name number, and what they say of an environment. Definitions; assumes nothing.
+use mathlib.Core.Path.{_≡_}
+use mathlib.Core.Bool.{Bool, true, false, cond, _||_}
+use mathlib.Core.List.{List, [], _∷_, map}
+use Prim.Native.Nat.{ℕ, zero, suc, _+_, _-_, _*_, _≤_, _<_}
+use lib.ListN.{length, getD, replicate}
+use lib.Dec.{eqb}
+use Rattle.format.specs.Forest.{Forest}
+use Rattle.format.specs.Node.{Node}
+use Rattle.format.specs.Book.{Definition}
+use Rattle.format.specs.Encode.{Entry}
+use Rattle.format.specs.Layout.{run, entryAt, rowAt}
+use Rattle.format.specs.Whole.{Within, WholeIn, RowFits, treeAt, definitionAt}
+use Rattle.judgement.specs.Environment.{Found, missing, body, findType, End, unbound, circle, ends, aliasEnd}
+use Rattle.judgement.specs.Check.{member, eachName, circleVerdict}
+use Rattle.book.specs.declared.refusal.Refusal as refusal
+use Rattle.book.specs.declared.refusal.Verdict.{Verdict}
+use Rattle.book.specs.declared.refusal.Verdict.the-variants.{Passed, Refused}
+use Rattle.environment.specs.declared.Alias.{Alias}
+use Rattle.environment.specs.declared.Alias.the-variants.{Unbound, Circle, Ends}
+
+-- ---- What is known of the nodes of an admitted book
+pub record Nodes (ns : List ℕ) (names count : ℕ) : Type 0 where
+  pub fewNames : names ≤ 1024
+  pub fewNodes : count ≤ 4096
+  pub within : Within ns count
+  pub tree : (n : ℕ) → n < count → WholeIn ns n count
+  pub row : (n : ℕ) → n < count → RowFits names (rowAt ns n)
+
+-- Entries of definitions: their names are in the table of names, and their trees among the nodes.
+pub record Entries (es : List ℕ) (names count from to : ℕ) : Type 0 where
+  pub ordered : from ≤ to
+  pub held : to * 8 ≤ length es
+  pub few : length es ≤ 4096
+  pub name : (d : ℕ) → from ≤ d → d < to → entryAt es d .name < names
+  pub root : (d : ℕ) → from ≤ d → d < to → entryAt es d .root < count
+
+-- The definitions that entries `from` up to `to` say.
+abbrev pub definitionsIn : List ℕ → List ℕ → ℕ → ℕ → List Definition
+definitionsIn ns es from to = map (definitionAt ns) (run (entryAt es) from (to - from))
+
+-- A table that has nothing: 65,535 for each of the 1,024 names.
+unfoldable pub blankTable : List ℕ
+blankTable = replicate 1024 65535
+
+-- ---- A table of roots: 65,535 for a name without definition, else the root of its first one
+unfoldable pub rootIn : List Entry → ℕ → ℕ
+rootIn [] n = 65535
+rootIn (e ∷ es) n = cond (eqb (e .name) n) (e .root) (rootIn es n)
+
+pub record Roots (roots : List ℕ) (count : ℕ) : Type 0 where
+  pub long : length roots ≡ 1024
+  pub node : (n : ℕ) → (getD roots n 65535 ≡ 65535 → ⊥) → getD roots n 65535 < count
+
+unfoldable pub foundAt : List ℕ → ℕ → Found
+foundAt ns root = cond (eqb root 65535) missing (body (treeAt ns root))
+
+-- The table has what the definitions say.
+abbrev pub Binds : List ℕ → List ℕ → List Definition → Type 0
+Binds ns roots ds = (n : ℕ) → findType ds n ≡ foundAt ns (getD roots n 65535)
+
+-- The first name that an earlier entry has; 65,535 where there is none.
+unfoldable pub repeated : List ℕ → List Entry → ℕ
+repeated seen [] = 65535
+repeated seen (e ∷ es) = cond (member (e .name) seen) (e .name) (repeated (e .name ∷ seen) es)
+
+-- ---- The alias end, as the code answers it
+unfoldable pub asEnd : List ℕ → Alias → End
+asEnd ns (Unbound n) = unbound n
+asEnd ns Circle = circle
+asEnd ns (Ends n) = ends (treeAt ns n)
+
+abbrev pub InRange : ℕ → Alias → Type 0
+InRange count (Unbound n) = Unit {0}
+InRange count Circle = Unit {0}
+InRange count (Ends n) = n < count
+
+-- The table of entries: the first name defined twice, and, where there is none, the root of each name.
+pub record DefinesAs (es : List ℕ) (count from to : ℕ) (roots : List ℕ) (twice : ℕ) : Type 0 where
+  pub twice-is : twice ≡ repeated [] (run (entryAt es) from (to - from))
+  pub table : repeated [] (run (entryAt es) from (to - from)) ≡ 65535 → Roots roots count
+  pub root : repeated [] (run (entryAt es) from (to - from)) ≡ 65535 → (n : ℕ) → getD roots n 65535 ≡ rootIn (run (entryAt es) from (to - from)) n
+
+-- The end of the chain from a name's definition; a name without definition is unbound.
+unfoldable pub nameEnd : List Definition → ℕ → Found → End
+nameEnd ds n missing = unbound n
+nameEnd ds n (body t) = aliasEnd ds t
+
+pub record NameEndAs (ns roots : List ℕ) (count definitions n : ℕ) (a : Alias) : Type 0 where
+  pub within : InRange count a
+  pub is : (ds : List Definition) → Binds ns roots ds → length ds ≡ definitions → asEnd ns a ≡ nameEnd ds n (findType ds n)
+
+abbrev pub aliasCircles : Alias → Bool
+aliasCircles (Unbound n) = false
+aliasCircles Circle = true
+aliasCircles (Ends n) = false
+
+abbrev pub aliasNode : Alias → ℕ
+aliasNode (Unbound n) = 65535
+aliasNode Circle = 65535
+aliasNode (Ends n) = n
+
+-- A table of nodes by name, 65,535 for none.
+abbrev pub EndNodes : List ℕ → ℕ → Type 0
+EndNodes ends′ count = Roots ends′ count
+
+-- What a table of alias ends has for a name.
+abbrev pub EndAt : List ℕ → ℕ → End → Type 0
+EndAt ns e (unbound n) = e ≡ 65535
+EndAt ns e circle = ⊥
+EndAt ns e (ends t) = (e ≡ 65535 → ⊥) × (t ≡ treeAt ns e)
+
+-- The lowest name whose chain never ends, as the check refuses it; and, where there is none, all ends.
+pub record AliasEndsAs (ns roots : List ℕ) (names count definitions : ℕ) (ends′ : List ℕ) (circle′ : ℕ) : Type 0 where
+  pub nodes : EndNodes ends′ count
+  pub lowest : (ds : List Definition) → Binds ns roots ds → length ds ≡ definitions →
+      eachName (λ n. circleVerdict ds n (findType ds n)) 0 names ≡ cond (eqb circle′ 65535) Passed (Refused (refusal.Refusal.Circle circle′))
+  pub all : circle′ ≡ 65535 → (ds : List Definition) → Binds ns roots ds → length ds ≡ definitions → (n : ℕ) → n < names →
+      EndAt ns (getD ends′ n 65535) (nameEnd ds n (findType ds n))
+
+-- A node of a book, with a table of alias ends.
+pub record Ended (ns ends′ : List ℕ) (node : ℕ) : Type 0 where
+  pub names : ℕ
+  pub count : ℕ
+  pub nodes : Nodes ns names count
+  pub table : EndNodes ends′ count
+  pub inside : node < count
+
+-- The chain from a node ends at a node of this kind, by a table of alias ends.
+unfoldable pub endIs : ℕ → List ℕ → List ℕ → ℕ → Bool
+endIs kind ns ends′ node =
+    cond (eqb (rowAt ns node .kind) 18)
+    (let e = getD ends′ (rowAt ns node .value) 65535 in cond (eqb e 65535) false (eqb (rowAt ns e .kind) kind))
+    (eqb (rowAt ns node .kind) kind)

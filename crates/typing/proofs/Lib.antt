@@ -1,0 +1,4 @@
+-- Laws that the proofs of the functions cite.
+pub mod Nodes
+pub mod Walk
+pub mod Modes

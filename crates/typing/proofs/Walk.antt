@@ -1,0 +1,254 @@
+-- The walks over types that stand beside each other: what is left gives the verdict. Assumes nothing.
+use mathlib.Core.Path.{_≡_, refl, sym, ap, ap₂, subst, _∙_}
+use mathlib.Core.Bool.{Bool, true, false, cond, not, _&&_, _||_}
+use mathlib.Core.List.{List}
+use Prim.Native.Nat.{ℕ, suc, _+_, _-_, _*_, _≤_, _<_}
+use native.Mathlib.Omega.{arith}
+use lib.Dec.{T}
+use Rattle.labels.specs.declared.Label.the-variants.{Id, Named, Unnamed}
+use Rattle.format.specs.declared.Place.{Place}
+use Rattle.format.specs.declared.Place.the-variants.{Method}
+use Rattle.format.specs.Forest.{Forest, end, tree, breadth}
+use Rattle.format.specs.Node.{Kind, Labelled, unlabelled, labelled, Node, labelValue, labelKind}
+use Rattle.format.specs.Book.{Definition}
+use Rattle.format.specs.Encode.{Row, rowOf}
+use Rattle.format.specs.Fits.{placeBelow, kindFits, kindAllowed, labelFits, nodeFits, forestFits}
+use Rattle.format.specs.Layout.{rowAt, siblings, nodeOf, kindOf, kinds}
+use Rattle.format.specs.Whole.{Within, Whole, WholeAt, RowFits, treeAt}
+use Rattle.format.proofs.Logic.{both, both₃, join₃}
+use Rattle.format.proofs.Rows.{Opened, opens, kids-whole, node-within, siblings-none, siblings-opens}
+use Rattle.format.proofs.Stored.{tree-whole, tree-opens}
+use Rattle.book.specs.declared.refusal.Refusal as refusal
+use Rattle.book.specs.declared.refusal.Verdict.{Verdict}
+use Rattle.book.specs.declared.refusal.Verdict.the-variants.{Passed, Refused}
+use Rattle.book.specs.Refusal.{isPassed, andThen, unless}
+use Rattle.judgement.specs.Environment.{isServKind, asFunc}
+use Rattle.judgement.specs.Check.{methodVerdict, checkForest}
+use Rattle.environment.specs.Tables.{Ended, endIs}
+use Rattle.typing.specs.Walk.{Walkable, Trees, Methods, Env, valueVerdict, typeVerdict, funcVerdict}
+
+-- ---- two verdicts
+and-on : (v w : Verdict) → isPassed v ≡ true → andThen v w ≡ w
+and-on v w h = rw h
+
+and-stops : (v w : Verdict) → isPassed v ≡ false → andThen v w ≡ v
+and-stops v w h = rw h
+
+and-passed : (v : Verdict) → andThen v Passed ≡ v
+and-passed Passed = refl
+and-passed (Refused r) = refl
+
+-- ---- trees of a book, opened
+module _ {ns roots ends′ : List ℕ} {i until : ℕ} (t : Trees ns roots ends′ i until) (h : i < until) where
+  opened : Opened ns i until
+  opened = opens (t .whole) h
+
+  fit-parts : (T (nodeFits (t .walk .names) (t .place) (nodeOf (rowAt ns i)) (breadth (siblings ns (i + 1) (i + rowAt ns i .size))))
+      × T (forestFits (t .walk .names) (placeBelow (nodeOf (rowAt ns i) .kind)) (siblings ns (i + 1) (i + rowAt ns i .size))))
+      × T (forestFits (t .walk .names) (t .place) (siblings ns (i + rowAt ns i .size) until))
+  unfolding forestFits
+  fit-parts =
+      let f = subst (λ (q : Forest Node). T (forestFits (t .walk .names) (t .place) q)) (siblings-opens opened) (t .fits) in
+      let a = nodeFits (t .walk .names) (t .place) (nodeOf (rowAt ns i)) (breadth (siblings ns (i + 1) (i + rowAt ns i .size))) in
+      let b = forestFits (t .walk .names) (placeBelow (nodeOf (rowAt ns i) .kind)) (siblings ns (i + 1) (i + rowAt ns i .size)) in
+      let p = both (a && b) _ f in
+      (both a b (p .0), p .1)
+
+  pub ends-inside : i + rowAt ns i .size ≤ until
+  ends-inside = opened .rest .ordered
+
+  pub one-at-least : 1 ≤ rowAt ns i .size
+  one-at-least = opened .here .one
+
+  pub rest-trees : Trees ns roots ends′ (i + rowAt ns i .size) until
+  rest-trees = record { count = t .count; place = t .place; walk = t .walk; whole = opened .rest; inside = t .inside; fits = fit-parts .1 }
+
+  pub kids-trees : Trees ns roots ends′ (i + 1) (i + rowAt ns i .size)
+  kids-trees =
+      record {
+        count = t .count;
+        place = placeBelow (nodeOf (rowAt ns i) .kind);
+        walk = t .walk;
+        whole = kids-whole (opened .here);
+        inside = omega (arith, t .inside, ends-inside);
+        fits = fit-parts .0 .1;
+      }
+
+  pub this-tree : Trees ns roots ends′ i (i + rowAt ns i .size)
+  unfolding forestFits
+  this-tree =
+      record {
+        count = t .count;
+        place = t .place;
+        walk = t .walk;
+        whole = tree-whole (opened .here);
+        inside = omega (arith, t .inside, ends-inside);
+        fits = rw (tree-opens (opened .here)) (join₃ (nodeFits (t .walk .names) (t .place) (nodeOf (rowAt ns i)) (breadth (siblings ns (i + 1) (i + rowAt ns i .size))))
+          (forestFits (t .walk .names) (placeBelow (nodeOf (rowAt ns i) .kind)) (siblings ns (i + 1) (i + rowAt ns i .size))) true (fit-parts .0 .0) (fit-parts .0 .1) tt);
+      }
+
+  pub row-within : Within ns (i + 1)
+  row-within = node-within (opened .here)
+
+  pub row-fits : RowFits (t .walk .names) (rowAt ns i)
+  row-fits = t .walk .nodes .row i (omega (arith, t .inside))
+
+  pub ended : Ended ns ends′ i
+  ended = record { names = t .walk .names; count = t .count; nodes = t .walk .nodes; table = t .walk .ended; inside = omega (arith, t .inside) }
+
+-- ---- the verdict of trees, where there are none and where there is one
+module _ (pre tested : Bool) (ds : List Definition) where
+  check-none : (ns : List ℕ) (i until : ℕ) → until ≤ i → checkForest pre tested ds (siblings ns i until) ≡ Passed
+  unfolding checkForest
+  check-none ns i until h = rw (siblings-none ns i until h)
+
+  check-opens : {ns roots ends′ : List ℕ} {i until : ℕ} (t : Trees ns roots ends′ i until) (h : i < until) →
+      checkForest pre tested ds (siblings ns i until)
+      ≡ andThen (andThen (typeVerdict pre ds ns i) (methodVerdict tested ds (nodeOf (rowAt ns i)) (siblings ns (i + 1) (i + rowAt ns i .size))))
+      (checkForest pre tested ds (siblings ns (i + rowAt ns i .size) until))
+  unfolding checkForest typeVerdict
+  check-opens t h = ap (checkForest pre tested ds) (siblings-opens (opened t h))
+
+-- ---- a walk that is at node i: what is left gives the verdict
+pub record WalkLeft (pre tested : Bool) (ns roots ends′ : List ℕ) (from until i : ℕ) : Type 0 where
+  pub trees : Trees ns roots ends′ i until
+  pub later : from ≤ i
+  pub same : (ds : List Definition) → Env ns roots ends′ pre ds → checkForest pre tested ds (siblings ns i until) ≡ checkForest pre tested ds (siblings ns from until)
+
+pub walk-start : (pre tested : Bool) {ns roots ends′ : List ℕ} {from until : ℕ} → Trees ns roots ends′ from until → WalkLeft pre tested ns roots ends′ from until from
+walk-start pre tested t = record { trees = t; later = omega arith; same = λ ds e. refl }
+
+module _ {pre tested : Bool} {ns roots ends′ : List ℕ} {from until i : ℕ} (l : WalkLeft pre tested ns roots ends′ from until i) where
+  pub walk-end : until ≤ i → (ds : List Definition) → Env ns roots ends′ pre ds → Passed ≡ checkForest pre tested ds (siblings ns from until)
+  walk-end h ds e = sym (check-none pre tested ds ns i until h) ∙ l .same ds e
+
+  module _ (h : i < until) (v : Verdict) (is : (ds : List Definition) → Env ns roots ends′ pre ds → v ≡ typeVerdict pre ds ns i) where
+    pub walk-stop : isPassed v ≡ false → (ds : List Definition) → Env ns roots ends′ pre ds → v ≡ checkForest pre tested ds (siblings ns from until)
+    walk-stop f ds e =
+        sym (check-opens pre tested ds (l .trees) h ∙ rw (← is ds e) (rw (and-stops v _ f) (and-stops v _ f))) ∙ l .same ds e
+
+    module _ (p : isPassed v ≡ true) where
+      pub walk-method : (m : Verdict) → isPassed m ≡ false →
+          ((ds : List Definition) → Env ns roots ends′ pre ds → m ≡ methodVerdict tested ds (nodeOf (rowAt ns i)) (siblings ns (i + 1) (i + rowAt ns i .size))) →
+          (ds : List Definition) → Env ns roots ends′ pre ds → m ≡ checkForest pre tested ds (siblings ns from until)
+      walk-method m f q ds e =
+          sym (check-opens pre tested ds (l .trees) h ∙ rw (← is ds e, ← q ds e) (rw (and-on v m p) (and-stops m _ f))) ∙ l .same ds e
+
+      pub walk-on : ((ds : List Definition) → Env ns roots ends′ pre ds → methodVerdict tested ds (nodeOf (rowAt ns i)) (siblings ns (i + 1) (i + rowAt ns i .size)) ≡ Passed) →
+          WalkLeft pre tested ns roots ends′ from until (i + rowAt ns i .size)
+      walk-on q =
+          record {
+            trees = rest-trees (l .trees) h;
+            later = omega (arith, l .later);
+            same = λ ds e. sym (check-opens pre tested ds (l .trees) h ∙ rw (← is ds e, q ds e) (rw (and-on v Passed p) refl)) ∙ l .same ds e;
+          }
+
+-- ---- trees that are not methods are not tested
+pub untested : (ds : List Definition) (n : Node) (kids : Forest Node) → methodVerdict false ds n kids ≡ Passed
+unfolding methodVerdict
+untested ds n kids = refl
+
+-- ---- methods
+module _ (pre : Bool) {ns roots ends′ : List ℕ} {i until : ℕ} (t : Trees ns roots ends′ i until) (h : i < until) where
+  abbrev method : List Definition → Verdict
+  method ds = methodVerdict (not pre) ds (nodeOf (rowAt ns i)) (siblings ns (i + 1) (i + rowAt ns i .size))
+
+  tested-as : (ds : List Definition) → Env ns roots ends′ pre ds → (not (not pre) || endIs 23 ns ends′ i) ≡ (not (not pre) || asFunc ds (tree (nodeOf (rowAt ns i)) (siblings ns (i + 1) (i + rowAt ns i .size)) end))
+  tested-as ds e = go pre refl
+    where
+      go : (q : Bool) → pre ≡ q → (not (not q) || endIs 23 ns ends′ i) ≡ (not (not q) || asFunc ds (tree (nodeOf (rowAt ns i)) (siblings ns (i + 1) (i + rowAt ns i .size)) end))
+      go true z = refl
+      go false z = e .func z i until t h ∙ ap (asFunc ds) (tree-opens (opened t h .here))
+
+  pub method-passed : (b : Bool) → b ≡ (not (not pre) || endIs 23 ns ends′ i) → b ≡ true → (ds : List Definition) → Env ns roots ends′ pre ds → method ds ≡ Passed
+  unfolding methodVerdict
+  method-passed b q z ds e = rw (← tested-as ds e, ← q, z)
+
+  pub method-refused : (b : Bool) → b ≡ (not (not pre) || endIs 23 ns ends′ i) → b ≡ false → (ds : List Definition) → Env ns roots ends′ pre ds →
+      Refused (refusal.Refusal.MethodNoFunction (labelValue (nodeOf (rowAt ns i) .label))) ≡ method ds
+  unfolding methodVerdict
+  method-refused b q z ds e = rw (← tested-as ds e, ← q, z)
+
+-- a method's label is a name of the book
+name-label : (names : ℕ) (x : Labelled) → T (labelFits names Method x) → (labelKind x ≡ 2)
+unfolding labelFits labelKind
+name-label names unlabelled h = absurd h
+name-label names (labelled (Id n)) h = absurd h
+name-label names (labelled (Named n)) h = refl
+name-label names (labelled (Unnamed n)) h = absurd h
+
+module _ {ns roots ends′ : List ℕ} {i until : ℕ} (t : Trees ns roots ends′ i until) (h : i < until) where
+  row-same : labelValue (nodeOf (rowAt ns i) .label) ≡ rowAt ns i .label
+  unfolding rowOf
+  row-same = ap (λ (r : Row). r .label) (row-fits t h .same)
+
+  pub method-label : t .place ≡ Method → (rowAt ns i .label < 1024) × (labelValue (nodeOf (rowAt ns i) .label) ≡ rowAt ns i .label)
+  unfolding nodeFits rowOf
+  method-label m =
+      let f = both₃ (kindFits (t .walk .names) (nodeOf (rowAt ns i) .kind) (breadth (siblings ns (i + 1) (i + rowAt ns i .size)))) (kindAllowed (t .place) (nodeOf (rowAt ns i) .kind)) (labelFits (t .walk .names) (t .place) (nodeOf (rowAt ns i) .label)) (fit-parts t h .0 .0) .2 in
+      let k = name-label (t .walk .names) (nodeOf (rowAt ns i) .label) (subst (λ (p : Place). T (labelFits (t .walk .names) p (nodeOf (rowAt ns i) .label))) m f) in
+      let two : rowAt ns i .lkind ≡ 2 = sym (ap (λ (r : Row). r .lkind) (row-fits t h .same)) ∙ k in
+      (omega (arith, row-fits t h .label two, t .walk .nodes .fewNames), row-same)
+
+  pub kids-place : rowAt ns i .kind ≡ 24 → kids-trees t h .place ≡ Method
+  unfolding kids-trees placeBelow nodeOf kindOf kinds
+  kids-place k = rw k
+
+  pub kids-methods : rowAt ns i .kind ≡ 24 → Methods ns roots ends′ (i + 1) (i + rowAt ns i .size)
+  kids-methods k = record { trees = kids-trees t h; methods = kids-place k }
+
+-- ---- the loop over methods
+pub record MethodsLeft (pre : Bool) (ns roots ends′ : List ℕ) (from until i : ℕ) : Type 0 where
+  pub walk : WalkLeft pre (not pre) ns roots ends′ from until i
+  pub place : walk .trees .place ≡ Method
+
+pub methods-start : (pre : Bool) {ns roots ends′ : List ℕ} {from until : ℕ} → Methods ns roots ends′ from until → MethodsLeft pre ns roots ends′ from until from
+unfolding walk-start
+methods-start pre m = record { walk = walk-start pre (not pre) (m .trees); place = m .methods }
+
+pub methods-on : {pre : Bool} {ns roots ends′ : List ℕ} {from until i : ℕ} (l : MethodsLeft pre ns roots ends′ from until i) (h : i < until) (v : Verdict) →
+    ((ds : List Definition) → Env ns roots ends′ pre ds → v ≡ typeVerdict pre ds ns i) → isPassed v ≡ true →
+    (b : Bool) → b ≡ (not (not pre) || endIs 23 ns ends′ i) → b ≡ true → MethodsLeft pre ns roots ends′ from until (i + rowAt ns i .size)
+unfolding walk-on rest-trees
+methods-on {pre} l h v is p b q z =
+    record { walk = walk-on (l .walk) h v is p (method-passed pre (l .walk .trees) h b q z); place = l .place }
+
+-- ---- the loop over a function's arguments and results
+breadth-none : (ns : List ℕ) (i until : ℕ) → until ≤ i → breadth (siblings ns i until) ≡ 0
+unfolding breadth
+breadth-none ns i until h = ap breadth (siblings-none ns i until h)
+
+breadth-opens : {ns roots ends′ : List ℕ} {i until : ℕ} (t : Trees ns roots ends′ i until) (h : i < until) →
+    breadth (siblings ns i until) ≡ suc (breadth (siblings ns (i + rowAt ns i .size) until))
+unfolding breadth
+breadth-opens t h = ap breadth (siblings-opens (opened t h))
+
+pub record FuncLeft (pre : Bool) (ns roots ends′ : List ℕ) (from until i kids : ℕ) : Type 0 where
+  pub walk : WalkLeft pre false ns roots ends′ from until i
+  pub counted : kids + breadth (siblings ns i until) ≡ breadth (siblings ns from until)
+  pub few : kids ≤ i
+
+pub func-start : (pre : Bool) {ns roots ends′ : List ℕ} {from until : ℕ} → Trees ns roots ends′ from until → FuncLeft pre ns roots ends′ from until from 0
+func-start pre t = record { walk = walk-start pre false t; counted = omega arith; few = omega arith }
+
+module _ {pre : Bool} {ns roots ends′ : List ℕ} {from until i kids : ℕ} (l : FuncLeft pre ns roots ends′ from until i kids) where
+  pub func-end : until ≤ i → (value : ℕ) (v : Verdict) → v ≡ valueVerdict value kids → (ds : List Definition) → Env ns roots ends′ pre ds → v ≡ funcVerdict pre ds value (siblings ns from until)
+  unfolding funcVerdict
+  func-end h value v q ds e =
+      let k : kids ≡ breadth (siblings ns from until) = omega (arith, breadth-none ns i until h, l .counted) in
+      q ∙ ap (valueVerdict value) k ∙ sym (and-on (checkForest pre false ds (siblings ns from until)) _ (ap isPassed (sym (walk-end (l .walk) h ds e))))
+
+  module _ (h : i < until) (v : Verdict) (is : (ds : List Definition) → Env ns roots ends′ pre ds → v ≡ typeVerdict pre ds ns i) where
+    pub func-stop : isPassed v ≡ false → (value : ℕ) (ds : List Definition) → Env ns roots ends′ pre ds → v ≡ funcVerdict pre ds value (siblings ns from until)
+    unfolding funcVerdict
+    func-stop f value ds e =
+        let s = walk-stop (l .walk) h v is f ds e in
+        s ∙ sym (and-stops (checkForest pre false ds (siblings ns from until)) _ (ap isPassed (sym s) ∙ f))
+
+    pub func-on : isPassed v ≡ true → FuncLeft pre ns roots ends′ from until (i + rowAt ns i .size) (kids + 1)
+    func-on p =
+        record {
+          walk = walk-on (l .walk) h v is p (λ ds e. untested ds _ _);
+          counted = omega (arith, breadth-opens (l .walk .trees) h, l .counted);
+          few = omega (arith, one-at-least (l .walk .trees) h, l .few);
+        }
