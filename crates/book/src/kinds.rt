@@ -144,8 +144,11 @@ pub struct Mode {
 
 impl Mode {
     pub const NONE: u32 = 0;
+
     pub const ONEWAY: u32 = 1;
+
     pub const QUERY: u32 = 2;
+
     pub const COMPOSITE_QUERY: u32 = 3;
 
     // How many digits there are, each below BASE.

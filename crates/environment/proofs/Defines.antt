@@ -104,16 +104,21 @@ module _ {es : List ℕ} {names count from to : ℕ} (x : Entries es names count
       where
         i′ : e .name < length roots
         i′ = omega (arith, name-fits, l .long)
+
         here′ : getD (set roots (e .name) (e .root)) (e .name) 65535 ≡ e .root
         here′ = getD-set-same roots (e .name) (e .root) 65535 i′
+
         some′ : e .root ≡ 65535 → ⊥
         some′ q = let f : ⊥ = omega (arith, root-fits) in f
+
         node′ : (n : ℕ) → (getD (set roots (e .name) (e .root)) n 65535 ≡ 65535 → ⊥) → Dec (n ≡ e .name) → getD (set roots (e .name) (e .root)) n 65535 < count
         node′ n q (yes m) = rw (m, here′) root-fits
         node′ n q (no m) = rw (getD-set-other roots (e .name) n (e .root) 65535 m) (l .node n (λ z. q (getD-set-other roots (e .name) n (e .root) 65535 m ∙ z)))
+
         same′ : (n : ℕ) → Dec (n ≡ e .name) → cond (eqb (getD (set roots (e .name) (e .root)) n 65535) 65535) (rootIn (run (entryAt es) (d + 1) (to - (d + 1))) n) (getD (set roots (e .name) (e .root)) n 65535) ≡ rootIn (run (entryAt es) from (to - from)) n
         same′ n (yes m) = rw (m, here′, ne-eqb (e .root) 65535 some′) (sym (sym (l .same (e .name)) ∙ rw (b, left, eq-eqb (e .name) (e .name) refl)))
         same′ n (no m) = rw (getD-set-other roots (e .name) n (e .root) 65535 m) (ap (λ (q : ℕ). cond (eqb (getD roots n 65535) 65535) q (getD roots n 65535)) (sym (rw (left, ne-eqb (e .name) n (λ z. m (sym z))))) ∙ l .same n)
+
         marks′ : (n : ℕ) → Dec (n ≡ e .name) → (eqb n (e .name) || member n (l .seen)) ≡ not (eqb (getD (set roots (e .name) (e .root)) n 65535) 65535)
         marks′ n (yes m) = rw (m, here′, ne-eqb (e .root) 65535 some′, eq-eqb (e .name) (e .name) refl)
         marks′ n (no m) = rw (ne-eqb n (e .name) m, getD-set-other roots (e .name) n (e .root) 65535 m) (l .marks n)

@@ -122,9 +122,11 @@ module _ {ns roots : List ℕ} {names count definitions : ℕ} (few : count ≤ 
       where
         here : getD (set ends′ n (aliasNode a)) n 65535 ≡ aliasNode a
         here = getD-set-same ends′ n (aliasNode a) 65535 (omega (arith, s .nodes .long))
+
         node′ : (m : ℕ) → (getD (set ends′ n (aliasNode a)) m 65535 ≡ 65535 → ⊥) → Dec (m ≡ n) → getD (set ends′ n (aliasNode a)) m 65535 < count
         node′ m q (yes e) = rw (e, here) (node-small count a (x .within) (λ z. q (rw (e, here) z)))
         node′ m q (no e) = rw (getD-set-other ends′ n m (aliasNode a) 65535 e) (s .nodes .node m (λ z. q (getD-set-other ends′ n m (aliasNode a) 65535 e ∙ z)))
+
         done′ : (ds : List Definition) → Binds ns roots ds → length ds ≡ definitions → (m : ℕ) → m < n + 1 → Dec (m ≡ n) → EndAt ns (getD (set ends′ n (aliasNode a)) m 65535) (nameEnd ds m (findType ds m))
         done′ ds b l m i (yes e) = rw (e, here) (subst (EndAt ns (aliasNode a)) (x .is ds b l) (end-node ns count a few (x .within) c))
         done′ ds b l m i (no e) = rw (getD-set-other ends′ n m (aliasNode a) 65535 e) (s .done ds b l m (omega arith))

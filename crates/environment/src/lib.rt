@@ -7,7 +7,6 @@ ghost use Rattle.format.specs.Book.{Definition};
 ghost use Rattle.format.specs.Whole.{treeAt};
 ghost use Rattle.judgement.specs.Environment.{chainFrom};
 ghost use Rattle.environment.specs.Tables.{blankTable, Nodes, Entries, Roots, Binds, asEnd, InRange, DefinesAs, NameEndAs, aliasCircles, aliasNode, Ended, AliasEndsAs, endIs};
-
 use book::kinds::Kind;
 use book::read::Entry;
 use book::read::Node;
@@ -41,12 +40,18 @@ pub fn define(entries: &[u8], names: usize, nodes: usize, from: usize, to: usize
         let e = Entry::at(entries, d);
         let n = e.name as usize;
         if roots[n] != Table::NONE {
-            return Table { roots, twice: e.name };
+            return Table {
+                roots,
+                twice: e.name,
+            };
         }
         roots[n] = e.root;
         d += 1;
     }
-    Table { roots, twice: Table::NONE }
+    Table {
+        roots,
+        twice: Table::NONE,
+    }
 }
 
 // Where an alias chain ends: at a name without definition, never, or at a node that is no name.
@@ -57,7 +62,14 @@ pub enum Alias {
 }
 
 // The end of the chain from a node, which crosses at most `left` names: with as many as there are definitions, one more never ends.
-pub fn alias_end(rows: &[u8], roots: &[u16], names: usize, nodes: usize, left: usize, node: usize) -> Alias
+pub fn alias_end(
+    rows: &[u8],
+    roots: &[u16],
+    names: usize,
+    nodes: usize,
+    left: usize,
+    node: usize,
+) -> Alias
     requires { ⌜ Nodes (now rows) names nodes × Roots (now roots) nodes × (node < nodes) ⌝ }
     ensures within { λ r. ⌜ InRange nodes r ⌝ }
     ensures is { λ r. ⌜ ((ds : List Definition) → Binds (now (rows .entry)) (now (roots .entry)) ds →
@@ -84,7 +96,14 @@ pub fn alias_end(rows: &[u8], roots: &[u16], names: usize, nodes: usize, left: u
 }
 
 // The end of the chain from a name's definition.
-pub fn name_end(rows: &[u8], roots: &[u16], names: usize, nodes: usize, definitions: usize, n: usize) -> Alias
+pub fn name_end(
+    rows: &[u8],
+    roots: &[u16],
+    names: usize,
+    nodes: usize,
+    definitions: usize,
+    n: usize,
+) -> Alias
     requires { ⌜ Nodes (now rows) names nodes × Roots (now roots) nodes × (n < names) ⌝ }
     ensures { λ r. ⌜ NameEndAs (now (rows .entry)) (now (roots .entry)) nodes definitions n r ⌝ }
 {
@@ -127,7 +146,13 @@ pub struct AliasEnds {
 }
 
 // The alias ends of all names, found once.
-pub fn alias_ends(rows: &[u8], roots: &[u16], names: usize, nodes: usize, definitions: usize) -> AliasEnds
+pub fn alias_ends(
+    rows: &[u8],
+    roots: &[u16],
+    names: usize,
+    nodes: usize,
+    definitions: usize,
+) -> AliasEnds
     requires { ⌜ Nodes (now rows) names nodes × Roots (now roots) nodes ⌝ }
     ensures { λ r. ⌜ AliasEndsAs (now (rows .entry)) (now (roots .entry)) names nodes definitions (r .ends) (r .circle) ⌝ }
 {

@@ -42,7 +42,8 @@ prim-at (x ∷ l) d a (suc k) h = prim-at l d (a .1) k (omega arith)
 
 prims-are : AllPrim prims
 prims-are = (
-  (_, refl), ((_, refl), ((_, refl), ((_, refl), ((_, refl), ((_, refl), ((_, refl), ((_, refl), ((_, refl), ((_, refl), ((_, refl), ((_, refl), ((_, refl), ((_, refl), ((_, refl), ((_, refl), ((_, refl), ((_, refl), tt))))))))))))))))),
+  (_, refl),
+  ((_, refl), ((_, refl), ((_, refl), ((_, refl), ((_, refl), ((_, refl), ((_, refl), ((_, refl), ((_, refl), ((_, refl), ((_, refl), ((_, refl), ((_, refl), ((_, refl), ((_, refl), ((_, refl), ((_, refl), tt))))))))))))))))),
 )
 
 kind-prim : (k v : ℕ) → k < 18 → (p : PrimType) × (kindOf k v ≡ PrimT p)

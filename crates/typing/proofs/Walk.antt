@@ -84,7 +84,7 @@ module _ {ns roots ends′ : List ℕ} {i until : ℕ} (t : Trees ns roots ends�
         whole = tree-whole (opened .here);
         inside = omega (arith, t .inside, ends-inside);
         fits = rw (tree-opens (opened .here)) (join₃ (nodeFits (t .walk .names) (t .place) (nodeOf (rowAt ns i)) (breadth (siblings ns (i + 1) (i + rowAt ns i .size))))
-          (forestFits (t .walk .names) (placeBelow (nodeOf (rowAt ns i) .kind)) (siblings ns (i + 1) (i + rowAt ns i .size))) true (fit-parts .0 .0) (fit-parts .0 .1) tt);
+            (forestFits (t .walk .names) (placeBelow (nodeOf (rowAt ns i) .kind)) (siblings ns (i + 1) (i + rowAt ns i .size))) true (fit-parts .0 .0) (fit-parts .0 .1) tt);
       }
 
   pub row-within : Within ns (i + 1)

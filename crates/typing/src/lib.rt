@@ -9,7 +9,6 @@ ghost use Rattle.format.specs.Layout.{rowAt, siblings};
 ghost use Rattle.judgement.specs.Check.{checkForest};
 ghost use Rattle.environment.specs.Tables.{Ended, endIs};
 ghost use Rattle.typing.specs.Walk.{Trees, Methods, Env, boundVerdict, valueVerdict, typeVerdict, funcVerdict};
-
 use book::kinds::Kind;
 use book::kinds::Mode;
 use book::read::Node;
@@ -77,7 +76,14 @@ pub fn check_type(rows: &[u8], roots: &[u16], ends: &[u16], pre: bool, n: usize)
 }
 
 // The types from node `from` up to node `until`.
-pub fn check_fields(rows: &[u8], roots: &[u16], ends: &[u16], pre: bool, from: usize, until: usize) -> Verdict
+pub fn check_fields(
+    rows: &[u8],
+    roots: &[u16],
+    ends: &[u16],
+    pre: bool,
+    from: usize,
+    until: usize,
+) -> Verdict
     requires { ⌜ Trees (now rows) (now roots) (now ends) from until ⌝ }
     ensures { λ r. ⌜ ((ds : List Definition) → Env (now (rows .entry)) (now (roots .entry)) (now (ends .entry)) pre ds → r ≡ checkForest pre false ds (siblings (now (rows .entry)) from until)) ⌝ }
 {
@@ -94,7 +100,15 @@ pub fn check_fields(rows: &[u8], roots: &[u16], ends: &[u16], pre: bool, from: u
 }
 
 // A function of this value, whose arguments and results are the types from node `from` up to node `until`.
-fn check_func(rows: &[u8], roots: &[u16], ends: &[u16], pre: bool, value: u32, from: usize, until: usize) -> Verdict
+fn check_func(
+    rows: &[u8],
+    roots: &[u16],
+    ends: &[u16],
+    pre: bool,
+    value: u32,
+    from: usize,
+    until: usize,
+) -> Verdict
     requires { ⌜ Trees (now rows) (now roots) (now ends) from until ⌝ }
     ensures { λ r. ⌜ ((ds : List Definition) → Env (now (rows .entry)) (now (roots .entry)) (now (ends .entry)) pre ds → r ≡ funcVerdict pre ds value (siblings (now (rows .entry)) from until)) ⌝ }
 {
@@ -124,7 +138,14 @@ fn method_fits(rows: &[u8], ends: &[u16], pre: bool, n: usize) -> bool
 }
 
 // The methods from node `from` up to node `until`.
-pub fn check_meths(rows: &[u8], roots: &[u16], ends: &[u16], pre: bool, from: usize, until: usize) -> Verdict
+pub fn check_meths(
+    rows: &[u8],
+    roots: &[u16],
+    ends: &[u16],
+    pre: bool,
+    from: usize,
+    until: usize,
+) -> Verdict
     requires { ⌜ Methods (now rows) (now roots) (now ends) from until ⌝ }
     ensures { λ r. ⌜ ((ds : List Definition) → Env (now (rows .entry)) (now (roots .entry)) (now (ends .entry)) pre ds → r ≡ checkForest pre (not pre) ds (siblings (now (rows .entry)) from until)) ⌝ }
 {

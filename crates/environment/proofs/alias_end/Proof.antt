@@ -23,7 +23,7 @@ at-requires : tie.Need-at-requires Inv-loop μ-loop
 at-requires c κs = row-within (c .before .before .before .pre .0) (c .before .before .before .pre .1) (c .loop .inv)
 
 returns : tie.Need-returns Inv-loop μ-loop
-returns c =     let a = alias-ends (c .before .before .before .before .before .before .pre .0) (c .before .before .before .before .before .before .pre .1) (c .before .before .before .loop .inv) _ (c .before .before .at .ensures) (c .if1 .taken) in (a .within, a .is)
+returns c = let a = alias-ends (c .before .before .before .before .before .before .pre .0) (c .before .before .before .before .before .before .pre .1) (c .before .before .before .loop .inv) _ (c .before .before .at .ensures) (c .if1 .taken) in (a .within, a .is)
 
 -- the node is a name, within the table
 small : (c : tie.After-struct-known2 Inv-loop μ-loop) → c .before .before .before .at .result .value < 1024

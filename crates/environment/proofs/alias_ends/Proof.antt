@@ -31,7 +31,7 @@ loop-holds c =
     subst (λ (l : List ℕ). EndsLeft (a .rows .now) (a .roots .now) (a .names) (a .nodes) (a .definitions) l 0) (sym (c .blank .ensures)) (ends-start _ _ _ _ _)
 
 name-end-requires : tie.Need-name-end-requires Inv-loop μ-loop
-name-end-requires c κs =     (c .before .before .before .before .before .pre .0, c .before .before .before .before .before .pre .1, c .loop-test .taken)
+name-end-requires c κs = (c .before .before .before .before .before .pre .0, c .before .before .before .before .before .pre .1, c .loop-test .taken)
 
 circles-requires : tie.Need-circles-requires Inv-loop μ-loop
 circles-requires c κs = tt
@@ -40,10 +40,10 @@ cast-t13 : tie.Need-cast-t13 Inv-loop μ-loop
 cast-t13 c = omega (arith, c .before .before .before .loop-test .taken, c .before .before .before .before .before .before .before .before .pre .0 .fewNames)
 
 returns : tie.Need-returns Inv-loop μ-loop
-returns c =     ends-circle (c .before .before .before .before .before .before .before .before .pre .0 .fewNodes) (c .before .before .before .before .before .before .before .before .pre .0 .fewNames) (c .before .before .before .before .loop .inv) (c .before .before .before .loop-test .taken) _ (c .before .before .name-end .ensures) (sym (c .before .circles .ensures) ∙ c .if1 .taken)
+returns c = ends-circle (c .before .before .before .before .before .before .before .before .pre .0 .fewNodes) (c .before .before .before .before .before .before .before .before .pre .0 .fewNames) (c .before .before .before .before .loop .inv) (c .before .before .before .loop-test .taken) _ (c .before .before .name-end .ensures) (sym (c .before .circles .ensures) ∙ c .if1 .taken)
 
 node-requires : tie.Need-node-requires Inv-loop μ-loop
-node-requires c κs =     in-small _ (c .before .before .name-end .result) (c .before .before .before .before .before .before .before .before .pre .0 .fewNodes) (c .before .before .name-end .ensures .within)
+node-requires c κs = in-small _ (c .before .before .name-end .result) (c .before .before .before .before .before .before .before .before .pre .0 .fewNodes) (c .before .before .name-end .ensures .within)
 
 mul-ends : tie.Need-mul-ends Inv-loop μ-loop
 mul-ends c = omega (arith, c .before .before .before .before .loop-test .taken, c .before .before .before .before .before .before .before .before .before .pre .0 .fewNames)
@@ -64,7 +64,7 @@ loop-again c =
     (ends-on (c .before .before .before .before .before .before .before .before .before .pre .0 .fewNodes) (c .before .before .before .before .before .before .before .before .before .pre .0 .fewNames) (c .before .before .before .before .before .loop .inv) (c .before .before .before .before .loop-test .taken) _ (c .before .before .before .name-end .ensures) (sym (c .before .before .circles .ensures) ∙ c .before .if1 .left))
 
 returns-2 : tie.Need-returns-2 Inv-loop μ-loop
-returns-2 c =     ends-end (c .before .before .before .before .before .pre .0 .fewNodes) (c .before .before .before .before .before .pre .0 .fewNames) (c .before .loop .inv) (c .loop-test .left)
+returns-2 c = ends-end (c .before .before .before .before .before .pre .0 .fewNodes) (c .before .before .before .before .before .pre .0 .fewNames) (c .before .loop .inv) (c .loop-test .left)
 
 pub alias-ends-spec : {M : Type 1} → statement M
 alias-ends-spec =

@@ -29,7 +29,7 @@ loop-holds c =
     subst (λ (l : List ℕ). TableLeft (a .entries .now) (a .names) (a .nodes) (a .from) (a .to) l (a .from)) (sym (c .blank .ensures)) (table-start _ _ _ _ _ (c .before .before .pre .0))
 
 at-requires : tie.Need-at-requires Inv-loop μ-loop
-at-requires c κs =     record { held = omega (arith, c .before .before .before .before .pre .0 .held, c .loop-test .taken); few = c .before .before .before .before .pre .0 .few }
+at-requires c κs = record { held = omega (arith, c .before .before .before .before .pre .0 .held, c .loop-test .taken); few = c .before .before .before .before .pre .0 .few }
 
 named : (c : tie.After-struct-known Inv-loop μ-loop) → c .before .at .result .name < 1024
 named c = name-fits (c .before .before .before .before .before .before .pre .0) (c .before .before .before .before .before .before .pre .1) (c .before .before .before .before .before .before .pre .2) (c .before .before .before .loop .inv) (c .before .before .loop-test .taken) _ (c .before .at .ensures)
@@ -48,7 +48,7 @@ array-read-if1 : tie.Need-array-read-if1 Inv-loop μ-loop
 array-read-if1 c = named c
 
 returns : tie.Need-returns Inv-loop μ-loop
-returns c =     table-twice (c .before .before .before .before .before .before .before .pre .0) (c .before .before .before .before .before .before .before .pre .1) (c .before .before .before .before .before .before .before .pre .2) (c .before .before .before .before .loop .inv) (c .before .before .before .loop-test .taken) _ (c .before .before .at .ensures) (λ e. c .if1 .taken (in-table (c .before) ∙ e))
+returns c = table-twice (c .before .before .before .before .before .before .before .pre .0) (c .before .before .before .before .before .before .before .pre .1) (c .before .before .before .before .before .before .before .pre .2) (c .before .before .before .before .loop .inv) (c .before .before .before .loop-test .taken) _ (c .before .before .at .ensures) (λ e. c .if1 .taken (in-table (c .before) ∙ e))
 
 mul-roots : tie.Need-mul-roots Inv-loop μ-loop
 mul-roots c = omega (arith, named (c .before))
@@ -63,10 +63,10 @@ loop-less : tie.Need-loop-less Inv-loop μ-loop
 loop-less c = omega (arith, c .before .before .before .loop-test .taken)
 
 loop-again : tie.Need-loop-again Inv-loop μ-loop
-loop-again c =     table-on (c .before .before .before .before .before .before .before .pre .0) (c .before .before .before .before .before .before .before .pre .1) (c .before .before .before .before .before .before .before .pre .2) (c .before .before .before .before .loop .inv) (c .before .before .before .loop-test .taken) _ (c .before .before .at .ensures) (sym (in-table (c .before)) ∙ c .if1 .left)
+loop-again c = table-on (c .before .before .before .before .before .before .before .pre .0) (c .before .before .before .before .before .before .before .pre .1) (c .before .before .before .before .before .before .before .pre .2) (c .before .before .before .before .loop .inv) (c .before .before .before .loop-test .taken) _ (c .before .before .at .ensures) (sym (in-table (c .before)) ∙ c .if1 .left)
 
 returns-2 : tie.Need-returns-2 Inv-loop μ-loop
-returns-2 c =     table-end (c .before .before .before .before .pre .0) (c .before .before .before .before .pre .1) (c .before .before .before .before .pre .2) (c .before .loop .inv) (c .loop-test .left)
+returns-2 c = table-end (c .before .before .before .before .pre .0) (c .before .before .before .before .pre .1) (c .before .before .before .before .pre .2) (c .before .loop .inv) (c .loop-test .left)
 
 pub define-spec : {M : Type 1} → statement M
 define-spec =

@@ -20,7 +20,7 @@ at-requires : tie.Need-at-requires
 at-requires c κs = search needs
 
 returns : tie.Need-returns
-returns c =     is-other _ _ _ _ _ (c .before .before .before .at .ensures) (c .before .if1 .taken)
+returns c = is-other _ _ _ _ _ (c .before .before .before .at .ensures) (c .before .if1 .taken)
 
 cast-e : tie.Need-cast-e
 cast-e c = search needs
@@ -39,7 +39,7 @@ shared-slice-read-e : tie.Need-shared-slice-read-e
 shared-slice-read-e c = omega (arith, small (c .before), c .before .before .before .before .before .before .before .pre .table .long)
 
 returns-2 : tie.Need-returns-2
-returns-2 c =     is-none _ _ _ _ _ (c .before .before .before .before .before .at .ensures) (c .before .before .before .if1 .left) (sym (in-table (c .before .before .before .before .before .before .before .before .pre .table) (small (c .before .before))) ∙ c .if2 .taken)
+returns-2 c = is-none _ _ _ _ _ (c .before .before .before .before .before .at .ensures) (c .before .before .before .if1 .left) (sym (in-table (c .before .before .before .before .before .before .before .before .pre .table) (small (c .before .before))) ∙ c .if2 .taken)
 
 cast-at : tie.Need-cast-at
 cast-at c = omega (arith, c .before .shared-slice-known3 .given (c .before .before .before .before .before .at .result .value))
@@ -51,7 +51,7 @@ node c =
     rw v (c .before .before .before .before .before .before .before .before .pre .table .node (c .before .before .before .before .before .at .result .value) (λ e. c .if2 .left (v ∙ e)))
 
 at-requires-2 : tie.Need-at-requires-2
-at-requires-2 c κs =     record { held = omega (arith, node c, c .before .before .before .before .before .before .before .before .pre .nodes .within .held); few = c .before .before .before .before .before .before .before .before .pre .nodes .within .few }
+at-requires-2 c κs = record { held = omega (arith, node c, c .before .before .before .before .before .before .before .before .pre .nodes .within .held); few = c .before .before .before .before .before .before .before .before .pre .nodes .within .few }
 
 returns-3 : tie.Need-returns-3
 returns-3 c =

@@ -29,13 +29,13 @@ table : (c : tie.After-shared-slice-known3) → getD (c .before .before .before 
 table c = in-table (c .before .before .before .pre .1) (omega (arith, c .before .before .before .pre .2, c .before .before .before .pre .0 .fewNames))
 
 returns : tie.Need-returns
-returns c =     name-unbound _ _ _ _ _ (sym (table (c .before)) ∙ c .if1 .taken)
+returns c = name-unbound _ _ _ _ _ (sym (table (c .before)) ∙ c .if1 .taken)
 
 cast-alias-end : tie.Need-cast-alias-end
-cast-alias-end c =     omega (arith, c .before .shared-slice-known3 .given (c .before .before .before .before .args .n))
+cast-alias-end c = omega (arith, c .before .shared-slice-known3 .given (c .before .before .before .before .args .n))
 
 alias-end-requires : tie.Need-alias-end-requires
-alias-end-requires c κs =     (c .before .before .before .before .pre .0, c .before .before .before .before .pre .1, rw (table (c .before)) (c .before .before .before .before .pre .1 .node _ (λ e. c .if1 .left (table (c .before) ∙ e))))
+alias-end-requires c κs = (c .before .before .before .before .pre .0, c .before .before .before .before .pre .1, rw (table (c .before)) (c .before .before .before .before .pre .1 .node _ (λ e. c .if1 .left (table (c .before) ∙ e))))
 
 returns-2 : tie.Need-returns-2
 returns-2 c =

@@ -25,11 +25,11 @@ table c = getD-within (c .before .args .roots .now) (c .before .args .v) 0 65535
 
 returns : tie.Need-returns
 unfolding boundVerdict
-returns c =     rw (sym (table (c .before)) ∙ c .if1 .taken)
+returns c = rw (sym (table (c .before)) ∙ c .if1 .taken)
 
 returns-2 : tie.Need-returns-2
 unfolding boundVerdict
-returns-2 c =     rw (ne-eqb _ _ (λ e. c .if1 .left (table (c .before) ∙ e)))
+returns-2 c = rw (ne-eqb _ _ (λ e. c .if1 .left (table (c .before) ∙ e)))
 
 pub check-var-spec : {M : Type 1} → statement M
 check-var-spec = tie.close (tie.spec mul-if1 shared-slice-read-if1 cast-t8 returns returns-2)
