@@ -4,5 +4,12 @@ pub mod Lookup
 pub mod Chains
 pub mod Occurs
 pub mod Walks
+pub mod Each
+pub mod Decs
+pub mod Fitting
+pub mod Actors
+pub mod Books
+pub mod Merged
+pub mod Theorems
 pub mod Steps
 pub mod Empty

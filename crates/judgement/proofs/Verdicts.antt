@@ -1,7 +1,7 @@
 -- Laws of verdicts: what it says that two in order pass or refuse, and that a test does. Assumes nothing.
 use mathlib.Core.Path.{_≡_, refl}
-use mathlib.Core.Logic.{_⊎_, inl, inr}
-use mathlib.Core.Bool.{Bool, true, false}
+use mathlib.Core.Logic.{_↔_, _⊎_, inl, inr}
+use mathlib.Core.Bool.{Bool, true, false, not}
 use Prim.Native.Nat.{ℕ}
 use native.Mathlib.Omega.{arith}
 use lib.Dec.{T}
@@ -41,3 +41,12 @@ passed-unless false r h = absurd h
 pub unless-refused : (t : Bool) (r : Refusal) {s : Refusal} → unless t r ≡ Refused s → (T t → ⊥) × (s ≡ r)
 unless-refused true r e = passed-refused e
 unless-refused false r e = (λ h. h, cc)
+
+-- A test that has to fail.
+pub not-says : (b : Bool) → T (not b) ↔ (T b → ⊥)
+not-says true = (λ (x : ⊥). absurd x, λ h. h tt)
+not-says false = (λ t x. x, λ h. tt)
+
+pub fails-not : (b : Bool) → (T (not b) → ⊥) → T b
+fails-not true h = tt
+fails-not false h = h tt

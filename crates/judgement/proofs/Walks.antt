@@ -29,7 +29,7 @@ use Rattle.judgement.specs.Environment.{Found, missing, body, findType, 
 use Rattle.judgement.specs.Check.{nameVerdict, isOneway, modesVerdict, kindVerdict, methodVerdict, checkForest, methodsFit}
 use Rattle.judgement.specs.WellFormed.{Occurs, here, Beside, first, later, Defined, StandsFor, Bound, NoClass, OnewayWithoutResults, MethodsAreFunctions, OneMode, WellFormedTrees}
 use Rattle.judgement.specs.Rows.{HasMethod, DefinitionsRow, TreesRow}
-use Rattle.judgement.proofs.Verdicts.{refused-passed, passed-refused, both-pass, pass-both, which-refused, unless-passed, passed-unless, unless-refused}
+use Rattle.judgement.proofs.Verdicts.{refused-passed, passed-refused, both-pass, pass-both, which-refused, unless-passed, passed-unless, unless-refused, fails-not}
 use Rattle.judgement.proofs.Occurs.{Everywhere, Somewhere, EachTree, occurs-end, beside-none, everywhere-tree, in-kids, in-next, each-tree, in-others, somewhere-below, somewhere-after, reference-occurs, occurs-reference}
 
 -- ---- Tests
@@ -50,10 +50,6 @@ if-fails false b h = absurd (h tt)
 one-fails : (a b : Bool) → (T (a && b) → ⊥) → (T a → ⊥) ⊎ (T b → ⊥)
 one-fails true b h = inr h
 one-fails false b h = inl (λ x. x)
-
-fails-not : (b : Bool) → (T (not b) → ⊥) → T b
-fails-not true h = tt
-fails-not false h = h tt
 
 -- ---- Modes: at most one, and oneway goes without results
 
@@ -412,7 +408,7 @@ unfit-methods ds tested (tree n kids next) h =
       | inr g ↦ elim (unfit-methods ds tested next g) [ inl s ↦ inl (somewhere-after s) | inr u ↦ inr (u .0, later-unfit ds (u .1)) ]
     ]
 
-is-service : (κ : Kind) → T (isServKind κ) → κ ≡ ServT
+pub is-service : (κ : Kind) → T (isServKind κ) → κ ≡ ServT
 unfolding isServKind
 is-service (PrimT p) t = absurd t
 is-service (VarT n) t = absurd t

@@ -1,0 +1,100 @@
+-- A book that fits: its definitions, its actors and its init arguments do. Assumes nothing.
+use mathlib.Core.Path.{_≡_, refl, subst, sym}
+use mathlib.Core.Logic.{_⊎_, ⊎-elim}
+use mathlib.Core.Bool.{Bool, true, false, cond}
+use mathlib.Core.List.{List, [], _∷_, List·Memᴰ, List·Memᴰ·head, List·Memᴰ·tail, List·Memᴰ·cases-cons, List·Memᴰ·not-nil}
+use Prim.Native.Nat.{ℕ, _<_}
+use lib.Dec.{T}
+use lib.ListN.{length}
+use Rattle.format.specs.declared.Place.the-variants.{Root}
+use Rattle.format.specs.Forest.{end, breadth}
+use Rattle.format.specs.Book.{Definition, File, Book}
+use Rattle.format.specs.Fits.{every, isInitRole, definitionFits, fileFits, forestFits, Fits}
+use Rattle.format.proofs.Logic.{both, says}
+use Rattle.format.proofs.Encoded.{fit-parts}
+use Rattle.judgement.specs.Environment.{keep, mainDefinitions, initDefinitions}
+use Rattle.judgement.specs.Actor.{isServiceImport, serviceImports, firstActor, mainActor}
+use Rattle.judgement.specs.Check.{initTree}
+use Rattle.judgement.proofs.Lookup.{keep-says}
+use Rattle.judgement.proofs.Fitting.{Fitting}
+use Rattle.judgement.proofs.Decs.{FitDefinitions}
+
+every-listed : {A : Type 0} (test : A → Bool) (l : List A) → T (every test l) → (a : A) → List·Memᴰ a l → T (test a)
+unfolding every
+every-listed test [] t a m = absurd (List·Memᴰ·not-nil m)
+every-listed test (c ∷ l) t a m =
+    let p = both (test c) (every test l) t in
+    ⊎-elim (λ e. subst (λ x. T (test x)) (sym e) (p .0)) (λ k. every-listed test l (p .1) a k) (List·Memᴰ·cases-cons m)
+
+-- A definition's name, its sole tree, and that it fits.
+definition-fits : (names files : ℕ) (d : Definition) → T (definitionFits names files d) →
+    (d .name < names) × (breadth (d .body) ≡ 1) × T (forestFits names Root (d .body))
+unfolding definitionFits
+definition-fits names files d t = let p = simp says at t in (p .0 .0 .0 .0, p .0 .0 .1, p .1)
+
+file-fits : (names : ℕ) (f : File) → T (fileFits names f) → T (forestFits names Root (f .actor))
+unfolding fileFits
+file-fits names f t = (simp says at t) .1
+
+-- The actor that stands first, the service imports, and the init arguments.
+module _ (names : ℕ) where
+  abbrev AllFit : List File → Type 0
+  AllFit fs = (f : File) → List·Memᴰ f fs → Fitting names (f .actor)
+
+  no-tree : Fitting names end
+  unfolding forestFits
+  no-tree = record { place = Root; fit = tt }
+
+  first-fits : (fs : List File) → AllFit fs → Fitting names (firstActor fs)
+  unfolding firstActor
+  first-fits [] h = no-tree
+  first-fits (f ∷ fs) h = h f (List·Memᴰ·head refl)
+
+  services-fit : (fs : List File) → AllFit fs → AllFit (serviceImports fs)
+  unfolding serviceImports
+  services-fit [] h = h
+  services-fit (f ∷ fs) h = go (isServiceImport (f .role)) (services-fit fs (λ g m. h g (List·Memᴰ·tail m)))
+    where
+      go : (c : Bool) → AllFit (serviceImports fs) → AllFit (cond c (f ∷ serviceImports fs) (serviceImports fs))
+      go true rest = λ g m. ⊎-elim (λ e. h g (List·Memᴰ·head e)) (rest g) (List·Memᴰ·cases-cons m)
+      go false rest = rest
+
+  init-fits : (fs : List File) → AllFit fs → Fitting names (initTree fs)
+  unfolding initTree
+  init-fits [] h = no-tree
+  init-fits (f ∷ fs) h = go (isInitRole (f .role)) (init-fits fs (λ g m. h g (List·Memᴰ·tail m)))
+    where
+      go : (c : Bool) → Fitting names (initTree fs) → Fitting names (cond c (f .actor) (initTree fs))
+      go true rest = h f (List·Memᴰ·head refl)
+      go false rest = rest
+
+module _ (b : Book) (fits : Fits b) where
+  kept-fit : (test : Definition → Bool) → FitDefinitions (length (b .names)) (keep test (b .definitions))
+  kept-fit test =
+      let one : (d : Definition) → List·Memᴰ d (keep test (b .definitions)) →
+      (d .name < length (b .names)) × (breadth (d .body) ≡ 1) × T (forestFits (length (b .names)) Root (d .body)) = λ d m.
+      definition-fits (length (b .names)) (length (b .files)) d
+      (every-listed (definitionFits (length (b .names)) (length (b .files))) (b .definitions) (fit-parts fits .definitions) d (keep-says test (b .definitions) d .0 m .0)) in
+      record { exists = λ d m. one d m .0; sole = λ d m. one d m .1; fit = λ d m. one d m .2 }
+
+  pub main-definitions-fit : FitDefinitions (length (b .names)) (mainDefinitions b)
+  unfolding mainDefinitions
+  main-definitions-fit = kept-fit _
+
+  pub init-definitions-fit : FitDefinitions (length (b .names)) (initDefinitions b)
+  unfolding initDefinitions
+  init-definitions-fit = kept-fit _
+
+  actors-fit : AllFit (length (b .names)) (b .files)
+  actors-fit f m =
+      record { place = Root; fit = file-fits (length (b .names)) f (every-listed (fileFits (length (b .names))) (b .files) (fit-parts fits .files) f m) }
+
+  pub main-actor-fits : Fitting (length (b .names)) (mainActor b)
+  unfolding mainActor
+  main-actor-fits = first-fits (length (b .names)) (b .files) actors-fit
+
+  pub imports-fit : (f : File) → List·Memᴰ f (serviceImports (b .files)) → Fitting (length (b .names)) (f .actor)
+  imports-fit = services-fit (length (b .names)) (b .files) actors-fit
+
+  pub init-tree-fits : Fitting (length (b .names)) (initTree (b .files))
+  init-tree-fits = init-fits (length (b .names)) (b .files) actors-fit

@@ -1,0 +1,333 @@
+-- The theorems that pin the check and the init check. Assumes nothing; a book that was read from bytes fits (crate format, `found`).
+--     check-says, init-check-says                  what passes: exactly what Candid calls well-formed and the Rust takes
+--     check-row, init-check-row                    what is refused lies in the row of its refusal
+--     without-init                                 without an init file both say the same
+--     check-numbers, init-numbers                  the rows that there are
+--     check-bytes-says, check-bytes-row, ..        all of this on bytes, which are broken or a book
+use mathlib.Core.Path.{_≡_, refl, ap}
+use mathlib.Core.Logic.{_↔_, _⊎_, inl, inr, ⊎-elim}
+use mathlib.Core.Bool.{Bool, false}
+use mathlib.Core.List.{List, [], _∷_, map, List·Memᴰ, List·Memᴰ·head, List·Memᴰ·tail}
+use Prim.Native.Nat.{ℕ, zero, suc}
+use lib.Dec.{T}
+use lib.ListN.{length}
+use Rattle.format.specs.declared.Place.the-variants.{Root}
+use Rattle.format.specs.Forest.{Forest, end}
+use Rattle.format.specs.Node.{Node}
+use Rattle.format.specs.Book.{Definition, Role, Main, TypeImport, ServiceImport, InitArgs, File, Book}
+use Rattle.format.specs.Fits.{isInitRole, Fits}
+use Rattle.format.specs.Layout.{Layout, broken, whole, layout}
+use Rattle.format.proofs.Theorems.{found}
+use Rattle.book.specs.declared.refusal.Refusal.{Refusal}
+use Rattle.book.specs.declared.refusal.Refusal.the-variants.{Broken, Twice, Unbound, Class, Modes, Oneway, Circle, NoFunction, MethodNoFunction, NoService, Differs, ImportWithoutActor, ImportNoService, SameHash, Absent, Short, NoActor}
+use Rattle.book.specs.declared.refusal.Verdict.{Verdict}
+use Rattle.book.specs.declared.refusal.Verdict.the-variants.{Passed, Refused}
+use Rattle.book.specs.Refusal.{numberOf, andThen}
+use Rattle.judgement.specs.Environment.{roleAt, keep, mainDefinitions, initDefinitions, findType, mergeDefinitions, kidsOf}
+use Rattle.judgement.specs.Actor.{serviceImports, mainActor, resolveActor}
+use Rattle.judgement.specs.Check.{checkForest, member, onceVerdict, bodiesVerdict, eachName, circleVerdict, bodiesFit, decsVerdict, importsVerdict, resolveVerdict, actorVerdict, check, sameVerdict, mergeVerdict, initTree, initVerdict, initCheck, onLayout, checkBytes, initCheckBytes}
+use Rattle.judgement.specs.WellFormed.{Distinct, nameOf, WellFormed, Rust, WellFormedInit, RustInit}
+use Rattle.judgement.specs.Rows.{CheckRow, InitRow}
+use Rattle.judgement.proofs.Verdicts.{refused-passed, both-pass, pass-both, which-refused}
+use Rattle.judgement.proofs.Lookup.{member-says, merge-distinct}
+use Rattle.judgement.proofs.Each.{passed-names}
+use Rattle.judgement.proofs.Decs.{once-says, decs-says, decs-refused}
+use Rattle.judgement.proofs.Fitting.{Fitting, fitting-kids}
+use Rattle.judgement.proofs.Actors.{Resolved, resolved-says, resolve-refused, actor-refused, imports-passed, imports-refused, walk-says, walk-refused}
+use Rattle.judgement.proofs.Merged.{merge-says, merge-refused}
+use Rattle.judgement.proofs.Books.{main-definitions-fit, init-definitions-fit, main-actor-fits, imports-fit, init-tree-fits}
+
+-- Where definitions pass, each name is defined once.
+decs-once : (names : ℕ) (ds : List Definition) → decsVerdict names ds ≡ Passed → Distinct (map nameOf ds)
+unfolding decsVerdict
+decs-once names ds e = once-says ds .0 (both-pass (onceVerdict [] ds) _ e .0)
+
+-- ---- The check
+module _ (b : Book) where
+  abbrev ds : List Definition
+  ds = mainDefinitions b
+
+  abbrev names : ℕ
+  names = length (b .names)
+
+  abbrev imports : List File
+  imports = serviceImports (b .files)
+
+  abbrev resolving : Verdict
+  resolving = resolveVerdict (b .names) ds (mainActor b) imports (resolveActor b)
+
+  module _ (fits : Fits b) where
+    resolves : (once : Distinct (map nameOf ds)) →
+        ((resolving ≡ Passed) × (actorVerdict ds (resolveActor b) ≡ Passed)) ↔ Resolved (b .names) ds (mainActor b) imports
+    unfolding resolveActor
+    resolves once =
+        let bodies : (d : Definition) → List·Memᴰ d ds → Fitting names (d .body) = λ d m. record { place = Root; fit = main-definitions-fit b fits .fit d m } in
+        resolved-says (b .names) ds once bodies (mainActor b) (main-actor-fits b fits) imports (imports-fit b fits)
+
+    check-passed : check b ≡ Passed → WellFormed b × Rust b
+    unfolding check resolveActor
+    check-passed e =
+        let p = both-pass (importsVerdict imports) _ e in
+        let q = both-pass (decsVerdict names ds) _ (p .1) in
+        let w = decs-says names ds (main-definitions-fit b fits) .0 (q .0) in
+        let r = resolves (w .0 .once) .0 (both-pass resolving (actorVerdict ds (resolveActor b)) (q .1)) in (
+          record { definitions = w .0; actor = r .actor; service = r .service },
+          record { modes = w .1; actorModes = r .modes; imports = r .imported; hashes = r .hashes },
+        )
+
+    passed-check : WellFormed b → Rust b → check b ≡ Passed
+    unfolding check resolveActor
+    passed-check w r =
+        let s = resolves (w .definitions .once) .1
+        record { actor = w .actor; modes = r .actorModes; service = w .service; imported = r .imports; hashes = r .hashes } in
+        pass-both (importsVerdict imports) _ (imports-passed ds imports (r .imports))
+        (pass-both (decsVerdict names ds) _ (decs-says names ds (main-definitions-fit b fits) .1 (w .definitions, r .modes))
+        (pass-both resolving (actorVerdict ds (resolveActor b)) (s .0) (s .1)))
+
+pub check-says : (b : Book) → Fits b → (check b ≡ Passed) ↔ (WellFormed b × Rust b)
+check-says b fits = (check-passed b fits, λ h. passed-check b fits (h .0) (h .1))
+
+pub check-row : (b : Book) {r : Refusal} → check b ≡ Refused r → CheckRow b r
+unfolding check
+check-row b e =
+    elim (which-refused (importsVerdict (imports b)) _ e) [
+      | inl h ↦ inr (inr (imports-refused b h))
+      | inr h ↦ elim (which-refused (decsVerdict (names b) (ds b)) _ (h .1)) [
+        | inl k ↦ inl (decs-refused (names b) (ds b) k)
+        | inr k ↦
+            let once = decs-once (names b) (ds b) (k .0) in
+            elim (which-refused (resolving b) (actorVerdict (ds b) (resolveActor b)) (k .1)) [
+              | inl l ↦ inr (inr (resolve-refused b once l))
+              | inr l ↦ inr (actor-refused b once (l .1))
+            ]
+      ]
+    ]
+
+-- ---- The init check
+module _ (b : Book) where
+  abbrev ids : List Definition
+  ids = initDefinitions b
+
+  abbrev both-files : List Definition
+  both-files = mergeDefinitions ids (ds b)
+
+  abbrev arguments : Forest Node
+  arguments = kidsOf (initTree (b .files))
+
+  abbrev merging : Verdict
+  merging = mergeVerdict (b .names) ids (ds b)
+
+  init-once : Distinct (map nameOf ids) → Distinct (map nameOf (ds b)) → Distinct (map nameOf both-files)
+  init-once = merge-distinct ids (ds b)
+
+  init-passed : Fits b → Distinct (map nameOf (ds b)) → initVerdict b ≡ Passed → WellFormedInit b × RustInit b
+  unfolding initVerdict
+  init-passed fits main e =
+      let fit = init-definitions-fit b fits in
+      let p = both-pass (decsVerdict (names b) ids) _ e in
+      let q = both-pass merging (checkForest false false both-files arguments) (p .1) in
+      let w = decs-says (names b) ids fit .0 (p .0) in
+      let once = w .0 .once in
+      let a = walk-says both-files (init-once once main) (names b) arguments (fitting-kids (names b) (initTree (b .files)) (init-tree-fits b fits)) .0 (q .1) in (
+        record { definitions = w .0; arguments = a .0 },
+        record { modes = w .1; argumentModes = a .1; merged = merge-says b once main (fit .exists) .0 (q .0) },
+      )
+
+  passed-init : Fits b → Distinct (map nameOf (ds b)) → WellFormedInit b → RustInit b → initVerdict b ≡ Passed
+  unfolding initVerdict
+  passed-init fits main w r =
+      let fit = init-definitions-fit b fits in
+      let once = w .definitions .once in
+      pass-both (decsVerdict (names b) ids) _ (decs-says (names b) ids fit .1 (w .definitions, r .modes))
+      (pass-both merging (checkForest false false both-files arguments) (merge-says b once main (fit .exists) .1 (r .merged))
+      (walk-says both-files (init-once once main) (names b) arguments (fitting-kids (names b) (initTree (b .files)) (init-tree-fits b fits)) .1 (w .arguments, r .argumentModes)))
+
+  init-refused : Distinct (map nameOf (ds b)) → {r : Refusal} → initVerdict b ≡ Refused r → InitRow b r
+  unfolding initVerdict
+  init-refused main e =
+      elim (which-refused (decsVerdict (names b) ids) _ e) [
+        | inl h ↦ inl (decs-refused (names b) ids h)
+        | inr h ↦
+            let once = decs-once (names b) ids (h .0) in
+            elim (which-refused merging (checkForest false false both-files arguments) (h .1)) [
+              | inl k ↦ inr (inl (merge-refused b once main k))
+              | inr k ↦ inr (inr (walk-refused both-files (init-once once main) arguments (k .1)))
+            ]
+      ]
+
+  -- where the check passes, each name is defined once
+  check-once : check b ≡ Passed → Distinct (map nameOf (ds b))
+  unfolding check
+  check-once e = decs-once (names b) (ds b) (both-pass (decsVerdict (names b) (ds b)) _ (both-pass (importsVerdict (imports b)) _ e .1) .0)
+
+pub init-check-says : (b : Book) → Fits b → (initCheck b ≡ Passed) ↔ ((WellFormed b × Rust b) × (WellFormedInit b × RustInit b))
+unfolding initCheck
+init-check-says b fits = (
+  λ e. let p = both-pass (check b) (initVerdict b) e in (check-says b fits .0 (p .0), init-passed b fits (check-once b (p .0)) (p .1)),
+  λ h. pass-both (check b) (initVerdict b) (check-says b fits .1 (h .0)) (passed-init b fits (h .0 .0 .definitions .once) (h .1 .0) (h .1 .1)),
+)
+
+pub init-check-row : (b : Book) {r : Refusal} → initCheck b ≡ Refused r → CheckRow b r ⊎ InitRow b r
+unfolding initCheck
+init-check-row b e =
+    elim (which-refused (check b) (initVerdict b) e) [
+      | inl h ↦ inl (check-row b h)
+      | inr h ↦ inr (init-refused b (check-once b (h .0)) (h .1))
+    ]
+
+-- ---- Without an init file
+abbrev pub NoInit : List File → Type 0
+NoInit fs = (f : File) → List·Memᴰ f fs → f .role ≡ InitArgs → ⊥
+
+other-role : (r : Role) → (r ≡ InitArgs → ⊥) → isInitRole r ≡ false
+unfolding isInitRole
+other-role Main h = refl
+other-role TypeImport h = refl
+other-role ServiceImport h = refl
+other-role InitArgs h = absurd (h refl)
+
+no-role : (fs : List File) → NoInit fs → (k : ℕ) → isInitRole (roleAt fs k) ≡ false
+unfolding roleAt isInitRole
+no-role [] h k = refl
+no-role (f ∷ fs) h zero = other-role (f .role) (h f (List·Memᴰ·head refl))
+no-role (f ∷ fs) h (suc k) = no-role fs (λ g m. h g (List·Memᴰ·tail m)) k
+
+none-kept : (test : Definition → Bool) → ((d : Definition) → test d ≡ false) → (l : List Definition) → keep test l ≡ []
+unfolding keep
+none-kept test h [] = refl
+none-kept test h (d ∷ l) = rw (h d) (none-kept test h l)
+
+no-init-tree : (fs : List File) → NoInit fs → initTree fs ≡ end
+unfolding initTree
+no-init-tree [] h = refl
+no-init-tree (f ∷ fs) h = rw (other-role (f .role) (h f (List·Memᴰ·head refl))) (no-init-tree fs (λ g m. h g (List·Memᴰ·tail m)))
+
+no-decs : (n : ℕ) → decsVerdict n [] ≡ Passed
+unfolding decsVerdict onceVerdict bodiesVerdict bodiesFit circleVerdict findType
+no-decs n = pass-both (eachName (λ k. Passed) 0 n) Passed (passed-names (λ k. Passed) 0 n (λ i l u. refl)) refl
+
+init-verdict : (b : Book) → NoInit (b .files) → initVerdict b ≡ Passed
+unfolding initVerdict initDefinitions mergeVerdict sameVerdict findType kidsOf checkForest
+init-verdict b h =
+    let none : initDefinitions b ≡ [] = none-kept _ (λ d. no-role (b .files) h (d .file)) (b .definitions) in
+    rw (none, no-init-tree (b .files) h, no-decs (names b)) (pass-both (eachName (λ k. Passed) 0 (names b)) Passed (passed-names (λ k. Passed) 0 (names b) (λ i l u. refl)) refl)
+
+and-passed : (v : Verdict) → andThen v Passed ≡ v
+and-passed Passed = refl
+and-passed (Refused r) = refl
+
+pub without-init : (b : Book) → NoInit (b .files) → initCheck b ≡ check b
+unfolding initCheck
+without-init b h = rw (init-verdict b h) (and-passed (check b))
+
+-- ---- The rows that there are: 2 to 10 and 12 to 14 in the check of a book, and 11 besides in the init check
+abbrev pub checkRows : List ℕ
+checkRows = 2 ∷ 3 ∷ 4 ∷ 5 ∷ 6 ∷ 7 ∷ 8 ∷ 9 ∷ 10 ∷ 12 ∷ 13 ∷ 14 ∷ []
+
+-- The other refusals.
+data Outside : Refusal → Type 0 where
+  broken-row : Outside Broken
+  differs-row : {n : ℕ} → Outside (Differs n)
+  absent-row : {n : ℕ} → Outside (Absent n)
+  short-row : {n : ℕ} → Outside (Short n)
+  actor-row : Outside NoActor
+
+in-or-out : (r : Refusal) → T (member (numberOf r) checkRows) ⊎ Outside r
+unfolding member
+in-or-out Broken = inr broken-row
+in-or-out (Twice n) = inl tt
+in-or-out (Unbound n) = inl tt
+in-or-out Class = inl tt
+in-or-out Modes = inl tt
+in-or-out Oneway = inl tt
+in-or-out (Circle n) = inl tt
+in-or-out NoFunction = inl tt
+in-or-out (MethodNoFunction n) = inl tt
+in-or-out NoService = inl tt
+in-or-out (Differs n) = inr differs-row
+in-or-out (ImportWithoutActor n) = inl tt
+in-or-out (ImportNoService n) = inl tt
+in-or-out (SameHash n) = inl tt
+in-or-out (Absent n) = inr absent-row
+in-or-out (Short n) = inr short-row
+in-or-out NoActor = inr actor-row
+
+none-of : {A : Type 0} → ⊥ ⊎ (⊥ ⊎ ⊥) → A
+none-of s = absurd (⊎-elim (λ (x : ⊥). x) (⊎-elim (λ (x : ⊥). x) (λ (x : ⊥). x)) s)
+
+not-outside : (b : Book) {r : Refusal} → Outside r → CheckRow b r → ⊥
+not-outside b broken-row s = none-of s
+not-outside b differs-row s = none-of s
+not-outside b absent-row s = none-of s
+not-outside b short-row s = none-of s
+not-outside b actor-row s = none-of s
+
+outside-init : (b : Book) {r : Refusal} → Outside r → InitRow b r → numberOf r ≡ 11
+outside-init b broken-row s = none-of s
+outside-init b differs-row s = refl
+outside-init b absent-row s = none-of s
+outside-init b short-row s = none-of s
+outside-init b actor-row s = none-of s
+
+pub check-numbers : (b : Book) (r : Refusal) → CheckRow b r → List·Memᴰ (numberOf r) checkRows
+check-numbers b r s = ⊎-elim (member-says (numberOf r) checkRows .0) (λ o. absurd (not-outside b o s)) (in-or-out r)
+
+pub init-numbers : (b : Book) (r : Refusal) → CheckRow b r ⊎ InitRow b r → List·Memᴰ (numberOf r) (11 ∷ checkRows)
+init-numbers b r (inl s) = List·Memᴰ·tail (check-numbers b r s)
+init-numbers b r (inr s) =
+    elim (in-or-out r) [
+      | inl t ↦ List·Memᴰ·tail (member-says (numberOf r) checkRows .0 t)
+      | inr o ↦ List·Memᴰ·head (outside-init b o s)
+    ]
+
+-- ---- On bytes
+
+-- The bytes are the layout of a book of which P holds.
+pub record BookIn (bs : List ℕ) (P : Book → Type 0) : Type 0 where
+  pub book : Book
+  pub laidOut : layout bs ≡ whole book
+  pub holds : P book
+
+module _ (f : Book → Verdict) (P : Book → Type 0) (bs : List ℕ) where
+  bytes-says : ((b : Book) → Fits b → (f b ≡ Passed) ↔ P b) → (onLayout f (layout bs) ≡ Passed) ↔ BookIn bs P
+  unfolding onLayout
+  bytes-says says = (go (layout bs) refl, λ x. rw (x .laidOut) (says (x .book) (found bs (x .book) .0 (x .laidOut) .0) .1 (x .holds)))
+    where
+      go : (l : Layout) → layout bs ≡ l → onLayout f l ≡ Passed → BookIn bs P
+      go broken w e = refused-passed e
+      go (whole b) w e = record { book = b; laidOut = w; holds = says b (found bs b .0 w .0) .0 e }
+
+  bytes-row : {r : Refusal} → ((b : Book) → f b ≡ Refused r → P b) → onLayout f (layout bs) ≡ Refused r → ((r ≡ Broken) × (layout bs ≡ broken)) ⊎ BookIn bs P
+  unfolding onLayout
+  bytes-row {r} row = go (layout bs) refl
+    where
+      go : (l : Layout) → layout bs ≡ l → onLayout f l ≡ Refused r → ((r ≡ Broken) × (layout bs ≡ broken)) ⊎ BookIn bs P
+      go broken w e = inl (cc, w)
+      go (whole b) w e = inr record { book = b; laidOut = w; holds = row b e }
+
+pub check-bytes-says : (bs : List ℕ) → (checkBytes bs ≡ Passed) ↔ BookIn bs (λ b. WellFormed b × Rust b)
+unfolding checkBytes
+check-bytes-says bs = bytes-says check (λ b. WellFormed b × Rust b) bs check-says
+
+pub check-bytes-row : (bs : List ℕ) {r : Refusal} → checkBytes bs ≡ Refused r → ((r ≡ Broken) × (layout bs ≡ broken)) ⊎ BookIn bs (λ b. CheckRow b r)
+unfolding checkBytes
+check-bytes-row bs {r} e = bytes-row check (λ b. CheckRow b r) bs (λ b. check-row b) e
+
+pub init-check-bytes-says : (bs : List ℕ) →
+    (initCheckBytes bs ≡ Passed) ↔ BookIn bs (λ b. (WellFormed b × Rust b) × (WellFormedInit b × RustInit b))
+unfolding initCheckBytes
+init-check-bytes-says bs = bytes-says initCheck (λ b. (WellFormed b × Rust b) × (WellFormedInit b × RustInit b)) bs init-check-says
+
+pub init-check-bytes-row : (bs : List ℕ) {r : Refusal} → initCheckBytes bs ≡ Refused r →
+    ((r ≡ Broken) × (layout bs ≡ broken)) ⊎ BookIn bs (λ b. CheckRow b r ⊎ InitRow b r)
+unfolding initCheckBytes
+init-check-bytes-row bs {r} e = bytes-row initCheck (λ b. CheckRow b r ⊎ InitRow b r) bs (λ b. init-check-row b) e
+
+-- The rows that there are, with 1.
+pub check-bytes-numbers : (bs : List ℕ) {r : Refusal} → checkBytes bs ≡ Refused r → List·Memᴰ (numberOf r) (1 ∷ checkRows)
+check-bytes-numbers bs {r} e =
+    ⊎-elim (λ x. List·Memᴰ·head (ap numberOf (x .0))) (λ x. List·Memᴰ·tail (check-numbers (x .book) r (x .holds))) (check-bytes-row bs e)
+
+pub init-check-bytes-numbers : (bs : List ℕ) {r : Refusal} → initCheckBytes bs ≡ Refused r → List·Memᴰ (numberOf r) (1 ∷ 11 ∷ checkRows)
+init-check-bytes-numbers bs {r} e =
+    ⊎-elim (λ x. List·Memᴰ·head (ap numberOf (x .0))) (λ x. List·Memᴰ·tail (init-numbers (x .book) r (x .holds))) (init-check-bytes-row bs e)
