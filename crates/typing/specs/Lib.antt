@@ -1,2 +1,3 @@
 -- What the contracts of the check cite. The definitions of the check itself are those of the crate `judgement`.
 pub mod Walk
+pub mod Split
