@@ -238,7 +238,7 @@ def faults(data, packed=False):
 
 LEAVES = ("null bool nat int nat8 nat16 nat32 nat64 int8 int16 int32 int64 "
           "float32 float64 text reserved empty principal").split()
-WORDS = set(LEAVES) | set("blob opt vec record variant func service class args unnamed repeat type file names "
+WORDS = set(LEAVES) | set("blob opt vec record variant func service class args unnamed repeat nest type file names "
                           "oneway query composite_query import".split())
 MODES = (None, "oneway", "query", "composite_query")
 ROLES = ("main", "type", "service", "init")

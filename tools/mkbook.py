@@ -13,6 +13,8 @@ Nothing is judged here: whatever can be written down is encoded as it stands.
     names = TEXT TEXT ..               the whole name table as it stands here, neither sorted nor completed
     repeat N { .. }                    the tokens between the braces N times, at any place; a run of # in them is
                                        the number of the round from 0, padded with 0 to the run's length
+    nest N { A .. | B .. } { C .. }    A N times, C, then B N times: N things, each inside the one before. A run of # is
+                                       as above, and in a B that of the A that it closes
 
     TYPE    null bool nat .. principal, blob, NAME, opt TYPE, vec TYPE, record { FIELD; .. },
             variant { FIELD; .. }, func FUNC, service { METHOD; .. }, class ACTOR, args (TYPE, ..)
@@ -92,7 +94,7 @@ class SourceError(Exception):
 
 # Tokens
 
-TOKEN = re.compile(r'(?P<skip>\s+|//[^\n]*|/\*.*?\*/)|"(?:[^"\\]|\\.)*"|->|[+-]=|[\w#]+|[{}()\[\]:;,.=*+]',
+TOKEN = re.compile(r'(?P<skip>\s+|//[^\n]*|/\*.*?\*/)|"(?:[^"\\]|\\.)*"|->|[+-]=|[\w#]+|[{}()\[\]:;,.=*+|]',
                    re.S | re.A)
 
 
@@ -110,20 +112,43 @@ def tokens(text):
 
 
 def repeated(stream, closing):
-    """The tokens up to the closing brace of a repeat, or all, with the repeats among them written out."""
+    """The tokens up to the closing brace of a repeat, or all, with the repeats and nests among them written out."""
     out, depth = [], 0
     for token in stream:
         if token == "repeat":
-            count, _ = number(next(stream)), next(stream)
-            body = repeated(stream, "}")
+            count, body = counted(stream)
             for turn in range(count):
-                out += [re.sub("#+", lambda run: str(turn).zfill(len(run[0])), word) for word in body]
+                out += numbered(body, turn)
+            continue
+        if token == "nest":
+            count, body = counted(stream)
+            bar = body.index("|") if "|" in body else len(body)
+            for turn in range(count):
+                out += numbered(body[:bar], turn)
+            out += braced(stream)
+            for turn in reversed(range(count)):
+                out += numbered(body[bar + 1:], turn)
             continue
         if token == closing and depth == 0:
             return out
         depth += (token == "{") - (token == "}")
         out.append(token)
     return out
+
+
+def counted(stream):
+    """A number and the tokens in the braces after it."""
+    return number(next(stream)), braced(stream)
+
+
+def braced(stream):
+    if next(stream, "") != "{":
+        raise SourceError("{ expected after repeat or nest")
+    return repeated(stream, "}")
+
+
+def numbered(body, turn):
+    return [re.sub("#+", lambda run: str(turn).zfill(len(run[0])), word) for word in body]
 
 
 def number(token):

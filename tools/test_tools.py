@@ -12,6 +12,7 @@ import antt_bytes
 import layout
 import mkbatch
 import mkbook
+import mkgate
 
 HERE = os.path.dirname(os.path.abspath(__file__))
 FOLDER = os.path.join(HERE, "..", "tests", "layout")
@@ -89,10 +90,11 @@ class Encoding(unittest.TestCase):
             "truncate 1": whole[:-1],
             "keep 31": whole[:31],
             "repeat 2 { append # }": whole + b"\x00\x01",
+            "nest 2 { append 1# | append 2# } { append 3 }": whole + bytes([10, 11, 3, 21, 20]),
         }.items():
             self.assertEqual(mkbook.book("type a = nat; " + damage), book, damage)
         for nonsense in ("type a = ;", "type a", "service : {", "patch nodes[1].size = 0", "patch nodes[0].age = 0",
-                         "append 0 patch nodes[0].size = 0", "patch nodes[0].kind = 256", "rubbish"):
+                         "append 0 patch nodes[0].size = 0", "patch nodes[0].kind = 256", "rubbish", "nest 2 { append 1 }"):
             with self.assertRaises(mkbook.SourceError, msg=nonsense):
                 mkbook.book("type a = nat; " + nonsense)
 
@@ -164,6 +166,11 @@ class Batch(unittest.TestCase):
                 found.append(" ".join([name, "whole"] + [str(len(part)) for part in layout.Reader(book).book]))
         self.assertEqual(found, lines)
         self.assertEqual(sorted(SOURCES), [line.split()[0] for line in lines])
+
+    def test_gate(self):
+        """What the programs are run on and must write is current."""
+        for name, data in mkgate.files().items():
+            self.assertTrue(mkgate.is_current(os.path.join(HERE, "..", name), data), name)
 
     def test_antt_bytes(self):
         text = antt_bytes.literal(BOOKS["p01"], 4)

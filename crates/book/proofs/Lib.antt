@@ -4,4 +4,4 @@ mod Entries
 mod Trees
 mod Names
 mod Parts
-mod Named
+pub mod Named

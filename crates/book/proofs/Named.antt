@@ -39,13 +39,17 @@ pub record Book-of (bs : List ℕ) (c : Contents) : Type 0 where
   pub laid : layout bs ≡ whole book
   pub table : contentsOf book ≡ c
 
-pub name-broken : (bs : List ℕ) (n : ℕ) → Broken ≡ reading bs → [] ≡ nameIn bs n
-unfolding reading nameIn
-name-broken bs n e = go (layout bs) e
+pub broken-of : (bs : List ℕ) → Broken ≡ reading bs → layout bs ≡ broken
+unfolding reading
+broken-of bs e = go (layout bs) e
   where
-    go : (l : Layout) → Broken ≡ asReading l → [] ≡ nameOf l n
+    go : (l : Layout) → Broken ≡ asReading l → l ≡ broken
     go broken e = refl
     go (whole b) e = let z : _≡_ {A = ℕ} 0 1 = cc in let f : ⊥ = omega arith in absurd f
+
+pub name-broken : (bs : List ℕ) (n : ℕ) → Broken ≡ reading bs → [] ≡ nameIn bs n
+unfolding nameIn
+name-broken bs n e = rw (broken-of bs e)
 
 pub book-of : (bs : List ℕ) (c : Contents) → Whole c ≡ reading bs → Book-of bs c
 unfolding reading
@@ -56,9 +60,12 @@ book-of bs c e = go (layout bs) refl e
     go (whole b) w e = record { book = b; laid = w; table = cc }
 
 module _ {bs : List ℕ} {c : Contents} (o : Book-of bs c) where
-  names-are : length (o .book .names) ≡ c .names
+  pub names-are : length (o .book .names) ≡ c .names
   unfolding contentsOf
   names-are = ap (λ (d : Contents). d .names) (o .table)
+
+  pub names-few : c .names ≤ 1024
+  names-few = omega (arith, fit-parts (found bs (o .book) .0 (o .laid) .0) .fewNames, names-are)
 
   part-is : part 32 (c .«nodes_at») bs ≡ namesBytes (o .book)
   unfolding contentsOf namesPart

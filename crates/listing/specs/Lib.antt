@@ -1,0 +1,7 @@
+-- What the questions answer. Read in this order: Chase, Recursive, Uses, Project, Questions; then References, which says what they mean.
+pub mod Chase
+pub mod Recursive
+pub mod Uses
+pub mod Project
+pub mod Questions
+pub mod References

@@ -1,0 +1,84 @@
+#!/usr/bin/env python3
+"""Writes what the programs are run on and must write:  python3 tools/mkgate.py [--check]
+
+    crates/show_book/stdin, stdout        P1 and its table
+    crates/layout_batch/stdin, stdout     the batch of all sources in tests/layout, with a line for each
+
+Books come from the sources by tools/mkbook.py. What the programs must write comes from the sources' first lines and
+from tools/layout.py, which reads the bytes by the paper alone, and never from the programs. With --check nothing is
+written: the files that are not current are named, and the exit status is 1 if there are any.
+"""
+
+import os
+import sys
+
+import layout
+import mkbatch
+import mkbook
+
+ROOT = os.path.join(os.path.dirname(os.path.abspath(__file__)), "..")
+SOURCES = os.path.join(ROOT, "tests", "layout")
+
+
+def table(book):
+    """What show_book prints."""
+    reader = layout.Reader(book)
+    if reader.faults:
+        return "refused 1 -\n"
+    counts = " ".join(f"{len(part)} {name}" for name, part in zip(layout.Book._fields, reader.book))
+    names = "".join(f"{number} {layout.quoted(name)}\n" for number, name in enumerate(reader.book.names))
+    return f"book {counts}\n{names}"
+
+
+def batch():
+    """The records and lines of all sources, and how many names layout_batch asks for: all, and two more of each book."""
+    records, lines, asked = b"", "", 0
+    for name, text in mkbatch.sources(SOURCES):
+        book = mkbook.book(text)
+        reader = layout.Reader(book)
+        assert bool(reader.faults) == bool(mkbatch.broken_rules(text)), f"{name}: what its first line says is not so"
+        records += mkbatch.record(name, book)
+        if reader.faults:
+            lines += f"{name} refused 1 -\n"
+        else:
+            lines += " ".join([name, "whole", *(str(len(part)) for part in reader.book)]) + "\n"
+            asked += len(reader.book.names)
+        asked += 2
+    return records, lines + f"names {asked} asked {asked} agree\n"
+
+
+def files():
+    """Each file with its contents."""
+    with open(os.path.join(SOURCES, "p01.did"), encoding="utf-8") as file:
+        p1 = mkbook.book(file.read())
+    records, lines = batch()
+    return {
+        "crates/show_book/stdin": bytes(p1),
+        "crates/show_book/stdout": table(p1).encode(),
+        "crates/layout_batch/stdin": records,
+        "crates/layout_batch/stdout": lines.encode(),
+    }
+
+
+def is_current(path, data):
+    try:
+        with open(path, "rb") as file:
+            return file.read() == data
+    except FileNotFoundError:
+        return False
+
+
+def main():
+    if sys.argv[1:] not in ([], ["--check"]):
+        sys.exit("usage: python3 tools/mkgate.py [--check]")
+    stale = [(name, data) for name, data in files().items() if not is_current(os.path.join(ROOT, name), data)]
+    for name, data in stale:
+        print(f"{name}: {'not current' if sys.argv[1:] else 'written'}")
+        if not sys.argv[1:]:
+            with open(os.path.join(ROOT, name), "wb") as file:
+                file.write(data)
+    sys.exit(1 if stale and sys.argv[1:] else 0)
+
+
+if __name__ == "__main__":
+    main()
