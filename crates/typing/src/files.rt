@@ -3,7 +3,6 @@ ghost use mathlib.Core.Path.{_≡_};
 ghost use Prim.Native.Nat.{_≤_};
 ghost use Rattle.book.specs.Reading.{EntryWithin};
 ghost use Rattle.typing.specs.Split.{initAt, SplitAs};
-
 use book::kinds::Role;
 use book::read::Entry;
 

@@ -9,6 +9,7 @@ ghost use Rattle.format.specs.Layout.{rowAt, siblings};
 ghost use Rattle.judgement.specs.Check.{checkForest};
 ghost use Rattle.environment.specs.Tables.{Ended, endIs};
 ghost use Rattle.typing.specs.Walk.{Trees, Methods, Env, boundVerdict, valueVerdict, typeVerdict, funcVerdict};
+
 pub mod files;
 
 use book::kinds::Kind;

@@ -18,11 +18,11 @@ at-requires c κs = search needs
 
 returns : tie.Need-returns
 unfolding initAt
-returns c =     rw (sym (ap (λ (q : Entry). q .owner) (c .before .before .at .ensures)) ∙ c .if1 .taken)
+returns c = rw (sym (ap (λ (q : Entry). q .owner) (c .before .before .at .ensures)) ∙ c .if1 .taken)
 
 returns-2 : tie.Need-returns-2
 unfolding initAt
-returns-2 c =     rw (ne-eqb _ _ (λ e. c .if1 .left (ap (λ (q : Entry). q .owner) (c .before .before .at .ensures) ∙ e)))
+returns-2 c = rw (ne-eqb _ _ (λ e. c .if1 .left (ap (λ (q : Entry). q .owner) (c .before .before .at .ensures) ∙ e)))
 
 pub init-file-spec : {M : Type 1} → statement M
 init-file-spec = tie.close (tie.spec sub-last at-requires returns returns-2)

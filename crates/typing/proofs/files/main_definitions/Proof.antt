@@ -22,7 +22,7 @@ loop-holds : tie.Need-loop-holds Inv-loop μ-loop
 loop-holds c = (omega arith, λ k h. absurd (omega arith))
 
 at-requires : tie.Need-at-requires Inv-loop μ-loop
-at-requires c κs =     record { held = omega (arith, c .before .before .before .pre .held, c .loop-test .taken); few = c .before .before .before .pre .few }
+at-requires c κs = record { held = omega (arith, c .before .before .before .pre .held, c .loop-test .taken); few = c .before .before .before .pre .few }
 
 cast-if1 : tie.Need-cast-if1 Inv-loop μ-loop
 cast-if1 c = search needs
@@ -42,10 +42,10 @@ loop-less : tie.Need-loop-less Inv-loop μ-loop
 loop-less c = omega (arith, c .before .before .before .loop-test .taken)
 
 loop-again : tie.Need-loop-again Inv-loop μ-loop
-loop-again c =     (omega (arith, c .before .before .before .loop-test .taken), below-more _ _ (c .before .before .before .before .loop .inv .1) (λ e. c .if1 .left (ap (λ (q : Entry). q .owner) (c .before .before .at .ensures) ∙ e)))
+loop-again c = (omega (arith, c .before .before .before .loop-test .taken), below-more _ _ (c .before .before .before .before .loop .inv .1) (λ e. c .if1 .left (ap (λ (q : Entry). q .owner) (c .before .before .at .ensures) ∙ e)))
 
 returns-2 : tie.Need-returns-2 Inv-loop μ-loop
-returns-2 c =     record { within = omega arith; before = λ k h. c .before .loop .inv .1 k (omega (arith, c .loop-test .left)); next = λ h. absurd (omega arith) }
+returns-2 c = record { within = omega arith; before = λ k h. c .before .loop .inv .1 k (omega (arith, c .loop-test .left)); next = λ h. absurd (omega arith) }
 
 pub main-definitions-spec : {M : Type 1} → statement M
 main-definitions-spec =
