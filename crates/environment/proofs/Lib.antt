@@ -3,3 +3,5 @@ pub mod Links
 pub mod Defines
 pub mod Ends
 pub mod EndKinds
+pub mod Laws
+pub mod AsFunc

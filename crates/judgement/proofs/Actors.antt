@@ -103,6 +103,10 @@ service-refused else′ (ends t) e = let u = unless-refused (rootPasses isServKi
 abbrev Unserved : List Definition → Refusal → Forest Node → Refusal → Type 0
 Unserved ds else′ t r = ((n : ℕ) × (r ≡ Unbound n) × MeetsUnbound ds n t) ⊎ ((r ≡ else′) × (StandsFor isServKind ds t → ⊥))
 
+-- There is an actor, and it is no service.
+abbrev NoServer : List Definition → Forest Node → Type 0
+NoServer ds t = (t ≡ end → ⊥) × (StandsFor isServKind ds (belowClass t) → ⊥)
+
 some-tree : {n : Node} {kids next : Forest Node} {A : Type 0} → tree n kids next ≡ end → A
 some-tree e = let z : _≡_ {A = ℕ} 0 1 = cc in absurd (omega arith)
 
@@ -140,10 +144,10 @@ module _ (ds : List Definition) (once : Distinct (map nameOf ds)) where
   main-says (tree n kids next) =
       let s = serves-says NoService (belowClass (tree n kids next)) in (λ e. inr (s .0 e), ⊎-elim (λ q. some-tree q) (s .1))
 
-  main-refused : (main : Forest Node) {r : Refusal} → mainVerdict ds main ≡ Refused r → Unserved ds NoService (belowClass main) r
+  main-refused : (main : Forest Node) {r : Refusal} → mainVerdict ds main ≡ Refused r → (main ≡ end → ⊥) × Unserved ds NoService (belowClass main) r
   unfolding mainVerdict noTrees
   main-refused end e = passed-refused e
-  main-refused (tree n kids next) e = serves-refused NoService (belowClass (tree n kids next)) e
+  main-refused (tree n kids next) e = (λ q. some-tree q, serves-refused NoService (belowClass (tree n kids next)) e)
 
   -- ---- 13: each service import is a service
   imported-each : (fs : List File) → importedVerdict ds fs ≡ each (λ f. serviceVerdict (ImportNoService (f .name)) (aliasEnd ds (f .actor))) fs
@@ -191,14 +195,14 @@ module _ (ds : List Definition) (once : Distinct (map nameOf ds)) where
       )
 
   walked-refused : (t : Forest Node) {r : Refusal} → actorVerdict ds t ≡ Refused r →
-      TreesRow ds (belowTop t) r ⊎ ((r ≡ NoService) × (StandsFor isServKind ds (belowClass t) → ⊥))
+      TreesRow ds (belowTop t) r ⊎ ((r ≡ NoService) × NoServer ds t)
   unfolding actorVerdict noTrees belowTop
   walked-refused end e = passed-refused e
   walked-refused (tree n kids next) e =
       let t = tree n kids next in
       elim (which-refused (checkForest false false ds (belowTop t)) (unless (asService ds (belowClass t)) NoService) e) [
         | inl h ↦ inl (walk-refused (belowTop t) h)
-        | inr h ↦ let u = unless-refused (asService ds (belowClass t)) NoService (h .1) in inr (u .1, λ s. u .0 (service-says ds once (belowClass t) .1 s))
+        | inr h ↦ let u = unless-refused (asService ds (belowClass t)) NoService (h .1) in inr (u .1, (λ q. some-tree q, λ s. u .0 (service-says ds once (belowClass t) .1 s)))
       ]
 
 -- ---- 12: a service import has an actor
@@ -365,9 +369,9 @@ module _ (b : Book) (once : Distinct (map nameOf (mainDefinitions b))) where
   abbrev imports : List File
   imports = serviceImports (b .files)
 
-  main-row : {r : Refusal} → Unserved ds NoService (belowClass (mainActor b)) r → ActorRow b r
-  main-row (inl x) = rw (x .1) (inl (class-meets ds (mainActor b) (x .0) (x .2)))
-  main-row (inr x) = rw (x .0) (x .1)
+  main-row : {r : Refusal} → (mainActor b ≡ end → ⊥) → Unserved ds NoService (belowClass (mainActor b)) r → ActorRow b r
+  main-row some (inl x) = rw (x .1) (inl (class-meets ds (mainActor b) (x .0) (x .2)))
+  main-row some (inr x) = rw (x .0) (some, x .1)
 
   import-row : (f : File) {r : Refusal} → List·Memᴰ f imports → Unserved ds (ImportNoService (f .name)) (f .actor) r → ActorRow b r
   import-row f m (inl x) = rw (x .1) (inr (f, m, x .2))
@@ -379,7 +383,7 @@ module _ (b : Book) (once : Distinct (map nameOf (mainDefinitions b))) where
   resolve-with (f ∷ fs) q e =
       let methods = kidsOf (belowClass (resolveActor b)) in
       elim (which-refused (mainVerdict ds (mainActor b)) (andThen (importedVerdict ds (f ∷ fs)) (hashesVerdict (b .names) [] methods)) e) [
-        | inl h ↦ main-row (main-refused ds once (mainActor b) h)
+        | inl h ↦ let x = main-refused ds once (mainActor b) h in main-row (x .0) (x .1)
         | inr h ↦ elim (which-refused (importedVerdict ds (f ∷ fs)) (hashesVerdict (b .names) [] methods) (h .1)) [
           | inl k ↦ let x = imported-refused ds once (f ∷ fs) k in import-row (x .0) (subst (λ (l : List File). List·Memᴰ (x .0) l) (sym q) (x .1)) (x .2)
           | inr k ↦ let x = hashes-refused (b .names) methods (k .1) in rw (x .1) (λ z. some-file (sym q ∙ z), x .2)
@@ -390,11 +394,10 @@ module _ (b : Book) (once : Distinct (map nameOf (mainDefinitions b))) where
   resolve-refused e = resolve-with imports refl e
 
   -- a resolved actor that is no service is the main actor as written
-  written : (fs : List File) → (StandsFor isServKind ds (belowClass (resolveWith ds (mainActor b) fs)) → ⊥) →
-      StandsFor isServKind ds (belowClass (mainActor b)) → ⊥
+  written : (fs : List File) → NoServer ds (resolveWith ds (mainActor b) fs) → NoServer ds (mainActor b)
   unfolding resolveWith
   written [] h = h
-  written (f ∷ fs) h = absurd (h (merged-stands ds (mainActor b) (f ∷ fs)))
+  written (f ∷ fs) h = absurd (h .1 (merged-stands ds (mainActor b) (f ∷ fs)))
 
   pub actor-refused : {r : Refusal} → actorVerdict ds (resolveActor b) ≡ Refused r → TreesRow ds (belowTop (resolveActor b)) r ⊎ ActorRow b r
   unfolding resolveActor

@@ -27,12 +27,12 @@ every-listed test (c ∷ l) t a m =
     ⊎-elim (λ e. subst (λ x. T (test x)) (sym e) (p .0)) (λ k. every-listed test l (p .1) a k) (List·Memᴰ·cases-cons m)
 
 -- A definition's name, its sole tree, and that it fits.
-definition-fits : (names files : ℕ) (d : Definition) → T (definitionFits names files d) →
+pub definition-fits : (names files : ℕ) (d : Definition) → T (definitionFits names files d) →
     (d .name < names) × (breadth (d .body) ≡ 1) × T (forestFits names Root (d .body))
 unfolding definitionFits
 definition-fits names files d t = let p = simp says at t in (p .0 .0 .0 .0, p .0 .0 .1, p .1)
 
-file-fits : (names : ℕ) (f : File) → T (fileFits names f) → T (forestFits names Root (f .actor))
+pub file-fits : (names : ℕ) (f : File) → T (fileFits names f) → T (forestFits names Root (f .actor))
 unfolding fileFits
 file-fits names f t = (simp says at t) .1
 

@@ -10,21 +10,20 @@
 use mathlib.Core.Path.{_≡_, refl, sym, ap, subst, _∙_}
 use mathlib.Core.Logic.{_↔_, _⊎_, inl, inr, ⊎-elim, ⊎-map}
 use mathlib.Core.Bool.{Bool, true, false, not}
-use mathlib.Core.List.{List, [], _∷_, _++_, map, List·Memᴰ, List·Memᴰ·head, List·Memᴰ·cases-cons, List·Memᴰ·not-nil, Memᴰ·append-left}
+use mathlib.Core.List.{List, [], _∷_, map, List·Memᴰ, List·Memᴰ·cases-cons, List·Memᴰ·not-nil}
 use Prim.Native.Nat.{ℕ, zero, suc, _+_, _≤_, _<_}
 use native.Mathlib.Omega.{arith}
 use lib.Dec.{T}
 use lib.ListN.{length, length-map}
 use Rattle.format.specs.Forest.{Forest, end, tree, breadth}
-use Rattle.format.specs.Node.{Kind, PrimT, VarT, OptT, VecT, RecordT, VariantT, FuncT, ServT, ClassT, InitT, Node}
+use Rattle.format.specs.Node.{Kind, Node}
 use Rattle.format.specs.Book.{Definition}
-use Rattle.format.specs.References.{references}
-use Rattle.format.specs.References as refer
-use Rattle.judgement.specs.Environment.{missing, body, findType, Head, named, other, headKind, head, End, unbound, circle, ends, Chain, met, link, cross, chainFrom, chain, aliasEnd, isFuncKind, isServKind, rootPasses, asFunc, asService}
+use Rattle.judgement.specs.Environment.{missing, body, findType, Head, named, other, head, End, unbound, circle, ends, Chain, met, link, cross, chainFrom, chain, aliasEnd, isFuncKind, isServKind, rootPasses, asFunc, asService}
 use Rattle.judgement.specs.Check.{isCircle}
 use Rattle.judgement.specs.WellFormed.{Distinct, none, more, nameOf, Defined, Leads, arrived, onward, RootIs, StandsFor, Bound}
 use Rattle.judgement.specs.Rows.{Goes, NeverEnds, MeetsUnbound}
 use Rattle.judgement.proofs.Lookup.{pigeonhole, found-cases, not-both-found, find-body, found-defined, find-missing, find-named}
+use Rattle.judgement.proofs.Occurs.{other-named, head-refers}
 
 -- What an end of the chain says of the type it started from.
 abbrev pub Means : List Definition → Forest Node → End → Type 0
@@ -37,28 +36,6 @@ unfolding isCircle
 is-circle (unbound n) h = absurd (h tt)
 is-circle circle h = refl
 is-circle (ends t) h = absurd (h tt)
-
--- ---- A type that is a name refers to it
-other-named : {A : Type 0} {h : Head} {n : ℕ} → h ≡ other → h ≡ named n → A
-other-named e f = let z : _≡_ {A = ℕ} 0 1 = cc in absurd (omega arith)
-
-kind-refers : (k : Kind) (n : ℕ) → headKind k ≡ named n → List·Memᴰ n (refer.nameOf k)
-unfolding headKind refer.nameOf
-kind-refers (PrimT p) n e = other-named refl e
-kind-refers (VarT m) n e = let q : n ≡ m = cc in List·Memᴰ·head q
-kind-refers OptT n e = other-named refl e
-kind-refers VecT n e = other-named refl e
-kind-refers RecordT n e = other-named refl e
-kind-refers VariantT n e = other-named refl e
-kind-refers (FuncT a ms) n e = other-named refl e
-kind-refers ServT n e = other-named refl e
-kind-refers ClassT n e = other-named refl e
-kind-refers InitT n e = other-named refl e
-
-pub head-refers : (t : Forest Node) (n : ℕ) → head t ≡ named n → List·Memᴰ n (references t)
-unfolding head references
-head-refers end n e = other-named refl e
-head-refers (tree m kids next) n e = Memᴰ·append-left (references kids ++ references next) (kind-refers (m .kind) n e)
 
 module _ (ds : List Definition) where
   -- ---- A chain that ends
@@ -155,7 +132,7 @@ module _ (ds : List Definition) where
 
   pub run-means : {t : Forest Node} {ns : List ℕ} {e : End} → Run t ns e → Means ds t e
   run-means (stops h) = arrived h
-  run-means {t = t} (loses {n = n} b) = inr (head-refers t n (b .is-name), find-missing ds n (b .no-type))
+  run-means {t = t} (loses {n = n} b) = inr (head-refers t (b .is-name), find-missing ds n (b .no-type))
   run-means (crosses {e = e} s r) = means-on s e (run-means r)
 
   -- ---- Fuel for k names: no more are crossed, and the chain ends or goes on for one more

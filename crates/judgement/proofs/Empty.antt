@@ -4,26 +4,24 @@
 -- closes a circle, since all names that are visited lead to the one at hand.
 use mathlib.Core.Path.{_≡_, refl, sym, ap, ap₂, subst, _∙_}
 use mathlib.Core.Logic.{_⊎_, inl, inr, _↔_, _≢_}
-use mathlib.Core.Bool.{Bool, true, false, cond, not}
+use mathlib.Core.Bool.{Bool, true, false, cond}
 use mathlib.Core.List.{List, [], _∷_, _++_, map, List·Memᴰ, List·Memᴰ·head, List·Memᴰ·tail, List·Memᴰ·cases-cons, List·Memᴰ·not-nil, Memᴰ·cast, Memᴰ·of-map}
 use Prim.Native.Nat.{ℕ, zero, suc, _+_, _≤_, _<_}
 use native.Mathlib.Nat.{le-refl}
 use native.Mathlib.Decide.{ℕ-discrete}
 use native.Mathlib.Omega.{arith}
-use lib.Dec.{T}
 use lib.ListN.{length, getD, set, replicate, length-set, length-replicate}
 use lib.Seq.{getD-set-same, getD-set-other}
 use Rattle.labels.specs.declared.Label.the-variants.{Unnamed}
 use Rattle.format.specs.Forest.{Forest, end, tree}
 use Rattle.format.specs.Node.{Kind, PrimT, VarT, OptT, VecT, RecordT, VariantT, FuncT, ServT, ClassT, InitT, unlabelled, labelled, Node}
 use Rattle.format.specs.Book.{Definition, Book}
-use Rattle.format.specs.Fits.{every, isInitRole, definitionFits, Fits}
-use Rattle.format.proofs.Logic.{both, says}
-use Rattle.format.proofs.Encoded.{fit-parts}
-use Rattle.judgement.specs.Environment.{roleAt, mainDefinitions, Found, missing, body, findType, isMissing, Head, named, other, headKind}
+use Rattle.format.specs.Fits.{Fits}
+use Rattle.judgement.specs.Environment.{mainDefinitions, Found, missing, body, findType, isMissing, Head, named, other, headKind}
 use Rattle.judgement.specs.WellFormed.{Distinct, nameOf, Bound, WellFormedDefinitions}
 use Rattle.judgement.specs.Empty.{Mark, unvisited, visiting, answered, Visit, notEmpty, visitField, visitFields, visitType, visitFound, store, visitMarked, isEmpty, keysFrom, visitAll, isEmptyMark, emptyFrom, replaceEmpty, emptyNames, Steps, Reaches, here, BecomesEmpty, Ascends}
-use Rattle.judgement.proofs.Lookup.{find-named, keep-says}
+use Rattle.judgement.proofs.Lookup.{find-named}
+use Rattle.judgement.proofs.Books.{main-definitions-fit}
 use Rattle.judgement.proofs.Steps.{clash, headNames, fieldNames, kindNames, foundNames, names-steps, steps-names, step-reference, Acyclic, acyclic, Onward, onward, reaches, circle-of, on-circle, before-empty, not-empty, first-step}
 
 -- ---- The walk over the names by which a definition goes on
@@ -468,25 +466,9 @@ replaceEmpty-wider ds names more-names once bound inside h =
 
 -- ---- A book that passes the check
 
-every-listed : {A : Type 0} (test : A → Bool) (l : List A) → T (every test l) → {a : A} → List·Memᴰ a l → T (test a)
-unfolding every
-every-listed test [] h m = absurd (List·Memᴰ·not-nil m)
-every-listed test (x ∷ l) h {a} m = let p = both (test x) (every test l) h in go p (List·Memᴰ·cases-cons m) (every-listed test l (p .1))
-  where
-    go : T (test x) × T (every test l) → (a ≡ x) ⊎ List·Memᴰ a l → (List·Memᴰ a l → T (test a)) → T (test a)
-    go p (inl e) ih = subst (λ (y : _). T (test y)) (sym e) (p .0)
-    go p (inr i) ih = ih i
-
-definition-named : (names files : ℕ) (d : Definition) → T (definitionFits names files d) → d .name < names
-unfolding definitionFits
-definition-named names files d t = let p = simp says at t in p .0 .0 .0 .0
-
 module _ (b : Book) (fit : Fits b) (formed : WellFormedDefinitions (mainDefinitions b)) where
   named-inside : (d : Definition) → List·Memᴰ d (mainDefinitions b) → d .name < length (b .names)
-  unfolding mainDefinitions
-  named-inside d i =
-      let m = keep-says (λ (x : Definition). not (isInitRole (roleAt (b .files) (x .file)))) (b .definitions) d .0 i .0 in
-      definition-named _ _ d (every-listed (definitionFits (length (b .names)) (length (b .files))) (b .definitions) (fit-parts fit .definitions) m)
+  named-inside = main-definitions-fit b fit .exists
 
   names-bound : (d : Definition) → List·Memᴰ d (mainDefinitions b) → Bound (mainDefinitions b) (d .body)
   names-bound d i = formed .trees d i .bound

@@ -1,8 +1,8 @@
 -- Laws of the check, and the theorems that pin it.
 pub mod Verdicts
 pub mod Lookup
-pub mod Chains
 pub mod Occurs
+pub mod Chains
 pub mod Walks
 pub mod Each
 pub mod Decs

@@ -4,11 +4,12 @@
 --     member-says                  the test for a number in a list
 --     find-body, find-listed, ..   what `findType` finds
 --     keep-says, keep-distinct     the definitions that pass a test
+--     keep-first, keep-last        those are the first ones, or the last
 --     merge-first, merge-says, ..  the definitions of two files, those of the first first
 use mathlib.Core.Path.{_≡_, refl, sym, ap, subst, _∙_}
 use mathlib.Core.Logic.{_↔_, _⊎_, inl, inr, ⊎-elim, ⊎-map}
 use mathlib.Core.Bool.{Bool, true, false, cond, _||_}
-use mathlib.Core.List.{List, [], _∷_, _++_, map, map-append, List·Memᴰ, List·Memᴰ·head, List·Memᴰ·tail, List·Memᴰ·cases-cons, List·Memᴰ·not-nil, List·Memᴰ·append-cases, Memᴰ·append-left, Memᴰ·append-right, Memᴰ·cast, Memᴰ·map, Memᴰ·of-map}
+use mathlib.Core.List.{List, [], _∷_, _++_, append-nil, map, map-append, List·Memᴰ, List·Memᴰ·head, List·Memᴰ·tail, List·Memᴰ·cases-cons, List·Memᴰ·not-nil, List·Memᴰ·append-cases, Memᴰ·append-left, Memᴰ·append-right, Memᴰ·cast, Memᴰ·map, Memᴰ·of-map}
 use Prim.Native.Nat.{ℕ, suc, _≤_}
 use native.Mathlib.Decide.{ℕ-discrete}
 use native.Mathlib.Omega.{arith}
@@ -18,6 +19,7 @@ use lib.ListN.{length}
 use Rattle.format.specs.Forest.{Forest}
 use Rattle.format.specs.Node.{Node}
 use Rattle.format.specs.Book.{Definition}
+use Rattle.format.proofs.Lists.{All}
 use Rattle.judgement.specs.Environment.{keep, Found, missing, body, findType, isMissing, mergeDefinitions}
 use Rattle.judgement.specs.Check.{member}
 use Rattle.judgement.specs.WellFormed.{Distinct, none, more, nameOf, Defined}
@@ -191,6 +193,33 @@ module _ (test : Definition → Bool) where
   keep-distinct (c ∷ ds) once =
       let rest = keep-distinct ds (distinct-tail once) in
       keep-cons (λ l. Distinct (map nameOf l)) c ds (λ t. more (λ m. distinct-head once (keep-defined ds (c .name) m)) rest) (λ n. rest)
+
+  -- all of them pass, none of them, and a part of each
+  keep-all : (ds : List Definition) → All (λ (d : Definition). test d ≡ true) ds → keep test ds ≡ ds
+  unfolding keep
+  keep-all [] h = refl
+  keep-all (d ∷ ds) h = rw (h .0) (ap (λ (l : List Definition). d ∷ l) (keep-all ds (h .1)))
+
+  pub keep-none : (ds : List Definition) → All (λ (d : Definition). test d ≡ false) ds → keep test ds ≡ []
+  unfolding keep
+  keep-none [] h = refl
+  keep-none (d ∷ ds) h = rw (h .0) (keep-none ds (h .1))
+
+  keep-append : (xs ys : List Definition) → keep test (xs ++ ys) ≡ keep test xs ++ keep test ys
+  unfolding keep
+  keep-append [] ys = refl
+  keep-append (d ∷ xs) ys = go (test d) (keep-append xs ys)
+    where
+      go : (b : Bool) → keep test (xs ++ ys) ≡ keep test xs ++ keep test ys →
+          cond b (d ∷ keep test (xs ++ ys)) (keep test (xs ++ ys)) ≡ cond b (d ∷ keep test xs) (keep test xs) ++ keep test ys
+      go true e = ap (λ (l : List Definition). d ∷ l) e
+      go false e = e
+
+  pub keep-first : (xs ys : List Definition) → All (λ (d : Definition). test d ≡ true) xs → All (λ (d : Definition). test d ≡ false) ys → keep test (xs ++ ys) ≡ xs
+  keep-first xs ys h n = keep-append xs ys ∙ rw (keep-all xs h, keep-none ys n) (append-nil xs)
+
+  pub keep-last : (xs ys : List Definition) → All (λ (d : Definition). test d ≡ false) xs → All (λ (d : Definition). test d ≡ true) ys → keep test (xs ++ ys) ≡ ys
+  keep-last xs ys n h = keep-append xs ys ∙ rw (keep-none xs n, keep-all ys h)
 
   -- a name all of whose definitions pass
   find-keep : (n : ℕ) → ((d : Definition) → d .name ≡ n → T (test d)) → (ds : List Definition) → findType (keep test ds) n ≡ findType ds n

@@ -2,13 +2,16 @@
 -- Assumes nothing.
 --     Everywhere, Somewhere, EachTree    of all nodes, of one, of the trees beside each other
 --     reference-occurs, occurs-reference the names that trees refer to are nodes there
+--     head-refers                        a type that is a name refers to it
 use mathlib.Core.Path.{_≡_, refl, sym, ap}
 use mathlib.Core.Logic.{_⊎_, inl, inr, _↔_}
 use mathlib.Core.List.{_++_, List·Memᴰ, List·Memᴰ·head, List·Memᴰ·not-nil, List·Memᴰ·append-cases, List·Memᴰ·eq-of-singleton, Memᴰ·append-left, Memᴰ·append-right}
 use Prim.Native.Nat.{ℕ}
+use native.Mathlib.Omega.{arith}
 use Rattle.format.specs.Forest.{Forest, end, tree}
 use Rattle.format.specs.Node.{Kind, PrimT, VarT, OptT, VecT, RecordT, VariantT, FuncT, ServT, ClassT, InitT, Node}
 use Rattle.format.specs.References.{nameOf, references}
+use Rattle.judgement.specs.Environment.{Head, named, other, headKind, head}
 use Rattle.judgement.specs.WellFormed.{Occurs, here, below, after, Beside, first, later}
 
 -- P of each node with its children; of one of them; of each of the trees beside each other.
@@ -32,6 +35,10 @@ pub occurs-tree : {n m : Node} {kids lids next : Forest Node} → Occurs n kids 
 occurs-tree here = inl (refl, refl)
 occurs-tree (below o) = inr (inl o)
 occurs-tree (after o) = inr (inr o)
+
+pub beside-occurs : {n : Node} {kids f : Forest Node} → Beside n kids f → Occurs n kids f
+beside-occurs first = here
+beside-occurs (later o) = after (beside-occurs o)
 
 pub beside-tree : {n m : Node} {kids lids next : Forest Node} → Beside n kids (tree m lids next) → ((m ≡ n) × (lids ≡ kids)) ⊎ Beside n kids next
 beside-tree first = inl (refl, refl)
@@ -104,3 +111,25 @@ occurs-reference (after {m = m} {lids = lids} o) e = Memᴰ·append-right (nameO
 
 pub references-are : (f : Forest Node) (k : ℕ) → List·Memᴰ k (references f) ↔ Somewhere (IsVar k) f
 references-are f k = (reference-occurs f, λ s. occurs-reference (s .2) (s .3))
+
+-- A type that is a name refers to it.
+pub other-named : {A : Type 0} {h : Head} {n : ℕ} → h ≡ other → h ≡ named n → A
+other-named e f = let z : _≡_ {A = ℕ} 0 1 = cc in absurd (omega arith)
+
+pub named-var : (κ : Kind) {n : ℕ} → headKind κ ≡ named n → κ ≡ VarT n
+unfolding headKind
+named-var (PrimT p) e = other-named refl e
+named-var (VarT k) e = cc
+named-var OptT e = other-named refl e
+named-var VecT e = other-named refl e
+named-var RecordT e = other-named refl e
+named-var VariantT e = other-named refl e
+named-var (FuncT a ms) e = other-named refl e
+named-var ServT e = other-named refl e
+named-var ClassT e = other-named refl e
+named-var InitT e = other-named refl e
+
+pub head-refers : (t : Forest Node) {n : ℕ} → head t ≡ named n → List·Memᴰ n (references t)
+unfolding head
+head-refers end e = other-named refl e
+head-refers (tree m kids next) e = occurs-reference here (named-var (m .kind) e)

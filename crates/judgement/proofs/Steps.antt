@@ -5,17 +5,18 @@
 --     Acyclic, not-empty          where every way ends no circle is reached
 use mathlib.Core.Path.{_≡_, refl, sym, ap, _∙_}
 use mathlib.Core.Logic.{_⊎_, inl, inr}
-use mathlib.Core.List.{List, [], _∷_, _++_, map, List·Memᴰ, List·Memᴰ·head, List·Memᴰ·not-nil, List·Memᴰ·append-cases, List·Memᴰ·eq-of-singleton, Memᴰ·append-left, Memᴰ·append-right}
+use mathlib.Core.List.{List, [], _∷_, _++_, map, List·Memᴰ, List·Memᴰ·head, List·Memᴰ·not-nil, List·Memᴰ·append-cases, List·Memᴰ·eq-of-singleton, Memᴰ·append-right}
 use Prim.Native.Nat.{ℕ}
 use native.Mathlib.Omega.{arith}
 use Rattle.format.specs.Forest.{Forest, end, tree}
 use Rattle.format.specs.Node.{Kind, PrimT, VarT, OptT, VecT, RecordT, VariantT, FuncT, ServT, ClassT, InitT, Node}
 use Rattle.format.specs.Book.{Definition}
-use Rattle.format.specs.References.{nameOf as kindNameOf, references}
+use Rattle.format.specs.References.{references}
 use Rattle.judgement.specs.Environment.{Found, missing, body, findType, Head, named, other, headKind, head}
-use Rattle.judgement.specs.WellFormed.{Beside, first, later, Distinct, nameOf}
+use Rattle.judgement.specs.WellFormed.{below, Beside, first, later, Distinct, nameOf}
 use Rattle.judgement.specs.Empty.{Steps, alias, field, Reaches, here, by, Circle, BecomesEmpty}
 use Rattle.judgement.proofs.Lookup.{find-body, find-named}
+use Rattle.judgement.proofs.Occurs.{beside-occurs, occurs-reference, other-named, named-var, head-refers}
 
 -- Two constructors differ: `clash cc`, where equal ones are at hand.
 pub clash : {A : Type 0} → _≡_ {A = ℕ} 0 1 → A
@@ -48,22 +49,6 @@ foundNames (body end) = []
 foundNames (body (tree t kids next)) = kindNames (t .kind) kids
 
 -- ---- These are the steps
-differs : {A : Type 0} {m : ℕ} → other ≡ named m → A
-differs e = clash cc
-
-head-var : (k : Kind) {m : ℕ} → headKind k ≡ named m → k ≡ VarT m
-unfolding headKind
-head-var (PrimT p) e = differs e
-head-var (VarT n) e = cc
-head-var OptT e = differs e
-head-var VecT e = differs e
-head-var RecordT e = differs e
-head-var VariantT e = differs e
-head-var (FuncT a ms) e = differs e
-head-var ServT e = differs e
-head-var ClassT e = differs e
-head-var InitT e = differs e
-
 head-in : (h : Head) {m : ℕ} → List·Memᴰ m (headNames h) → h ≡ named m
 unfolding headNames
 head-in other i = absurd (List·Memᴰ·not-nil i)
@@ -77,7 +62,7 @@ field-in {m} (tree f lids next) i = go (List·Memᴰ·append-cases (headNames (h
     go : List·Memᴰ m (headNames (headKind (f .kind))) ⊎ List·Memᴰ m (fieldNames next)
         → (List·Memᴰ m (fieldNames next) → (f : Node) × (lids : Forest Node) × Beside f lids next × (f .kind ≡ VarT m))
         → (g : Node) × (mids : Forest Node) × Beside g mids (tree f lids next) × (g .kind ≡ VarT m)
-    go (inl j) ih = (f, lids, first, head-var (f .kind) (head-in (headKind (f .kind)) j))
+    go (inl j) ih = (f, lids, first, named-var (f .kind) (head-in (headKind (f .kind)) j))
     go (inr j) ih = let r = ih j in (r .0, r .1, later (r .2), r .3)
 
 in-field : {m : ℕ} {f : Node} {lids kids : Forest Node} → Beside f lids kids → f .kind ≡ VarT m → List·Memᴰ m (fieldNames kids)
@@ -111,8 +96,8 @@ module _ (ds : List Definition) where
 
   alias-names : (t : Forest Node) {m : ℕ} → head t ≡ named m → List·Memᴰ m (foundNames (body t))
   unfolding head foundNames kindNames
-  alias-names end e = differs e
-  alias-names (tree t kids next) e = rw (head-var (t .kind) e) (List·Memᴰ·head refl)
+  alias-names end e = other-named refl e
+  alias-names (tree t kids next) e = rw (named-var (t .kind) e) (List·Memᴰ·head refl)
 
   pub steps-names : Distinct (map nameOf ds) → {n m : ℕ} → Steps ds n m → List·Memᴰ m (foundNames (findType ds n))
   unfolding foundNames kindNames
@@ -121,23 +106,10 @@ module _ (ds : List Definition) where
 
 -- ---- References
 
--- each name of a step is among the references of a definition
-head-reference : (t : Forest Node) {m : ℕ} → head t ≡ named m → List·Memᴰ m (references t)
-unfolding head references kindNameOf
-head-reference end e = differs e
-head-reference (tree t kids next) e = rw (head-var (t .kind) e) (List·Memᴰ·head refl)
-
-beside-reference : {m : ℕ} {f : Node} {lids kids : Forest Node} → Beside f lids kids → f .kind ≡ VarT m → List·Memᴰ m (references kids)
-unfolding references kindNameOf
-beside-reference first e = rw e (List·Memᴰ·head refl)
-beside-reference (later {m = g} {lids = lids} b) e = Memᴰ·append-right (kindNameOf (g .kind)) (Memᴰ·append-right (references lids) (beside-reference b e))
-
 -- a step's definition, with the reference
 pub step-reference : (ds : List Definition) {n m : ℕ} → Steps ds n m → (d : Definition) × List·Memᴰ d ds × (d .name ≡ n) × List·Memᴰ m (references (d .body))
-unfolding references
-step-reference ds (alias {d = d} i q e) = (d, i, q, head-reference (d .body) e)
-step-reference ds (field {d = d} {r = r} {kids = kids} {next = next} i q e h b f) =
-    (d, i, q, rw e (Memᴰ·append-right (kindNameOf (r .kind)) (Memᴰ·append-left (references next) (beside-reference b f))))
+step-reference ds (alias {d = d} i q e) = (d, i, q, head-refers (d .body) e)
+step-reference ds (field {d = d} i q e h b f) = (d, i, q, rw e (occurs-reference (below (beside-occurs b)) f))
 
 -- ---- Ways, circles, and names from which every way ends
 

@@ -2,11 +2,12 @@
 --     check-says, init-check-says                  what passes: exactly what Candid calls well-formed and the Rust takes
 --     check-row, init-check-row                    what is refused lies in the row of its refusal
 --     without-init                                 without an init file both say the same
+--     no-init-definitions, no-init-tree            there are then no definitions and no arguments of it
 --     check-numbers, init-numbers                  the rows that there are
 --     check-bytes-says, check-bytes-row, ..        all of this on bytes, which are broken or a book
 use mathlib.Core.Path.{_≡_, refl, ap}
 use mathlib.Core.Logic.{_↔_, _⊎_, inl, inr, ⊎-elim}
-use mathlib.Core.Bool.{Bool, false}
+use mathlib.Core.Bool.{false}
 use mathlib.Core.List.{List, [], _∷_, map, List·Memᴰ, List·Memᴰ·head, List·Memᴰ·tail}
 use Prim.Native.Nat.{ℕ, zero, suc}
 use lib.Dec.{T}
@@ -17,19 +18,20 @@ use Rattle.format.specs.Node.{Node}
 use Rattle.format.specs.Book.{Definition, Role, Main, TypeImport, ServiceImport, InitArgs, File, Book}
 use Rattle.format.specs.Fits.{isInitRole, Fits}
 use Rattle.format.specs.Layout.{Layout, broken, whole, layout}
+use Rattle.format.proofs.Lists.{all-of}
 use Rattle.format.proofs.Theorems.{found}
 use Rattle.book.specs.declared.refusal.Refusal.{Refusal}
 use Rattle.book.specs.declared.refusal.Refusal.the-variants.{Broken, Twice, Unbound, Class, Modes, Oneway, Circle, NoFunction, MethodNoFunction, NoService, Differs, ImportWithoutActor, ImportNoService, SameHash, Absent, Short, NoActor}
 use Rattle.book.specs.declared.refusal.Verdict.{Verdict}
 use Rattle.book.specs.declared.refusal.Verdict.the-variants.{Passed, Refused}
 use Rattle.book.specs.Refusal.{numberOf, andThen}
-use Rattle.judgement.specs.Environment.{roleAt, keep, mainDefinitions, initDefinitions, findType, mergeDefinitions, kidsOf}
+use Rattle.judgement.specs.Environment.{roleAt, mainDefinitions, initDefinitions, findType, mergeDefinitions, kidsOf}
 use Rattle.judgement.specs.Actor.{serviceImports, mainActor, resolveActor}
 use Rattle.judgement.specs.Check.{checkForest, member, onceVerdict, bodiesVerdict, eachName, circleVerdict, bodiesFit, decsVerdict, importsVerdict, resolveVerdict, actorVerdict, check, sameVerdict, mergeVerdict, initTree, initVerdict, initCheck, onLayout, checkBytes, initCheckBytes}
 use Rattle.judgement.specs.WellFormed.{Distinct, nameOf, WellFormed, Rust, WellFormedInit, RustInit}
 use Rattle.judgement.specs.Rows.{CheckRow, InitRow}
 use Rattle.judgement.proofs.Verdicts.{refused-passed, both-pass, pass-both, which-refused}
-use Rattle.judgement.proofs.Lookup.{member-says, merge-distinct}
+use Rattle.judgement.proofs.Lookup.{member-says, keep-none, merge-distinct}
 use Rattle.judgement.proofs.Each.{passed-names}
 use Rattle.judgement.proofs.Decs.{once-says, decs-says, decs-refused}
 use Rattle.judgement.proofs.Fitting.{Fitting, fitting-kids}
@@ -192,12 +194,11 @@ no-role [] h k = refl
 no-role (f ∷ fs) h zero = other-role (f .role) (h f (List·Memᴰ·head refl))
 no-role (f ∷ fs) h (suc k) = no-role fs (λ g m. h g (List·Memᴰ·tail m)) k
 
-none-kept : (test : Definition → Bool) → ((d : Definition) → test d ≡ false) → (l : List Definition) → keep test l ≡ []
-unfolding keep
-none-kept test h [] = refl
-none-kept test h (d ∷ l) = rw (h d) (none-kept test h l)
+pub no-init-definitions : (b : Book) → NoInit (b .files) → initDefinitions b ≡ []
+unfolding initDefinitions
+no-init-definitions b h = keep-none _ (b .definitions) (all-of _ (λ d. no-role (b .files) h (d .file)) (b .definitions))
 
-no-init-tree : (fs : List File) → NoInit fs → initTree fs ≡ end
+pub no-init-tree : (fs : List File) → NoInit fs → initTree fs ≡ end
 unfolding initTree
 no-init-tree [] h = refl
 no-init-tree (f ∷ fs) h = rw (other-role (f .role) (h f (List·Memᴰ·head refl))) (no-init-tree fs (λ g m. h g (List·Memᴰ·tail m)))
@@ -207,10 +208,9 @@ unfolding decsVerdict onceVerdict bodiesVerdict bodiesFit circleVerdict findType
 no-decs n = pass-both (eachName (λ k. Passed) 0 n) Passed (passed-names (λ k. Passed) 0 n (λ i l u. refl)) refl
 
 init-verdict : (b : Book) → NoInit (b .files) → initVerdict b ≡ Passed
-unfolding initVerdict initDefinitions mergeVerdict sameVerdict findType kidsOf checkForest
+unfolding initVerdict mergeVerdict sameVerdict findType kidsOf checkForest
 init-verdict b h =
-    let none : initDefinitions b ≡ [] = none-kept _ (λ d. no-role (b .files) h (d .file)) (b .definitions) in
-    rw (none, no-init-tree (b .files) h, no-decs (names b)) (pass-both (eachName (λ k. Passed) 0 (names b)) Passed (passed-names (λ k. Passed) 0 (names b) (λ i l u. refl)) refl)
+    rw (no-init-definitions b h, no-init-tree (b .files) h, no-decs (names b)) (pass-both (eachName (λ k. Passed) 0 (names b)) Passed (passed-names (λ k. Passed) 0 (names b) (λ i l u. refl)) refl)
 
 and-passed : (v : Verdict) → andThen v Passed ≡ v
 and-passed Passed = refl

@@ -4,7 +4,7 @@ use mathlib.Core.Logic.{_↔_, _⊎_, inl, inr}
 use mathlib.Core.Bool.{Bool, true, false, not}
 use Prim.Native.Nat.{ℕ}
 use native.Mathlib.Omega.{arith}
-use lib.Dec.{T}
+use lib.Dec.{T, T-not, not-T}
 use Rattle.book.specs.declared.refusal.Refusal.{Refusal}
 use Rattle.book.specs.declared.refusal.Verdict.{Verdict}
 use Rattle.book.specs.declared.refusal.Verdict.the-variants.{Passed, Refused}
@@ -44,8 +44,7 @@ unless-refused false r e = (λ h. h, cc)
 
 -- A test that has to fail.
 pub not-says : (b : Bool) → T (not b) ↔ (T b → ⊥)
-not-says true = (λ (x : ⊥). absurd x, λ h. h tt)
-not-says false = (λ t x. x, λ h. tt)
+not-says b = (T-not b, not-T b)
 
 pub fails-not : (b : Bool) → (T (not b) → ⊥) → T b
 fails-not true h = tt

@@ -2,3 +2,7 @@
 pub mod Nodes
 pub mod Walk
 pub mod Modes
+pub mod Definitions
+pub mod Fitting
+pub mod Split
+pub mod Checks

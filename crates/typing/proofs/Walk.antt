@@ -4,6 +4,7 @@ use mathlib.Core.Bool.{Bool, true, false, cond, not, _&&_, _||_}
 use mathlib.Core.List.{List}
 use Prim.Native.Nat.{ℕ, suc, _+_, _-_, _*_, _≤_, _<_}
 use native.Mathlib.Omega.{arith}
+use borrow.Author.Tests.{not-true}
 use lib.Dec.{T}
 use Rattle.labels.specs.declared.Label.the-variants.{Id, Named, Unnamed}
 use Rattle.format.specs.declared.Place.{Place}
@@ -28,19 +29,19 @@ use Rattle.environment.specs.Tables.{Ended, endIs}
 use Rattle.typing.specs.Walk.{Walkable, Trees, Methods, Env, valueVerdict, typeVerdict, funcVerdict}
 
 -- ---- two verdicts
-and-on : (v w : Verdict) → isPassed v ≡ true → andThen v w ≡ w
+pub and-on : (v w : Verdict) → isPassed v ≡ true → andThen v w ≡ w
 and-on v w h = rw h
 
-and-stops : (v w : Verdict) → isPassed v ≡ false → andThen v w ≡ v
+pub and-stops : (v w : Verdict) → isPassed v ≡ false → andThen v w ≡ v
 and-stops v w h = rw h
 
-and-passed : (v : Verdict) → andThen v Passed ≡ v
+pub and-passed : (v : Verdict) → andThen v Passed ≡ v
 and-passed Passed = refl
 and-passed (Refused r) = refl
 
 -- ---- trees of a book, opened
 module _ {ns roots ends′ : List ℕ} {i until : ℕ} (t : Trees ns roots ends′ i until) (h : i < until) where
-  opened : Opened ns i until
+  pub opened : Opened ns i until
   opened = opens (t .whole) h
 
   fit-parts : (T (nodeFits (t .walk .names) (t .place) (nodeOf (rowAt ns i)) (breadth (siblings ns (i + 1) (i + rowAt ns i .size))))
@@ -98,11 +99,11 @@ module _ {ns roots ends′ : List ℕ} {i until : ℕ} (t : Trees ns roots ends�
 
 -- ---- the verdict of trees, where there are none and where there is one
 module _ (pre tested : Bool) (ds : List Definition) where
-  check-none : (ns : List ℕ) (i until : ℕ) → until ≤ i → checkForest pre tested ds (siblings ns i until) ≡ Passed
+  pub check-none : (ns : List ℕ) (i until : ℕ) → until ≤ i → checkForest pre tested ds (siblings ns i until) ≡ Passed
   unfolding checkForest
   check-none ns i until h = rw (siblings-none ns i until h)
 
-  check-opens : {ns roots ends′ : List ℕ} {i until : ℕ} (t : Trees ns roots ends′ i until) (h : i < until) →
+  pub check-opens : {ns roots ends′ : List ℕ} {i until : ℕ} (t : Trees ns roots ends′ i until) (h : i < until) →
       checkForest pre tested ds (siblings ns i until)
       ≡ andThen (andThen (typeVerdict pre ds ns i) (methodVerdict tested ds (nodeOf (rowAt ns i)) (siblings ns (i + 1) (i + rowAt ns i .size))))
       (checkForest pre tested ds (siblings ns (i + rowAt ns i .size) until))
@@ -153,21 +154,20 @@ module _ (pre : Bool) {ns roots ends′ : List ℕ} {i until : ℕ} (t : Trees n
   abbrev method : List Definition → Verdict
   method ds = methodVerdict (not pre) ds (nodeOf (rowAt ns i)) (siblings ns (i + 1) (i + rowAt ns i .size))
 
-  tested-as : (ds : List Definition) → Env ns roots ends′ pre ds → (not (not pre) || endIs 23 ns ends′ i) ≡ (not (not pre) || asFunc ds (tree (nodeOf (rowAt ns i)) (siblings ns (i + 1) (i + rowAt ns i .size)) end))
-  tested-as ds e = go pre refl
-    where
-      go : (q : Bool) → pre ≡ q → (not (not q) || endIs 23 ns ends′ i) ≡ (not (not q) || asFunc ds (tree (nodeOf (rowAt ns i)) (siblings ns (i + 1) (i + rowAt ns i .size)) end))
-      go true z = refl
-      go false z = e .func z i until t h ∙ ap (asFunc ds) (tree-opens (opened t h .here))
+  -- methods are tested only where the table of alias ends is asked for
+  pub tested-as : (tested : Bool) → (tested ≡ true → pre ≡ false) → (ds : List Definition) → Env ns roots ends′ pre ds →
+      (not tested || endIs 23 ns ends′ i) ≡ (not tested || asFunc ds (tree (nodeOf (rowAt ns i)) (siblings ns (i + 1) (i + rowAt ns i .size)) end))
+  tested-as true z ds e = e .func (z refl) i (row-within t h) ∙ ap (asFunc ds) (tree-opens (opened t h .here))
+  tested-as false z ds e = refl
 
   pub method-passed : (b : Bool) → b ≡ (not (not pre) || endIs 23 ns ends′ i) → b ≡ true → (ds : List Definition) → Env ns roots ends′ pre ds → method ds ≡ Passed
   unfolding methodVerdict
-  method-passed b q z ds e = rw (← tested-as ds e, ← q, z)
+  method-passed b q z ds e = rw (← tested-as (not pre) (not-true pre) ds e, ← q, z)
 
   pub method-refused : (b : Bool) → b ≡ (not (not pre) || endIs 23 ns ends′ i) → b ≡ false → (ds : List Definition) → Env ns roots ends′ pre ds →
       Refused (refusal.Refusal.MethodNoFunction (labelValue (nodeOf (rowAt ns i) .label))) ≡ method ds
   unfolding methodVerdict
-  method-refused b q z ds e = rw (← tested-as ds e, ← q, z)
+  method-refused b q z ds e = rw (← tested-as (not pre) (not-true pre) ds e, ← q, z)
 
 -- a method's label is a name of the book
 name-label : (names : ℕ) (x : Labelled) → T (labelFits names Method x) → (labelKind x ≡ 2)

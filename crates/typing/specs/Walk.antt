@@ -11,7 +11,7 @@ use Rattle.format.specs.Forest.{Forest, breadth}
 use Rattle.format.specs.Book.{Definition}
 use Rattle.format.specs.Fits.{forestFits}
 use Rattle.format.specs.Layout.{rowAt, siblings, nodeOf, modesOf}
-use Rattle.format.specs.Whole.{Whole, treeAt}
+use Rattle.format.specs.Whole.{Within, Whole, treeAt}
 use Rattle.book.specs.declared.refusal.Refusal as refusal
 use Rattle.book.specs.declared.refusal.Verdict.{Verdict}
 use Rattle.book.specs.Refusal.{andThen, unless}
@@ -38,7 +38,7 @@ pub record Trees (ns roots ends′ : List ℕ) (from until : ℕ) : Type 0 where
 -- The tables are those of the definitions; that of alias ends is asked only where methods are tested.
 pub record Env (ns roots ends′ : List ℕ) (pre : Bool) (ds : List Definition) : Type 0 where
   pub binds : Binds ns roots ds
-  pub func : pre ≡ false → (n until : ℕ) → Trees ns roots ends′ n until → n < until → endIs 23 ns ends′ n ≡ asFunc ds (treeAt ns n)
+  pub func : pre ≡ false → (n : ℕ) → Within ns (n + 1) → endIs 23 ns ends′ n ≡ asFunc ds (treeAt ns n)
 
 -- A name by its entry in the table of roots.
 unfoldable pub boundVerdict : ℕ → ℕ → Verdict

@@ -10,6 +10,8 @@ ghost use Rattle.judgement.specs.Check.{checkForest};
 ghost use Rattle.environment.specs.Tables.{Ended, endIs};
 ghost use Rattle.typing.specs.Walk.{Trees, Methods, Env, boundVerdict, valueVerdict, typeVerdict, funcVerdict};
 
+pub mod bodies;
+pub mod decs;
 pub mod files;
 
 use book::kinds::Kind;

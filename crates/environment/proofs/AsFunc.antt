@@ -1,0 +1,119 @@
+-- The table of alias ends says what `asFunc` and `asService` say of the type at a node. Assumes nothing.
+--     ends-func, ends-service     for a table without circles, whatever the definitions are that it was made of
+use mathlib.Core.Path.{_≡_, refl, sym, ap, subst, _∙_}
+use mathlib.Core.Logic.{inl, inr}
+use mathlib.Core.Bool.{Bool, true, false}
+use mathlib.Core.List.{List, map}
+use Prim.Native.Nat.{ℕ, zero, suc, _<_}
+use native.Mathlib.Decide.{ℕ-discrete}
+use native.Mathlib.Omega.{arith}
+use borrow.Author.Tests.{eq-eqb, ne-eqb}
+use lib.Dec.{eqb}
+use lib.ListN.{length, getD, set, replicate, length-replicate, List·getD-map}
+use lib.Seq.{getD-set-same, getD-set-other}
+use Rattle.format.specs.Forest.{Forest, tree}
+use Rattle.format.specs.Node.{Kind, InitT, Node}
+use Rattle.format.specs.Book.{Definition}
+use Rattle.format.specs.Layout.{rowAt, kinds, kindOf, nodeOf}
+use Rattle.format.specs.Whole.{WholeAt, treeAt}
+use Rattle.format.proofs.Stored.{tree-opens}
+use Rattle.judgement.specs.Environment.{Found, missing, body, findType, named, other, head, End, unbound, circle, ends, chain, aliasEnd, isFuncKind, isServKind, rootPasses, asFunc, asService}
+use Rattle.judgement.proofs.Chains.{crosses, outcome, run-end}
+use Rattle.environment.specs.Tables.{Nodes, Binds, nameEnd, EndAt, AliasEndsAs, endIs}
+use Rattle.environment.proofs.Links.{chain-other, chain-unbound, head-var, head-other}
+use Rattle.environment.proofs.EndKinds.{is-other, is-none, is-end}
+
+-- ---- a test of kinds that one kind passes
+-- nothing but false, inside and outside
+nowhere : (k i : ℕ) → getD (replicate k false) i false ≡ false
+nowhere zero i = refl
+nowhere (suc k) zero = refl
+nowhere (suc k) (suc i) = nowhere k i
+
+kind-passes : (test : Kind → Bool) (kind v : ℕ) → kind < 26 → test InitT ≡ false → map test (kinds v) ≡ set (replicate 26 false) kind true →
+    (k : ℕ) → test (kindOf k v) ≡ eqb k kind
+unfolding kindOf
+kind-passes test kind v h i m k =
+    sym (List·getD-map test (kinds v) k InitT) ∙ rw (i, m) (go (ℕ-discrete k kind))
+  where
+    go : Dec (k ≡ kind) → getD (set (replicate 26 false) kind true) k false ≡ eqb k kind
+    go (yes e) = rw e (getD-set-same (replicate 26 false) kind true false (rw (length-replicate {A = Bool} 26 false) h) ∙ sym (eq-eqb kind kind refl))
+    go (no n) = getD-set-other (replicate 26 false) kind k true false n ∙ nowhere 26 k ∙ sym (ne-eqb k kind n)
+
+-- ---- the end of a name's chain is that of its definition
+module _ (ds : List Definition) where
+  end-unbound : (t : Forest Node) (n : ℕ) → head t ≡ named n → findType ds n ≡ missing → aliasEnd ds t ≡ unbound n
+  unfolding aliasEnd chain
+  end-unbound t n h f = chain-unbound ds t n h (length ds) f
+
+  end-other : (t : Forest Node) → head t ≡ other → aliasEnd ds t ≡ ends t
+  unfolding aliasEnd chain
+  end-other t h = chain-other ds t (length ds) h
+
+  end-on : (t u : Forest Node) (n : ℕ) → head t ≡ named n → findType ds n ≡ body u → (aliasEnd ds u ≡ circle → ⊥) → aliasEnd ds t ≡ aliasEnd ds u
+  unfolding aliasEnd chain
+  end-on t u n h f c =
+      elim (outcome ds (length ds) u .either) [
+        | inl r ↦ run-end ds (crosses {u = u} (record { is-name = h; is-type = f }) r)
+        | inr p ↦ absurd (c (p .0))
+      ]
+
+-- ---- the kind at the end
+module _ (test : Kind → Bool) (kind : ℕ) (says : (k v : ℕ) → test (kindOf k v) ≡ eqb k kind) where
+  root-kind : {ns : List ℕ} {n : ℕ} → WholeAt ns n → rootPasses test (ends (treeAt ns n)) ≡ eqb (rowAt ns n .kind) kind
+  unfolding rootPasses nodeOf
+  root-kind {ns} {n} w = rw (tree-opens w) (says (rowAt ns n .kind) (rowAt ns n .value))
+
+  module _ {ns roots ends′ : List ℕ} {names count definitions : ℕ} (x : Nodes ns names count) (a : AliasEndsAs ns roots names count definitions ends′ 65535)
+      (ds : List Definition) (b : Binds ns roots ds) (l : length ds ≡ definitions) (n : ℕ) (h : n < count) where
+    -- a node that is a name, by what the table has for it
+    by-end : rowAt ns n .kind ≡ 18 → (e : End) → EndAt ns (getD ends′ (rowAt ns n .value) 65535) e → endIs kind ns ends′ n ≡ rootPasses test e
+    unfolding rootPasses
+    by-end k (unbound m) q = sym (is-none kind ns ends′ n (rowAt ns n) refl k q)
+    by-end k circle q = absurd q
+    by-end k (ends t) q =
+        let e = getD ends′ (rowAt ns n .value) 65535 in
+        sym (is-end kind ns ends′ n (rowAt ns n) refl k (q .0) e refl (rowAt ns e) refl)
+        ∙ sym (root-kind (x .tree e (a .nodes .node (rowAt ns n .value) (q .0)) .whole))
+        ∙ ap (λ (u : Forest Node). rootPasses test (ends u)) (sym (q .1))
+
+    -- its chain ends where its definition's does
+    name-ends : (f : Found) → findType ds (rowAt ns n .value) ≡ f → rowAt ns n .kind ≡ 18 →
+        EndAt ns (getD ends′ (rowAt ns n .value) 65535) (nameEnd ds (rowAt ns n .value) f) → aliasEnd ds (treeAt ns n) ≡ nameEnd ds (rowAt ns n .value) f
+    unfolding nameEnd
+    name-ends missing f k q = end-unbound ds (treeAt ns n) (rowAt ns n .value) (head-var (x .tree n h .whole) (rowAt ns n) refl k) f
+    name-ends (body u) f k q =
+        end-on ds (treeAt ns n) u (rowAt ns n .value) (head-var (x .tree n h .whole) (rowAt ns n) refl k) f
+        (λ c. subst (EndAt ns (getD ends′ (rowAt ns n .value) 65535)) c q)
+
+    ends-pass : endIs kind ns ends′ n ≡ rootPasses test (aliasEnd ds (treeAt ns n))
+    ends-pass = go (ℕ-discrete (rowAt ns n .kind) 18)
+      where
+        go : Dec (rowAt ns n .kind ≡ 18) → endIs kind ns ends′ n ≡ rootPasses test (aliasEnd ds (treeAt ns n))
+        go (yes k) =
+            let v = rowAt ns n .value in
+            let q = a .all refl ds b l v (x .row n h .name k) in
+            by-end k (nameEnd ds v (findType ds v)) q ∙ ap (rootPasses test) (sym (name-ends (findType ds v) refl k q))
+        go (no k) =
+            let w = x .tree n h .whole in
+            sym (is-other kind ns ends′ n (rowAt ns n) refl k)
+            ∙ sym (root-kind w)
+            ∙ ap (rootPasses test) (sym (end-other ds (treeAt ns n) (head-other w (rowAt ns n) refl k)))
+
+func-kind : (k v : ℕ) → isFuncKind (kindOf k v) ≡ eqb k 23
+unfolding isFuncKind kinds
+func-kind k v = kind-passes isFuncKind 23 v (omega arith) refl refl k
+
+service-kind : (k v : ℕ) → isServKind (kindOf k v) ≡ eqb k 24
+unfolding isServKind kinds
+service-kind k v = kind-passes isServKind 24 v (omega arith) refl refl k
+
+module _ {ns roots ends′ : List ℕ} {names count definitions : ℕ} (x : Nodes ns names count) (a : AliasEndsAs ns roots names count definitions ends′ 65535)
+    (ds : List Definition) (b : Binds ns roots ds) (l : length ds ≡ definitions) (n : ℕ) (h : n < count) where
+  pub ends-func : endIs 23 ns ends′ n ≡ asFunc ds (treeAt ns n)
+  unfolding asFunc
+  ends-func = ends-pass isFuncKind 23 func-kind x a ds b l n h
+
+  pub ends-service : endIs 24 ns ends′ n ≡ asService ds (treeAt ns n)
+  unfolding asService
+  ends-service = ends-pass isServKind 24 service-kind x a ds b l n h
