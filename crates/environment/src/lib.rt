@@ -22,8 +22,11 @@ impl Table {
     pub const NONE: u16 = 65535;
 }
 
+// A node number for each of the 1,024 names.
+pub type ByName = [u16; 1024];
+
 // A table that has nothing.
-pub fn blank() -> [u16; 1024]
+pub fn blank() -> ByName
     ensures { λ r. ⌜ r ≡ blankTable ⌝ }
 {
     [65535u16; 1024]

@@ -6,3 +6,4 @@ pub mod Definitions
 pub mod Fitting
 pub mod Split
 pub mod Checks
+pub mod Opened

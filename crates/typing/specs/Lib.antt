@@ -3,3 +3,4 @@ pub mod Walk
 pub mod Split
 pub mod Bodies
 pub mod Decs
+pub mod Books
