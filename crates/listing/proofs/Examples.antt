@@ -1,0 +1,166 @@
+-- Small books and what their lists are, by computation. Assumes nothing.
+use mathlib.Core.Path.{_≡_, refl}
+use mathlib.Core.Bool.{Bool}
+use mathlib.Core.List.{List, [], _∷_}
+use Prim.Native.Nat.{ℕ}
+use native.Mathlib.Omega.{arith}
+use Rattle.labels.specs.declared.Label.{Label}
+use Rattle.labels.specs.declared.Label.the-variants.{Named, Unnamed}
+use Rattle.format.specs.Forest.{Forest, end, tree, count, breadth, preorder, beside, mapForest}
+use Rattle.format.specs.Node.{Nat, Text, Kind, PrimT, VarT, OptT, RecordT, VariantT, FuncT, ServT, InitT, unlabelled, labelled, Node, primNumber, kindNumber, modeNumber, modesNumber, valueNumber, labelKind, labelValue}
+use Rattle.format.specs.Book.{Definition, Main, TypeImport, InitArgs, Book, bodies, actors, trees}
+use Rattle.format.specs.Encode.{bytes16, bytes32, flat, nameBytes, rowOf, sized, rowBytes, entryBytes, roleNumber, definitionEntries, rootOf, fileEntries, namesBytes, nodesBytes, definitionsBytes, filesBytes, tocRow, contentsBytes, encode}
+use Rattle.format.specs.Fits.{every, isByte, isName, before, ascending, placeBelow, kindFits, notInit, kindAllowed, labelFits, nodeFits, forestFits, isInit, definitionFits, filesRise, isInitRole, isMain, fileFits, importsFit, rolesFit, fits, Fits}
+use Rattle.format.specs.Rules.{noTrees}
+use Rattle.book.specs.declared.refusal.Verdict.{Verdict}
+use Rattle.book.specs.declared.refusal.Verdict.the-variants.{Passed}
+use Rattle.book.specs.declared.refusal.Refusal.the-variants.{Unbound, NoActor}
+use Rattle.judgement.specs.Environment.{roleAt, keep, mainDefinitions, initDefinitions, findType, isMissing, mergeDefinitions, headKind, head, met, link, chainFrom, chain, aliasEnd, isFuncKind, isServKind, rootPasses, asFunc, asService, kidsOf}
+use Rattle.judgement.specs.Actor.{isServiceImport, serviceImports, firstActor, mainActor, isClassKind, isClass, lastTree, belowClass, resolveWith, resolveActor}
+use Rattle.judgement.specs.Check.{nameVerdict, isOneway, modesVerdict, kindVerdict, methodVerdict, checkForest, member, onceVerdict, bodiesVerdict, eachName, isCircle, circleVerdict, methodsFit, bodiesFit, decsVerdict, importsVerdict, resolveVerdict, check, sameVerdict, mergeVerdict, initTree, initVerdict, initCheck}
+use Rattle.judgement.specs.Check as checks
+use Rattle.listing.specs.Chase.{push, arm, chase, meetName, visit, chaseTypes}
+use Rattle.listing.specs.Questions.{Outcome, refused, given, after, actorVerdict, walked, list, initList, draftDefinitions, draftList}
+use Rattle.listing.proofs.Answered.{Answered, list-answered}
+
+-- ---- The format, the check, the walk and the questions, each by every definition of it
+fitting : Book → Bool
+unfolding
+    count breadth preorder beside mapForest primNumber kindNumber modeNumber modesNumber valueNumber labelKind labelValue bodies actors
+    trees bytes16 bytes32 flat nameBytes rowOf sized rowBytes entryBytes roleNumber definitionEntries rootOf fileEntries namesBytes
+    nodesBytes definitionsBytes filesBytes tocRow contentsBytes encode every isByte isName before ascending placeBelow kindFits notInit
+    kindAllowed labelFits nodeFits forestFits isInit definitionFits filesRise isInitRole isMain fileFits importsFit rolesFit fits
+fitting = fits
+
+checked : Book → Verdict
+unfolding
+    noTrees isInitRole roleAt keep mainDefinitions findType headKind head met link chainFrom chain aliasEnd isFuncKind isServKind rootPasses
+    asFunc asService kidsOf isServiceImport serviceImports firstActor mainActor isClassKind isClass lastTree belowClass resolveWith
+    resolveActor nameVerdict isOneway modesVerdict kindVerdict methodVerdict checkForest member onceVerdict bodiesVerdict eachName isCircle
+    circleVerdict methodsFit bodiesFit decsVerdict importsVerdict resolveVerdict checks.actorVerdict check breadth labelValue
+checked = check
+
+listed : Book → Outcome (List ℕ)
+unfolding checked push arm chase meetName visit chaseTypes after actorVerdict walked list
+listed = list
+
+drafted : Book → Outcome (List ℕ)
+unfolding listed draftDefinitions draftList
+drafted = draftList
+
+init-listed : Book → Outcome (List ℕ)
+unfolding listed initDefinitions isMissing mergeDefinitions sameVerdict mergeVerdict initTree initVerdict initCheck initList
+init-listed = initList
+
+-- ---- A short way to write books
+abbrev plain : Kind → Forest Node → Forest Node
+plain κ kids = tree (record { kind = κ; label = unlabelled }) kids end
+
+abbrev field : Label → Kind → Forest Node → Forest Node
+field l κ next = tree (record { kind = κ; label = labelled l }) end next
+
+-- A type that is the name with that number.
+abbrev name : ℕ → Forest Node
+name n = plain (VarT n) end
+
+abbrev type : ℕ → ℕ → Forest Node → Definition
+type file n t = record { name = n; file = file; body = t }
+
+-- service : { m : (arguments) -> () }
+abbrev service : ℕ → Forest Node → Forest Node
+service m arguments = plain ServT (tree (record { kind = FuncT (breadth arguments) []; label = labelled (Named m) }) arguments end)
+
+-- The names a, b and z have the numbers 1, 2 and 3; files and methods have the empty name. There is an import of types beside main.
+abbrev book : List Definition → Forest Node → Book
+book ds actor = record {
+  names = [] ∷ (97 ∷ []) ∷ (98 ∷ []) ∷ (122 ∷ []) ∷ [];
+  definitions = ds;
+  files = record { name = 0; role = Main; actor = actor } ∷ (record { name = 0; role = TypeImport; actor = end } ∷ []);
+}
+
+-- ---- P1 of document 01: pair is listed before tree, inside which it is met, and spare is not listed
+-- type tree = variant { leaf : nat; fork : pair }; type pair = record { tree; tree }; type spare = text; service : { put : (tree) -> () }
+abbrev p1 : Book
+p1 =
+    let fork : ℕ = 1 in
+    let leaf : ℕ = 2 in
+    let pair : ℕ = 3 in
+    let put : ℕ = 4 in
+    let spare : ℕ = 5 in
+    let tree : ℕ = 6 in
+    record {
+      names = [] ∷ (102 ∷ 111 ∷ 114 ∷ 107 ∷ []) ∷ (108 ∷ 101 ∷ 97 ∷ 102 ∷ []) ∷ (112 ∷ 97 ∷ 105 ∷ 114 ∷ []) ∷ (112 ∷ 117 ∷ 116 ∷ []) ∷ (115 ∷ 112 ∷ 97 ∷ 114 ∷ 101 ∷ []) ∷ (116 ∷ 114 ∷ 101 ∷ 101 ∷ []) ∷ [];
+      definitions =
+          type 0 tree (plain VariantT (field (Named leaf) (PrimT Nat) (field (Named fork) (VarT pair) end)))
+          ∷ type 0 pair (plain RecordT (field (Unnamed 0) (VarT tree) (field (Unnamed 1) (VarT tree) end)))
+          ∷ type 0 spare (plain (PrimT Text) end)
+          ∷ [];
+      files = record { name = 0; role = Main; actor = service put (name tree) } ∷ [];
+    }
+
+pub p1-list : list p1 ≡ given (3 ∷ 6 ∷ [])
+unfolding listed
+p1-list = refl
+
+-- It is a book as `list-answered` takes it.
+pub p1-fits : Fits p1
+unfolding fitting
+p1-fits = tt
+
+pub p1-passes : check p1 ≡ Passed
+unfolding checked
+p1-passes = refl
+
+pub p1-answered : Answered (mainDefinitions p1) (resolveActor p1) (list p1)
+unfolding checked
+p1-answered = list-answered p1 p1-fits p1-passes (λ e. let z : _≡_ {A = ℕ} 0 1 = cc in omega arith)
+
+-- ---- From left to right: type a = nat; type b = nat; service : { "" : (b, a) -> () }
+pub left-first : list (book (type 0 1 (plain (PrimT Nat) end) ∷ (type 0 2 (plain (PrimT Nat) end) ∷ [])) (service 0 (beside (name 2) (name 1)))) ≡ given (2 ∷ 1 ∷ [])
+unfolding listed beside
+left-first = refl
+
+-- ---- Circles: type a = opt b; type b = opt a, and a function whose argument is a service with that method
+pub circle-list : list (book (type 0 1 (plain OptT (name 2)) ∷ (type 0 2 (plain OptT (name 1)) ∷ [])) (service 0 (name 1))) ≡ given (2 ∷ 1 ∷ [])
+unfolding listed
+circle-list = refl
+
+pub ring-list : list (book (type 0 1 (plain (FuncT 1 []) (plain ServT (field (Named 0) (VarT 1) end))) ∷ []) (service 0 (name 1))) ≡ given (1 ∷ [])
+unfolding listed
+ring-list = refl
+
+-- ---- Drafts: type a = opt z in main, and z = nat in the import
+abbrev importing : Book
+importing = book (type 0 1 (plain OptT (name 3)) ∷ (type 1 3 (plain (PrimT Nat) end) ∷ [])) (service 0 (name 1))
+
+pub import-list : list importing ≡ given (3 ∷ 1 ∷ [])
+unfolding listed
+import-list = refl
+
+-- the draft reads main alone
+pub import-draft : draftList importing ≡ refused (Unbound 3)
+unfolding drafted
+import-draft = refl
+
+-- type a = opt b; type b = nat
+pub draft-list : draftList (book (type 0 1 (plain OptT (name 2)) ∷ (type 0 2 (plain (PrimT Nat) end) ∷ [])) (service 0 (name 1))) ≡ given (2 ∷ 1 ∷ [])
+unfolding drafted
+draft-list = refl
+
+-- the first that is met, not the lowest: service : { "" : (z, b) -> () } without definitions
+pub draft-first : draftList (book [] (service 0 (beside (name 3) (name 2)))) ≡ refused (Unbound 3)
+unfolding drafted beside
+draft-first = refl
+
+pub draft-none : draftList (book [] end) ≡ refused NoActor
+unfolding drafted
+draft-none = refl
+
+-- ---- Init arguments (b, a), where a = nat is main's and b = nat the init file's
+pub init-list : initList (record {
+  names = [] ∷ (97 ∷ []) ∷ (98 ∷ []) ∷ [];
+  definitions = type 0 1 (plain (PrimT Nat) end) ∷ (type 1 2 (plain (PrimT Nat) end) ∷ []);
+  files = record { name = 0; role = Main; actor = end } ∷ (record { name = 0; role = InitArgs; actor = plain InitT (beside (name 2) (name 1)) } ∷ []);
+}) ≡ given (2 ∷ 1 ∷ [])
+unfolding init-listed beside
+init-list = refl
