@@ -2,6 +2,8 @@
 ghost use mathlib.Core.Path.{_≡_};
 ghost use mathlib.Core.Bool.{_&&_};
 ghost use lib.Dec.{leb};
+ghost use Rattle.format.specs.Rules.{belowKind};
+use format::Place;
 
 // A node's kind. Kinds below VAR hold no other type and no name.
 pub struct Kind {
@@ -67,6 +69,22 @@ impl Kind {
         ensures { λ r. ⌜ r .number ≡ number ⌝ }
     {
         Kind { number }
+    }
+
+    // Where the children of a node of this kind stand.
+    pub fn place_below(kind: u8) -> Place
+        ensures { λ r. ⌜ r ≡ belowKind kind ⌝ }
+    {
+        if kind == Kind::RECORD {
+            return Place::Field;
+        }
+        if kind == Kind::VARIANT {
+            return Place::Field;
+        }
+        if kind == Kind::SERVICE {
+            return Place::Method;
+        }
+        Place::Inner
     }
 }
 

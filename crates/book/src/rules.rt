@@ -4,7 +4,7 @@ ghost use mathlib.Core.Bool.{true};
 ghost use Prim.Native.Nat.{_+_, _*_, _≤_, _<_};
 ghost use lib.ListN.{length};
 ghost use Rattle.format.specs.Fits.{before};
-ghost use Rattle.format.specs.Rules.{goodModes, goodKind, goodPlace, goodLabel, goodRow, goodRole, goodFiles, belowKind, Names};
+ghost use Rattle.format.specs.Rules.{goodModes, goodKind, goodPlace, goodLabel, goodRow, goodRole, goodFiles, Names};
 ghost use Rattle.format.specs.Layout.{part, run, entryAt, rowTrees};
 ghost use Rattle.format.specs.Whole.{Within, Whole};
 ghost use Rattle.book.specs.Reading.{asRow, asEntry, EntryWithin};
@@ -114,22 +114,6 @@ pub fn label_fine(names: usize, place: Place, kind: u8, label: u32) -> bool
     }
 }
 
-// Where the children of a node of this kind stand.
-pub fn place_below(kind: u8) -> Place
-    ensures { λ r. ⌜ r ≡ belowKind kind ⌝ }
-{
-    if kind == Kind::RECORD {
-        return Place::Field;
-    }
-    if kind == Kind::VARIANT {
-        return Place::Field;
-    }
-    if kind == Kind::SERVICE {
-        return Place::Method;
-    }
-    Place::Inner
-}
-
 // Whether a node with this many children may stand at this place.
 pub fn node_fine(names: usize, place: Place, node: Node, kids: usize) -> bool
     ensures { λ r. ⌜ r ≡ goodRow names place (asRow node) kids ⌝ }
@@ -165,7 +149,8 @@ pub fn trees(rows: &[u8], names: usize, place: Place, from: usize, until: usize)
         if until - i < size {
             return Walked::Broken;
         }
-        let Walked::Count(kids) = trees(rows, names, place_below(node.kind), i + 1, i + size) else {
+        let Walked::Count(kids) = trees(rows, names, Kind::place_below(node.kind), i + 1, i + size)
+        else {
             return Walked::Broken;
         };
         if !node_fine(names, place, node, kids) {

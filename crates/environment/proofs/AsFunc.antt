@@ -2,43 +2,25 @@
 --     ends-func, ends-service     for a table without circles, whatever the definitions are that it was made of
 use mathlib.Core.Path.{_≡_, refl, sym, ap, subst, _∙_}
 use mathlib.Core.Logic.{inl, inr}
-use mathlib.Core.Bool.{Bool, true, false}
-use mathlib.Core.List.{List, map}
-use Prim.Native.Nat.{ℕ, zero, suc, _<_}
+use mathlib.Core.Bool.{Bool, true, false, cond}
+use mathlib.Core.List.{List}
+use Prim.Native.Nat.{ℕ, _<_}
 use native.Mathlib.Decide.{ℕ-discrete}
 use native.Mathlib.Omega.{arith}
-use borrow.Author.Tests.{eq-eqb, ne-eqb}
 use lib.Dec.{eqb}
-use lib.ListN.{length, getD, set, replicate, length-replicate, List·getD-map}
-use lib.Seq.{getD-set-same, getD-set-other}
+use lib.ListN.{length, getD}
 use Rattle.format.specs.Forest.{Forest, tree}
-use Rattle.format.specs.Node.{Kind, InitT, Node}
+use Rattle.format.specs.Node.{Kind, Node}
 use Rattle.format.specs.Book.{Definition}
 use Rattle.format.specs.Layout.{rowAt, kinds, kindOf, nodeOf}
 use Rattle.format.specs.Whole.{WholeAt, treeAt}
+use Rattle.format.proofs.References.{kind-alone}
 use Rattle.format.proofs.Stored.{tree-opens}
 use Rattle.judgement.specs.Environment.{Found, missing, body, findType, named, other, head, End, unbound, circle, ends, chain, aliasEnd, isFuncKind, isServKind, rootPasses, asFunc, asService}
 use Rattle.judgement.proofs.Chains.{crosses, outcome, run-end}
 use Rattle.environment.specs.Tables.{Nodes, Binds, nameEnd, EndAt, AliasEndsAs, endIs}
 use Rattle.environment.proofs.Links.{chain-other, chain-unbound, head-var, head-other}
 use Rattle.environment.proofs.EndKinds.{is-other, is-none, is-end}
-
--- ---- a test of kinds that one kind passes
--- nothing but false, inside and outside
-nowhere : (k i : ℕ) → getD (replicate k false) i false ≡ false
-nowhere zero i = refl
-nowhere (suc k) zero = refl
-nowhere (suc k) (suc i) = nowhere k i
-
-kind-passes : (test : Kind → Bool) (kind v : ℕ) → kind < 26 → test InitT ≡ false → map test (kinds v) ≡ set (replicate 26 false) kind true →
-    (k : ℕ) → test (kindOf k v) ≡ eqb k kind
-unfolding kindOf
-kind-passes test kind v h i m k =
-    sym (List·getD-map test (kinds v) k InitT) ∙ rw (i, m) (go (ℕ-discrete k kind))
-  where
-    go : Dec (k ≡ kind) → getD (set (replicate 26 false) kind true) k false ≡ eqb k kind
-    go (yes e) = rw e (getD-set-same (replicate 26 false) kind true false (rw (length-replicate {A = Bool} 26 false) h) ∙ sym (eq-eqb kind kind refl))
-    go (no n) = getD-set-other (replicate 26 false) kind k true false n ∙ nowhere 26 k ∙ sym (ne-eqb k kind n)
 
 -- ---- the end of a name's chain is that of its definition
 module _ (ds : List Definition) where
@@ -100,13 +82,17 @@ module _ (test : Kind → Bool) (kind : ℕ) (says : (k v : ℕ) → test (kindO
             ∙ sym (root-kind w)
             ∙ ap (rootPasses test) (sym (end-other ds (treeAt ns n) (head-other w (rowAt ns n) refl k)))
 
+as-test : (b : Bool) → cond b true false ≡ b
+as-test true = refl
+as-test false = refl
+
 func-kind : (k v : ℕ) → isFuncKind (kindOf k v) ≡ eqb k 23
 unfolding isFuncKind kinds
-func-kind k v = kind-passes isFuncKind 23 v (omega arith) refl refl k
+func-kind k v = kind-alone isFuncKind false true 23 v (omega arith) refl refl k ∙ as-test (eqb k 23)
 
 service-kind : (k v : ℕ) → isServKind (kindOf k v) ≡ eqb k 24
 unfolding isServKind kinds
-service-kind k v = kind-passes isServKind 24 v (omega arith) refl refl k
+service-kind k v = kind-alone isServKind false true 24 v (omega arith) refl refl k ∙ as-test (eqb k 24)
 
 module _ {ns roots ends′ : List ℕ} {names count definitions : ℕ} (x : Nodes ns names count) (a : AliasEndsAs ns roots names count definitions ends′ 65535)
     (ds : List Definition) (b : Binds ns roots ds) (l : length ds ≡ definitions) (n : ℕ) (h : n < count) where

@@ -1,19 +1,20 @@
 -- The loop that makes the table of roots: what the table lacks is found in the entries that are left. Assumes nothing.
-use mathlib.Core.Path.{_≡_, refl, sym, ap, subst, _∙_}
-use mathlib.Core.Bool.{Bool, true, false, cond, _||_, not}
+use mathlib.Core.Path.{_≡_, refl, sym, ap, _∙_}
+use mathlib.Core.Bool.{cond, _||_, not}
 use mathlib.Core.List.{List, [], _∷_}
-use Prim.Native.Nat.{ℕ, zero, suc, _+_, _-_, _≤_, _<_}
-use native.Mathlib.Decide.{ℕ-discrete, decLt}
+use Prim.Native.Nat.{ℕ, suc, _+_, _-_, _≤_, _<_}
+use native.Mathlib.Decide.{ℕ-discrete}
 use native.Mathlib.Omega.{arith}
 use borrow.Author.Tests.{eq-eqb, ne-eqb}
 use lib.Dec.{eqb}
-use lib.ListN.{length, getD, set, length-set, replicate, length-replicate, getD-replicate, List·getD-eq-default}
+use lib.ListN.{length, getD, set, length-set, length-replicate}
 use lib.Seq.{getD-set-same, getD-set-other}
 use Rattle.format.specs.Encode.{Entry}
 use Rattle.format.specs.Layout.{run, entryAt}
 use Rattle.format.proofs.Lists.{run-none, run-cons}
+use Rattle.format.proofs.References.{everywhere}
 use Rattle.judgement.specs.Check.{member}
-use Rattle.environment.specs.Tables.{blankTable, Entries, Roots, rootIn, repeated, DefinesAs}
+use Rattle.environment.specs.Tables.{blankTable, Entries, rootIn, repeated, DefinesAs}
 
 pub record TableLeft (es : List ℕ) (names count from to : ℕ) (roots : List ℕ) (d : ℕ) : Type 0 where
   pub began : from ≤ d
@@ -31,11 +32,7 @@ blank-length = length-replicate {A = ℕ} 1024 65535
 
 pub blank-at : (n : ℕ) → getD blankTable n 65535 ≡ 65535
 unfolding blankTable
-blank-at n = go (decLt n 1024)
-  where
-    go : Dec (n < 1024) → getD {A = ℕ} (replicate 1024 65535) n 65535 ≡ 65535
-    go (yes h) = getD-replicate {A = ℕ} 1024 n 65535 65535 h
-    go (no h) = List·getD-eq-default {A = ℕ} (replicate 1024 65535) 65535 {n = n} (omega (arith, length-replicate {A = ℕ} 1024 65535))
+blank-at n = everywhere {A = ℕ} 1024 n 65535
 
 pub table-start : (es : List ℕ) (names count from to : ℕ) → Entries es names count from to → TableLeft es names count from to blankTable from
 unfolding member

@@ -66,6 +66,11 @@ node-small count (Unbound n) r h = absurd (h refl)
 node-small count Circle r h = absurd (h refl)
 node-small count (Ends n) r h = r
 
+-- what is said of the names from n on: of n, and of those after it
+pub each-cons : (f : ℕ → Verdict) (n names : ℕ) → n < names → eachName f n (names - n) ≡ andThen (f n) (eachName f (n + 1) (names - (n + 1)))
+unfolding eachName
+each-cons f n names h = let z : names - n ≡ suc (names - (n + 1)) = omega arith in rw (z, add-one n)
+
 -- ---- the loop
 abbrev verdicts : List Definition → ℕ → Verdict
 verdicts ds n = circleVerdict ds n (findType ds n)
@@ -98,16 +103,12 @@ module _ {ns roots : List ℕ} {names count definitions : ℕ} (few : count ≤ 
       }
 
   module _ (h : n < names) (a : Alias) (x : NameEndAs ns roots count definitions n a) where
-    each-cons : (ds : List Definition) → eachName (verdicts ds) n (names - n) ≡ andThen (verdicts ds n) (eachName (verdicts ds) (n + 1) (names - (n + 1)))
-    unfolding eachName
-    each-cons ds = let z : names - n ≡ suc (names - (n + 1)) = omega arith in rw (z, add-one n)
-
     pub ends-circle : aliasCircles a ≡ true → AliasEndsAs ns roots names count definitions ends′ n
     ends-circle c =
         let never : n ≡ 65535 → ⊥ = λ e. let f : ⊥ = omega arith in f in
         record {
           nodes = s .nodes;
-          lowest = λ ds b l. sym (s .rest ds b l) ∙ each-cons ds ∙ rw (verdict-as x ds b l, c, ne-eqb n 65535 never);
+          lowest = λ ds b l. sym (s .rest ds b l) ∙ each-cons (verdicts ds) n names h ∙ rw (verdict-as x ds b l, c, ne-eqb n 65535 never);
           all = λ e. absurd (never e);
         }
 
@@ -116,7 +117,7 @@ module _ {ns roots : List ℕ} {names count definitions : ℕ} (few : count ≤ 
         record {
           passed = omega arith;
           nodes = record { long = simp length-set (s .nodes .long); node = λ m q. node′ m q (ℕ-discrete m n) };
-          rest = λ ds b l. sym (each-cons ds ∙ rw (verdict-as x ds b l, c)) ∙ s .rest ds b l;
+          rest = λ ds b l. sym (each-cons (verdicts ds) n names h ∙ rw (verdict-as x ds b l, c)) ∙ s .rest ds b l;
           done = λ ds b l m i. done′ ds b l m i (ℕ-discrete m n);
         }
       where

@@ -5,3 +5,6 @@ pub mod Ends
 pub mod EndKinds
 pub mod Laws
 pub mod AsFunc
+pub mod Hashes
+pub mod Same
+pub mod Merges

@@ -1,2 +1,3 @@
 -- What the contracts of the environment cite. The definitions of what names stand for are those of the crate `judgement`.
 pub mod Tables
+pub mod Merging

@@ -7,6 +7,9 @@ ghost use Rattle.format.specs.Book.{Definition};
 ghost use Rattle.format.specs.Whole.{treeAt};
 ghost use Rattle.judgement.specs.Environment.{chainFrom};
 ghost use Rattle.environment.specs.Tables.{blankTable, Nodes, Entries, Roots, Binds, asEnd, InRange, DefinesAs, NameEndAs, aliasCircles, aliasNode, Ended, AliasEndsAs, endIs};
+
+pub mod merge;
+
 use book::kinds::Kind;
 use book::read::Entry;
 use book::read::Node;

@@ -4,13 +4,14 @@ use mathlib.Core.Path.{_≡_, refl, sym, ap, ap₂, _∙_}
 use mathlib.Core.Bool.{Bool, true, false, cond}
 use mathlib.Core.List.{List, [], _∷_, _++_, map}
 use Prim.Native.Nat.{ℕ, zero, suc, _-_, _<_}
+use native.Mathlib.Decide.{ℕ-discrete}
 use native.Mathlib.Omega.{arith}
-use borrow.Author.Tests.{eqb-true, eqb-false}
+use borrow.Author.Tests.{eqb-true, eq-eqb, ne-eqb}
 use lib.Dec.{eqb}
-use lib.ListN.{length, getD, replicate, List·getD-map}
-use lib.Seq.{getD-set-other}
+use lib.ListN.{length, getD, set, replicate, length-replicate, List·getD-map}
+use lib.Seq.{getD-set-same, getD-set-other}
 use Rattle.format.specs.Forest.{Forest, end, tree, preorder}
-use Rattle.format.specs.Node.{VarT, InitT, Node}
+use Rattle.format.specs.Node.{Kind, VarT, InitT, Node}
 use Rattle.format.specs.Encode.{Row, flat}
 use Rattle.format.specs.Layout.{rowAt, run, kinds, kindOf, nodeOf, siblings}
 use Rattle.format.specs.References.{nameOf, references}
@@ -36,20 +37,24 @@ references-preorder (tree n k m) =
 -- ---- Kind 18 alone is a name
 
 -- Nothing but d, inside and outside.
-everywhere : {A : Type 0} (k i : ℕ) (d : A) → getD (replicate k d) i d ≡ d
+pub everywhere : {A : Type 0} (k i : ℕ) (d : A) → getD (replicate k d) i d ≡ d
 everywhere zero i d = refl
 everywhere (suc k) zero d = refl
 everywhere (suc k) (suc i) d = everywhere k i d
 
--- The 26 kinds of the table have no name each, but for the one at place 18.
-pub kind-name : (k v : ℕ) → nameOf (kindOf k v) ≡ cond (eqb k 18) (v ∷ []) []
-unfolding nameOf kindOf kinds
-kind-name k v = go (eqb k 18) refl
+-- What gives d of every kind but one, of which it gives a.
+pub kind-alone : {A : Type 0} (f : Kind → A) (d a : A) (one v : ℕ) → one < 26 → f InitT ≡ d → map f (kinds v) ≡ set (replicate 26 d) one a →
+    (k : ℕ) → f (kindOf k v) ≡ cond (eqb k one) a d
+unfolding kindOf
+kind-alone {A} f d a one v h i m k = sym (List·getD-map f (kinds v) k InitT) ∙ rw (i, m) (go (ℕ-discrete k one))
   where
-    go : (b : Bool) → eqb k 18 ≡ b → nameOf (kindOf k v) ≡ cond b (v ∷ []) []
-    go true e = rw (eqb-true k 18 e)
-    go false e =
-        sym (List·getD-map nameOf (kinds v) k InitT) ∙ getD-set-other (replicate 26 []) 18 k (v ∷ []) [] (eqb-false k 18 e) ∙ everywhere 26 k []
+    go : Dec (k ≡ one) → getD (set (replicate 26 d) one a) k d ≡ cond (eqb k one) a d
+    go (yes e) = rw (eq-eqb k one e) (rw e (getD-set-same (replicate 26 d) one a d (rw (length-replicate {A = A} 26 d) h)))
+    go (no n) = rw (ne-eqb k one n) (getD-set-other (replicate 26 d) one k a d n ∙ everywhere 26 k d)
+
+pub kind-name : (k v : ℕ) → nameOf (kindOf k v) ≡ cond (eqb k 18) (v ∷ []) []
+unfolding nameOf kinds
+kind-name k v = kind-alone nameOf [] (v ∷ []) 18 v (omega arith) refl refl k
 
 -- A node is a name exactly if its row is of kind 18, and then the row's value is that name.
 pub node-var : (r : Row) → r .kind ≡ 18 → nodeOf r .kind ≡ VarT (r .value)

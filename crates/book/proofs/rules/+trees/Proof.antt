@@ -15,7 +15,7 @@ use Rattle.book.proofs.rules.trees.Kinds as trees-kinds
 use Rattle.book.proofs.rules.+trees.Lts-trees as lts
 use Rattle.book.proofs.read.Node.at.Reads as at-reads
 use Rattle.book.proofs.rules.node_fine.Reads as node-fine-reads
-use Rattle.book.proofs.rules.place_below.Reads as place-below-reads
+use Rattle.book.proofs.kinds.Kind.place_below.Reads as place-below-reads
 use Rattle.book.proofs.rules.+trees.{statement}
 use Rattle.book.proofs.rules.+trees.Tie.{close}
 

@@ -1,8 +1,8 @@
--- `rules::place_below` meets its contract: a return for each test of `belowKind`. Assumes nothing.
+-- `kinds::Kind::place_below` meets its contract: a return for each test of `belowKind`. Assumes nothing.
 use borrow.Author.Tests.{ne-eqb}
 use Rattle.format.specs.Rules.{belowKind}
-use Rattle.book.proofs.rules.place_below.Statement.{statement}
-use Rattle.book.proofs.rules.place_below.Tie as tie
+use Rattle.book.proofs.kinds.Kind.place_below.Statement.{statement}
+use Rattle.book.proofs.kinds.Kind.place_below.Tie as tie
 
 returns : tie.Need-returns
 unfolding belowKind

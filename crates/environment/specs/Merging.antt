@@ -1,0 +1,89 @@
+-- What the merge of two sets of definitions asks and says. Definitions; assumes nothing.
+use mathlib.Core.Path.{_≡_}
+use mathlib.Core.Bool.{Bool, true, cond, _&&_}
+use mathlib.Core.List.{List, []}
+use Prim.Native.Nat.{ℕ, _≤_, _<_}
+use lib.ListN.{length, getD, replicate}
+use lib.Dec.{eqb}
+use Rattle.labels.specs.Number.{labelNumber}
+use Rattle.format.specs.declared.Place.{Place}
+use Rattle.format.specs.declared.Place.the-variants.{Root}
+use Rattle.format.specs.Node.{Node, labelValue}
+use Rattle.format.specs.Encode.{flat, nameBytes}
+use Rattle.format.specs.Layout.{namesOf, labelOf}
+use Rattle.format.specs.Whole.{Whole, treeAt}
+use Rattle.judgement.specs.Environment.{sameKind, sameLabel, sameForest}
+use Rattle.environment.specs.Tables.{Nodes, Roots}
+
+-- ---- Label numbers by name number
+
+-- A table that has 0 for each of the 1,024 names.
+unfoldable pub zeroTable : List ℕ
+zeroTable = replicate 1024 0
+
+-- The bytes are `count` names.
+pub record NamesIn (bs : List ℕ) (count : ℕ) : Type 0 where
+  pub filled : flat nameBytes (namesOf (length bs) bs) ≡ bs
+  pub counted : length (namesOf (length bs) bs) ≡ count
+  pub few : count ≤ 1024
+
+-- A table has the label number of each name; beyond the names 0, which is that of no bytes.
+abbrev pub HashesAgree : List ℕ → List (List ℕ) → Type 0
+HashesAgree hashes names = (n : ℕ) → getD hashes n 0 ≡ labelNumber (getD names n [])
+
+pub record HashesOf (hashes : List ℕ) (names : List (List ℕ)) : Type 0 where
+  pub long : length hashes ≡ 1024
+  pub agree : HashesAgree hashes names
+
+-- ---- Two forests
+
+-- A label kind and a label, as a book writes them.
+pub record StoredLabel (kind label : ℕ) : Type 0 where
+  pub same : labelValue (labelOf kind label) ≡ label
+  pub name : kind ≡ 2 → label < 1024
+
+-- Two nodes are the same but for what is below them.
+unfoldable pub sameNode : List (List ℕ) → Place → Node → Node → Bool
+sameNode names p n m = sameKind (n .kind) (m .kind) && sameLabel names p (n .label) (m .label)
+
+-- The trees from node a and those from node b on are trees of a book.
+pub record Compared (ns hashes : List ℕ) (a a-until b b-until : ℕ) : Type 0 where
+  pub names : ℕ
+  pub count : ℕ
+  pub nodes : Nodes ns names count
+  pub long : length hashes ≡ 1024
+  pub first : Whole ns a a-until
+  pub first-in : a-until ≤ count
+  pub second : Whole ns b b-until
+  pub second-in : b-until ≤ count
+
+-- ---- Two tables of roots
+
+-- Nodes of a book, and two tables of roots.
+pub record Mergeable (ns hashes init main : List ℕ) (names : ℕ) : Type 0 where
+  pub count : ℕ
+  pub nodes : Nodes ns names count
+  pub long : length hashes ≡ 1024
+  pub first : Roots init count
+  pub second : Roots main count
+
+-- A root of each table, that is none or a node.
+pub record Rooted (ns hashes : List ℕ) (a b : ℕ) : Type 0 where
+  pub names : ℕ
+  pub count : ℕ
+  pub nodes : Nodes ns names count
+  pub long : length hashes ≡ 1024
+  pub first : (a ≡ 65535 → ⊥) → a < count
+  pub second : (b ≡ 65535 → ⊥) → b < count
+
+-- A root of each table: at least one is none, or their trees are the same.
+unfoldable pub sameRoots : List (List ℕ) → List ℕ → ℕ → ℕ → Bool
+sameRoots names ns a b = cond (eqb a 65535) true (cond (eqb b 65535) true (sameForest names Root (treeAt ns a) (treeAt ns b)))
+
+-- The root of the first table, or that of the second where there is none.
+unfoldable pub eitherRoot : ℕ → ℕ → ℕ
+eitherRoot a b = cond (eqb a 65535) b a
+
+pub record MergedAs (init main roots : List ℕ) : Type 0 where
+  pub long : length roots ≡ 1024
+  pub root : (n : ℕ) → getD roots n 65535 ≡ eitherRoot (getD init n 65535) (getD main n 65535)
