@@ -1,0 +1,242 @@
+-- An actor's class arguments and methods are what the definitions find. Assumes nothing; where it matters that each name is defined once,
+-- the lemma says so.
+--     function-end, serves-methods, ..     what stands at the end of a chain
+--     interface-arguments, ..              the arguments and the methods, also where the actor's own alias is followed first
+--     stands-interface, ..                 an actor that stands for a service offers some
+--     answered                             a question of a book that passes and has an actor goes on
+--     passed-interface, passed-functions   such a book's actor offers methods, and these are functions
+use mathlib.Core.Path.{_≡_, refl, sym, ap, _∙_}
+use mathlib.Core.Bool.{Bool, true, false, cond}
+use mathlib.Core.List.{List, [], map, List·Memᴰ}
+use Prim.Native.Nat.{ℕ}
+use native.Mathlib.Omega.{arith}
+use lib.Dec.{T}
+use lib.ListN.{length}
+use Rattle.format.specs.Forest.{Forest, end, tree, beside, breadth}
+use Rattle.format.specs.Node.{Kind, PrimT, VarT, OptT, VecT, RecordT, VariantT, FuncT, ServT, ClassT, InitT, FuncMode, Node}
+use Rattle.format.specs.Book.{Definition, Book}
+use Rattle.format.specs.Fits.{Fits}
+use Rattle.format.specs.Rules.{noTrees}
+use Rattle.book.specs.declared.refusal.Refusal.the-variants.{NoService, NoActor}
+use Rattle.book.specs.declared.refusal.Verdict.the-variants.{Passed}
+use Rattle.book.specs.Refusal.{andThen, unless}
+use Rattle.judgement.specs.Environment.{named, headKind, head, mainDefinitions, ends, aliasEnd, isFuncKind, isServKind, asService, kidsOf, methodsAt}
+use Rattle.judgement.specs.Actor.{serviceImports, mainActor, isClassKind, isClass, lastTree, allButLast, classArguments, belowClass, resolveActor}
+use Rattle.judgement.specs.Check.{check, checkForest, importsVerdict, decsVerdict, resolveVerdict}
+use Rattle.judgement.specs.Check as judged
+use Rattle.judgement.specs.WellFormed.{Occurs, here, after, Distinct, nameOf, Leads, arrived, onward, RootIs, StandsFor, MethodsAreFunctions, belowTop}
+use Rattle.judgement.proofs.Verdicts.{both-pass, unless-passed}
+use Rattle.judgement.proofs.Chains.{leads-end, leads-unique, leads-keeps, root-stands}
+use Rattle.judgement.proofs.Occurs.{named-var}
+use Rattle.judgement.proofs.Walks.{is-service}
+use Rattle.judgement.proofs.Theorems.{check-says}
+use Rattle.listing.specs.Uses.{typeOf}
+use Rattle.listing.specs.Questions.{Outcome, actorVerdict}
+use Rattle.listing.specs.Questions as asked
+use Rattle.listing.proofs.Offers.{Serves, Function, Interface, service, class, Functions}
+
+-- ---- Kinds
+is-class : (κ : Kind) → T (isClassKind κ) → κ ≡ ClassT
+unfolding isClassKind
+is-class (PrimT p) t = absurd t
+is-class (VarT n) t = absurd t
+is-class OptT t = absurd t
+is-class VecT t = absurd t
+is-class RecordT t = absurd t
+is-class VariantT t = absurd t
+is-class (FuncT a ms) t = absurd t
+is-class ServT t = absurd t
+is-class ClassT t = refl
+is-class InitT t = absurd t
+
+is-function : (κ : Kind) → T (isFuncKind κ) → (a : ℕ) × (ms : List FuncMode) × (κ ≡ FuncT a ms)
+unfolding isFuncKind
+is-function (PrimT p) t = absurd t
+is-function (VarT n) t = absurd t
+is-function OptT t = absurd t
+is-function VecT t = absurd t
+is-function RecordT t = absurd t
+is-function VariantT t = absurd t
+is-function (FuncT a ms) t = (a, ms, refl)
+is-function ServT t = absurd t
+is-function ClassT t = absurd t
+is-function InitT t = absurd t
+
+-- a name is no class
+pub named-no-class : (t : Forest Node) {n : ℕ} → head t ≡ named n → isClass t ≡ false
+unfolding head isClass isClassKind
+named-no-class end h = refl
+named-no-class (tree m kids next) h = rw (named-var (m .kind) h)
+
+leads-no-class : {ds : List Definition} {t u : Forest Node} → Leads ds t u → isClass u ≡ false → isClass t ≡ false
+leads-no-class (arrived h) e = e
+leads-no-class {t = t} (onward h m q l) e = named-no-class t h
+
+service-no-class : (node : Node) (methods next : Forest Node) → node .kind ≡ ServT → isClass (tree node methods next) ≡ false
+unfolding isClass isClassKind
+service-no-class node methods next s = rw s
+
+-- ---- A class's children
+last-beside : (f last : Forest Node) → breadth last ≡ 1 → lastTree (beside f last) ≡ last
+unfolding lastTree beside breadth
+last-beside end end h = refl
+last-beside end (tree n kids end) h = refl
+last-beside end (tree n kids (tree m lids next)) h = absurd (omega arith)
+last-beside (tree m lids end) end h = absurd (omega arith)
+last-beside (tree m lids end) (tree n kids next) h = last-beside end (tree n kids next) h
+last-beside (tree m lids (tree k mids next)) last h = last-beside (tree k mids next) last h
+
+others-beside : (f last : Forest Node) → breadth last ≡ 1 → allButLast (beside f last) ≡ f
+unfolding allButLast beside breadth
+others-beside end end h = refl
+others-beside end (tree n kids end) h = refl
+others-beside end (tree n kids (tree m lids next)) h = absurd (omega arith)
+others-beside (tree m lids end) end h = absurd (omega arith)
+others-beside (tree m lids end) (tree n kids next) h = ap (tree m lids) (others-beside end (tree n kids next) h)
+others-beside (tree m lids (tree k mids next)) last h = ap (tree m lids) (others-beside (tree k mids next) last h)
+
+beside-last : (f : Forest Node) → f ≡ beside (allButLast f) (lastTree f)
+unfolding allButLast lastTree beside
+beside-last end = refl
+beside-last (tree n kids end) = refl
+beside-last (tree n kids (tree m lids next)) = ap (tree n kids) (beside-last (tree m lids next))
+
+last-sole : (f : Forest Node) → (lastTree f ≡ end → ⊥) → breadth (lastTree f) ≡ 1
+unfolding lastTree breadth
+last-sole end h = absurd (h refl)
+last-sole (tree n kids end) h = refl
+last-sole (tree n kids (tree m lids next)) h = last-sole (tree m lids next) h
+
+-- ---- Where the definitions find it
+module _ (ds : List Definition) (once : Distinct (map nameOf ds)) where
+  pub function-end : {t kids : Forest Node} {a : ℕ} (x : Function ds t a kids) → aliasEnd ds t ≡ ends (tree (x .node) kids (x .next))
+  function-end x = leads-end ds once (x .leads)
+
+  pub function-unique : {t kids lids : Forest Node} {a c : ℕ} → Function ds t a kids → Function ds t c lids → (a ≡ c) × (kids ≡ lids)
+  function-unique {kids = kids} {lids = lids} x y =
+      let e : tree (x .node) kids (x .next) ≡ tree (y .node) lids (y .next) = leads-unique ds once (x .leads) (y .leads) in
+      let k : kids ≡ lids = cc in
+      let n : x .node ≡ y .node = cc in
+      let f : FuncT _ (x .modes) ≡ FuncT _ (y .modes) = sym (x .function) ∙ ap (λ (m : Node). m .kind) n ∙ y .function in
+      (cc, k)
+
+  pub serves-methods : {t methods : Forest Node} → Serves ds t methods → methodsAt (aliasEnd ds t) ≡ methods
+  unfolding methodsAt kidsOf
+  serves-methods x = rw (leads-end ds once (x .leads))
+
+  serves-no-class : {t methods : Forest Node} → Serves ds t methods → isClass t ≡ false
+  serves-no-class {methods = methods} x = leads-no-class (x .leads) (service-no-class (x .node) methods (x .next) (x .service))
+
+  pub interface-arguments : {t arguments methods : Forest Node} → Interface ds t arguments methods → classArguments t ≡ arguments
+  unfolding classArguments isClass kidsOf isClassKind
+  interface-arguments (service e x) = rw (serves-no-class x) (sym e)
+  interface-arguments {arguments = arguments} (class {last = last} e c one x) = rw (e, c) (others-beside arguments last one)
+
+  pub interface-methods : {t arguments methods : Forest Node} → Interface ds t arguments methods → methodsAt (aliasEnd ds (belowClass t)) ≡ methods
+  unfolding belowClass isClass kidsOf isClassKind
+  interface-methods (service e x) = rw (serves-no-class x) (serves-methods x)
+  interface-methods {arguments = arguments} (class {last = last} e c one x) = rw (e, c, last-beside arguments last one) (serves-methods x)
+
+  -- where the actor's own alias is followed first, the same is found
+  pub interface-end : {t arguments methods : Forest Node} → Interface ds t arguments methods → Interface ds (typeOf (aliasEnd ds t)) arguments methods
+  unfolding typeOf head headKind
+  interface-end {methods = methods} (service e x) =
+      let node = x .node in
+      rw (leads-end ds once (x .leads)) (service e record { node = node; next = x .next; leads = arrived {t = tree node methods (x .next)} (rw (x .service)); service = x .service })
+  interface-end {t} (class {c = c} {next = next} e κ one x) =
+      rw (leads-end ds once {t = t} {u = t} (arrived (rw (e, κ)))) (class {next = next} e κ one x)
+
+-- ---- What stands for a service or a function
+stands-serves : {ds : List Definition} {t : Forest Node} → StandsFor isServKind ds t → (methods : Forest Node) × Serves ds t methods
+stands-serves {ds} {t} s = go (s .type) (s .leads) (s .root)
+  where
+    go : (u : Forest Node) → Leads ds t u → RootIs isServKind u → (methods : Forest Node) × Serves ds t methods
+    go end l r = absurd r
+    go (tree n kids next) l r = (kids, record { node = n; next = next; leads = l; service = is-service (n .kind) r })
+
+pub stands-function : {ds : List Definition} {t : Forest Node} → StandsFor isFuncKind ds t → (a : ℕ) × (kids : Forest Node) × Function ds t a kids
+stands-function {ds} {t} s = go (s .type) (s .leads) (s .root)
+  where
+    go : (u : Forest Node) → Leads ds t u → RootIs isFuncKind u → (a : ℕ) × (kids : Forest Node) × Function ds t a kids
+    go end l r = absurd r
+    go (tree n kids next) l r = let f = is-function (n .kind) r in (f .0, kids, record { node = n; modes = f .1; next = next; leads = l; function = f .2 })
+
+-- no tree stands for nothing
+none-leads : {ds : List Definition} {t u : Forest Node} → Leads ds t u → t ≡ end → u ≡ end
+unfolding head
+none-leads (arrived h) e = e
+none-leads (onward h m q l) e = let g = rw e at h in let z : _≡_ {A = ℕ} 0 1 = cc in absurd (omega arith)
+
+none-serves : {ds : List Definition} {t methods : Forest Node} → Serves ds t methods → t ≡ end → ⊥
+none-serves x e = let q = none-leads (x .leads) e in let z : _≡_ {A = ℕ} 0 1 = cc in omega arith
+
+-- ---- An actor that stands for a service below its top
+pub stands-interface : (ds : List Definition) (t : Forest Node) → StandsFor isServKind ds (belowClass t) →
+    (methods : Forest Node) × Interface ds t (classArguments t) methods
+unfolding belowClass classArguments isClass kidsOf
+stands-interface ds end s = let x = stands-serves s in (x .0, service refl (x .1))
+stands-interface ds (tree n kids next) s = go (isClassKind (n .kind)) (is-class (n .kind)) s
+  where
+    go : (c : Bool) → (T c → n .kind ≡ ClassT) → StandsFor isServKind ds (cond c (lastTree kids) (tree n kids next)) →
+        (methods : Forest Node) × Interface ds (tree n kids next) (cond c (allButLast kids) end) methods
+    go true h s =
+        let x = stands-serves s in
+        (x .0, class {last = lastTree kids} {next = next} (ap (λ (f : Forest Node). tree n f next) (beside-last kids)) (h tt) (last-sole kids (none-serves (x .1))) (x .1))
+    go false h s = let x = stands-serves s in (x .0, service refl (x .1))
+
+-- Where the methods of all services are functions, those of the actor are.
+occurs-beside : {n : Node} {kids last : Forest Node} (f : Forest Node) → Occurs n kids last → Occurs n kids (beside f last)
+unfolding beside
+occurs-beside end o = o
+occurs-beside (tree m lids next) o = after (occurs-beside next o)
+
+module _ (ds : List Definition) (bodies : (d : Definition) → List·Memᴰ d ds → MethodsAreFunctions ds (d .body)) where
+  serves-functions : {t methods : Forest Node} → MethodsAreFunctions ds t → Serves ds t methods → Functions ds methods
+  serves-functions {methods = methods} h x n kids i =
+      stands-function (leads-keeps ds (MethodsAreFunctions ds) bodies (x .leads) h (x .node) methods here (x .service) n kids i)
+
+  pub interface-functions : (once : Distinct (map nameOf ds)) {t arguments methods : Forest Node} → MethodsAreFunctions ds (belowTop t) → Interface ds t arguments methods → Functions ds methods
+  unfolding belowTop isClass isClassKind kidsOf
+  interface-functions once h (service e x) = serves-functions (rw (serves-no-class ds once x) at h) x
+  interface-functions once {arguments = arguments} h (class {last = last} e c one x) =
+      serves-functions (λ n kids o. (rw (e, c) at h) n kids (occurs-beside arguments o)) x
+
+-- ---- A book that passes
+-- a question that needs an actor
+pub answered : {A : Type 0} (b : Book) → check b ≡ Passed → (resolveActor b ≡ end → ⊥) → (o : Outcome A) →
+    asked.after (andThen (check b) (actorVerdict (resolveActor b))) o ≡ o
+unfolding actorVerdict noTrees asked.after
+answered {A} b passed some o = rw passed (go (resolveActor b) some)
+  where
+    go : (t : Forest Node) → (t ≡ end → ⊥) → asked.after (unless (cond (noTrees t) false true) NoActor) o ≡ o
+    go end h = absurd (h refl)
+    go (tree n kids next) h = refl
+
+actor-stands : (ds : List Definition) (t : Forest Node) → (t ≡ end → ⊥) → judged.actorVerdict ds t ≡ Passed → StandsFor isServKind ds (belowClass t)
+unfolding judged.actorVerdict noTrees asService
+actor-stands ds end h e = absurd (h refl)
+actor-stands ds (tree n kids next) h e =
+    let t = tree n kids next in
+    let p = both-pass (checkForest false false ds (cond (isClass t) (kidsOf t) t)) _ e in
+    root-stands ds isServKind (belowClass t) (unless-passed (asService ds (belowClass t)) NoService (p .1))
+
+module _ (b : Book) (passed : check b ≡ Passed) (some : resolveActor b ≡ end → ⊥) where
+  pub passed-stands : StandsFor isServKind (mainDefinitions b) (belowClass (resolveActor b))
+  unfolding check
+  passed-stands =
+      let p = both-pass (importsVerdict (serviceImports (b .files))) _ passed in
+      let q = both-pass (decsVerdict (length (b .names)) (mainDefinitions b)) _ (p .1) in
+      let r = both-pass (resolveVerdict (b .names) (mainDefinitions b) (mainActor b) (serviceImports (b .files)) (resolveActor b)) _ (q .1) in
+      actor-stands (mainDefinitions b) (resolveActor b) some (r .1)
+
+  pub passed-interface : (methods : Forest Node) × Interface (mainDefinitions b) (resolveActor b) (classArguments (resolveActor b)) methods
+  passed-interface = stands-interface (mainDefinitions b) (resolveActor b) passed-stands
+
+  module _ (fits : Fits b) where
+    pub passed-once : Distinct (map nameOf (mainDefinitions b))
+    passed-once = check-says b fits .0 passed .0 .definitions .once
+
+    pub passed-functions : {arguments methods : Forest Node} → Interface (mainDefinitions b) (resolveActor b) arguments methods → Functions (mainDefinitions b) methods
+    passed-functions =
+        let w = check-says b fits .0 passed .0 in
+        interface-functions (mainDefinitions b) (λ d m. w .definitions .trees d m .methods) (w .definitions .once) (w .actor .methods)
