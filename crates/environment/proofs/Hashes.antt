@@ -36,7 +36,7 @@ pub record HashesLeft (bs : List ℕ) (count : ℕ) (hashes : List ℕ) (at n : 
   pub done : (m : ℕ) → m < n → getD hashes m 0 ≡ labelNumber (getD (namesOf (length bs) bs) m [])
   pub beyond : (m : ℕ) → n ≤ m → getD hashes m 0 ≡ 0
 
-zero-length : length zeroTable ≡ 1024
+pub zero-length : length zeroTable ≡ 1024
 unfolding zeroTable
 zero-length = length-replicate {A = ℕ} 1024 0
 

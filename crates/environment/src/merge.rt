@@ -23,7 +23,7 @@ use format::Place;
 use labels::Label;
 
 // A table that has 0 for each name.
-fn zeros() -> [u32; 1024]
+pub fn zeros() -> [u32; 1024]
     ensures { λ r. ⌜ r ≡ zeroTable ⌝ }
 {
     [0u32; 1024]

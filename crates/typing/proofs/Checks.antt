@@ -108,7 +108,7 @@ module _ {es ns : List ℕ} {names count from to : ℕ} (x : Bodies es ns names 
                     binds = binds;
                     func = λ e n w. ends-func (x .nodes) ends-are ds binds (defined-length ns (x .entries)) n (omega (arith, w .held, x .exact));
                   };
-              service = λ n i. ends-service (x .nodes) ends-are ds binds (defined-length ns (x .entries)) n i;
+              service = λ n w. ends-service (x .nodes) ends-are ds binds (defined-length ns (x .entries)) n (omega (arith, w .held, x .exact));
             }
 
         module _ {b : Bool} (f : BodiesFitAs es ns ends′ from to b) where

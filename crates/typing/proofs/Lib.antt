@@ -7,3 +7,12 @@ pub mod Fitting
 pub mod Split
 pub mod Checks
 pub mod Opened
+pub mod Order
+pub mod ImportFiles
+pub mod Classes
+pub mod Resolving
+pub mod NodeTrees
+pub mod Merging
+pub mod ActorWalk
+pub mod Parts
+pub mod Hashing

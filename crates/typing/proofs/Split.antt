@@ -304,7 +304,7 @@ module _ (bs : List ℕ) {b : Book} (w : layout bs ≡ whole b) where
   pub trees-fit : T (forestFits (length (b .names)) Root (siblings (nodesPart bs) 0 (count (trees b))))
   trees-fit = rw (trees-are bs w) (all-fit (admitted-parts bs w))
 
-  definition-tree-fits : (d : ℕ) → d < length (b .definitions) → T (forestFits (length (b .names)) Root (treeAt (nodesPart bs) (entryAt (definitionsPart bs) d .root)))
+  pub definition-tree-fits : (d : ℕ) → d < length (b .definitions) → T (forestFits (length (b .names)) Root (treeAt (nodesPart bs) (entryAt (definitionsPart bs) d .root)))
   definition-tree-fits d h =
       let names : ℕ = length (b .names) in
       let files : ℕ = length (b .files) in

@@ -44,7 +44,7 @@ module _ {ns roots ends′ : List ℕ} {i until : ℕ} (t : Trees ns roots ends�
   pub opened : Opened ns i until
   opened = opens (t .whole) h
 
-  fit-parts : (T (nodeFits (t .walk .names) (t .place) (nodeOf (rowAt ns i)) (breadth (siblings ns (i + 1) (i + rowAt ns i .size))))
+  pub fit-parts : (T (nodeFits (t .walk .names) (t .place) (nodeOf (rowAt ns i)) (breadth (siblings ns (i + 1) (i + rowAt ns i .size))))
       × T (forestFits (t .walk .names) (placeBelow (nodeOf (rowAt ns i) .kind)) (siblings ns (i + 1) (i + rowAt ns i .size))))
       × T (forestFits (t .walk .names) (t .place) (siblings ns (i + rowAt ns i .size) until))
   unfolding forestFits
@@ -196,6 +196,10 @@ module _ {ns roots ends′ : List ℕ} {i until : ℕ} (t : Trees ns roots ends�
 
   pub kids-methods : rowAt ns i .kind ≡ 24 → Methods ns roots ends′ (i + 1) (i + rowAt ns i .size)
   kids-methods k = record { trees = kids-trees t h; methods = kids-place k }
+
+pub rest-methods : {ns roots ends′ : List ℕ} {i until : ℕ} → Methods ns roots ends′ i until → i < until → Methods ns roots ends′ (i + rowAt ns i .size) until
+unfolding rest-trees
+rest-methods m h = record { trees = rest-trees (m .trees) h; methods = m .methods }
 
 -- ---- the loop over methods
 pub record MethodsLeft (pre : Bool) (ns roots ends′ : List ℕ) (from until i : ℕ) : Type 0 where

@@ -2,14 +2,14 @@
 use mathlib.Core.Path.{_≡_}
 use mathlib.Core.Bool.{false}
 use mathlib.Core.List.{List, map}
-use Prim.Native.Nat.{ℕ, _*_, _≤_, _<_}
+use Prim.Native.Nat.{ℕ, _+_, _*_, _≤_, _<_}
 use lib.ListN.{length}
 use lib.Dec.{T}
 use Rattle.format.specs.declared.Place.the-variants.{Root}
 use Rattle.format.specs.Book.{Definition}
 use Rattle.format.specs.Fits.{forestFits}
 use Rattle.format.specs.Layout.{entryAt}
-use Rattle.format.specs.Whole.{treeAt}
+use Rattle.format.specs.Whole.{Within, treeAt}
 use Rattle.book.specs.declared.refusal.Verdict.{Verdict}
 use Rattle.book.specs.declared.refusal.Verdict.the-variants.{Passed}
 use Rattle.judgement.specs.Environment.{asService}
@@ -29,7 +29,7 @@ pub record Checked (ns roots ends′ : List ℕ) (count : ℕ) (ds : List Defini
   pub table : Roots roots count
   pub ended : EndNodes ends′ count
   pub env : Env ns roots ends′ false ds
-  pub service : (n : ℕ) → n < count → endIs 24 ns ends′ n ≡ asService ds (treeAt ns n)
+  pub service : (n : ℕ) → Within ns (n + 1) → endIs 24 ns ends′ n ≡ asService ds (treeAt ns n)
 
 pub record DecsAs (es ns : List ℕ) (names count from to : ℕ) (v : Verdict) (roots ends′ : List ℕ) : Type 0 where
   pub verdict : v ≡ decsVerdict names (definitionsIn ns es from to)

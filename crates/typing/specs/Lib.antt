@@ -4,3 +4,6 @@ pub mod Split
 pub mod Bodies
 pub mod Decs
 pub mod Books
+pub mod Actors
+pub mod Hashed
+pub mod Checking

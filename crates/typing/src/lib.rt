@@ -10,9 +10,12 @@ ghost use Rattle.judgement.specs.Check.{checkForest};
 ghost use Rattle.environment.specs.Tables.{Ended, endIs};
 ghost use Rattle.typing.specs.Walk.{Trees, Methods, Env, boundVerdict, valueVerdict, typeVerdict, funcVerdict};
 
+pub mod actor;
 pub mod bodies;
+pub mod check;
 pub mod decs;
 pub mod files;
+pub mod hashes;
 
 use book::kinds::Kind;
 use book::kinds::Mode;

@@ -1,0 +1,103 @@
+// The check of a whole book: `check_prog` on the definitions of all files but the init file, and on the resolved actor.
+ghost use mathlib.Core.Path.{_≡_};
+ghost use mathlib.Core.Bool.{cond};
+ghost use mathlib.Core.List.{List, []};
+ghost use Prim.Native.Nat.{ℕ, _≤_};
+ghost use lib.ListN.{length, take};
+ghost use Rattle.judgement.specs.Check.{hashesVerdict, checkBytes};
+ghost use Rattle.book.specs.declared.refusal.Verdict.the-variants.{Passed};
+ghost use Rattle.environment.specs.Merging.{NamesIn};
+ghost use Rattle.typing.specs.Actors.{methodsIn};
+ghost use Rattle.typing.specs.Hashed.{ServicesIn};
+ghost use Rattle.typing.specs.Checking.{PartsOf, CheckedAs, HashedAs, refusedNone};
+ghost use Rattle.typing.specs.Books.{Admitted};
+use crate::actor::Actor;
+use book::kinds::Contents;
+use book::refusal::Verdict;
+
+// What the check finds, and what the questions after it need: how many definitions are not the init file's, the tables, and the actor.
+pub struct Checked {
+    pub verdict: Verdict,
+    pub main: usize,
+    pub roots: [u16; 1024],
+    pub ends: [u16; 1024],
+    pub actor: Actor,
+}
+
+// A refused book has nothing to go on with.
+fn stopped(verdict: Verdict) -> Checked
+    ensures { λ r. ⌜ r ≡ refusedNone verdict ⌝ }
+{
+    let resolved = crate::actor::as_written(book::read::Entry::NO_ROOT, verdict);
+    let actor = resolved.actor;
+    Checked {
+        verdict,
+        main: 0,
+        roots: environment::blank(),
+        ends: environment::blank(),
+        actor,
+    }
+}
+
+// 14, which only a merged actor can be.
+fn check_hashes(names: &[u8], count: usize, rows: &[u8], actor: Actor) -> Verdict
+    requires { ⌜ NamesIn (now names) count × ServicesIn (now rows) (actor .services) (actor .count) ⌝ }
+    ensures { λ r. ⌜ HashedAs (now (names .entry)) (now (rows .entry)) actor r ⌝ }
+{
+    if !actor.merged {
+        return Verdict::Passed;
+    }
+    let table = environment::merge::name_hashes(names, count);
+    let services = actor.services;
+    crate::hashes::hashes(rows, &table, services, actor.count)
+}
+
+// The check of a book by its parts.
+pub fn check_parts(
+    names: &[u8],
+    rows: &[u8],
+    entries: &[u8],
+    files: &[u8],
+    name_count: usize,
+    nodes: usize,
+    definitions: usize,
+    file_count: usize,
+) -> Checked
+    requires { ⌜ PartsOf (now names) (now rows) (now entries) (now files) «name_count» nodes definitions «file_count» ⌝ }
+    ensures { λ r. ⌜ ((p : PartsOf (now (names .entry)) (now (rows .entry)) (now (entries .entry)) (now (files .entry)) «name_count» nodes definitions «file_count») → CheckedAs p r) ⌝ }
+{
+    let v = crate::actor::imports(files, file_count);
+    if !v.passed() {
+        return stopped(v);
+    }
+    let init = crate::files::init_file(files, file_count);
+    let main = crate::files::main_definitions(entries, definitions, init);
+    let decs = crate::decs::check_decs(entries, rows, name_count, nodes, 0, main);
+    let w = decs.verdict;
+    if !w.passed() {
+        return stopped(w);
+    }
+    let roots = decs.roots;
+    let ends = decs.ends;
+    let resolved = crate::actor::resolve(files, file_count, rows, &roots, name_count, nodes, main);
+    let x = resolved.verdict;
+    if !x.passed() {
+        return stopped(x);
+    }
+    let actor = resolved.actor;
+    let y = check_hashes(names, name_count, rows, actor);
+    if !y.passed() {
+        return stopped(y);
+    }
+    let z = crate::actor::check_actor(rows, &roots, &ends, actor);
+    if !z.passed() {
+        return stopped(z);
+    }
+    Checked {
+        verdict: z,
+        main,
+        roots,
+        ends,
+        actor,
+    }
+}
