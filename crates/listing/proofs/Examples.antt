@@ -1,7 +1,7 @@
 -- Small books and what their lists are, by computation. Assumes nothing.
 use mathlib.Core.Path.{_≡_, refl}
 use mathlib.Core.Bool.{Bool}
-use mathlib.Core.List.{List, [], _∷_}
+use mathlib.Core.List.{List, [], _∷_, map}
 use Prim.Native.Nat.{ℕ}
 use native.Mathlib.Omega.{arith}
 use Rattle.labels.specs.declared.Label.{Label}
@@ -19,6 +19,8 @@ use Rattle.judgement.specs.Environment.{roleAt, keep, mainDefinitions, initDefi
 use Rattle.judgement.specs.Actor.{isServiceImport, serviceImports, firstActor, mainActor, isClassKind, isClass, lastTree, belowClass, resolveWith, resolveActor}
 use Rattle.judgement.specs.Check.{nameVerdict, isOneway, modesVerdict, kindVerdict, methodVerdict, checkForest, member, onceVerdict, bodiesVerdict, eachName, isCircle, circleVerdict, methodsFit, bodiesFit, decsVerdict, importsVerdict, resolveVerdict, check, sameVerdict, mergeVerdict, initTree, initVerdict, initCheck}
 use Rattle.judgement.specs.Check as checks
+use Rattle.judgement.specs.WellFormed.{Distinct, nameOf}
+use Rattle.judgement.proofs.Decs.{once-says}
 use Rattle.listing.specs.Chase.{push, arm, chase, meetName, visit, chaseTypes}
 use Rattle.listing.specs.Questions.{Outcome, refused, given, after, actorVerdict, walked, list, initList, draftDefinitions, draftList}
 use Rattle.listing.proofs.Answered.{Answered, list-answered}
@@ -80,7 +82,7 @@ book ds actor = record {
 
 -- ---- P1 of document 01: pair is listed before tree, inside which it is met, and spare is not listed
 -- type tree = variant { leaf : nat; fork : pair }; type pair = record { tree; tree }; type spare = text; service : { put : (tree) -> () }
-abbrev p1 : Book
+abbrev pub p1 : Book
 p1 =
     let fork : ℕ = 1 in
     let leaf : ℕ = 2 in
@@ -111,9 +113,21 @@ pub p1-passes : check p1 ≡ Passed
 unfolding checked
 p1-passes = refl
 
-pub p1-answered : Answered (mainDefinitions p1) (resolveActor p1) (list p1)
+pub p1-actor : resolveActor p1 ≡ end → ⊥
 unfolding checked
-p1-answered = list-answered p1 p1-fits p1-passes (λ e. let z : _≡_ {A = ℕ} 0 1 = cc in omega arith)
+p1-actor e = let z : _≡_ {A = ℕ} 0 1 = cc in omega arith
+
+pub p1-answered : Answered (mainDefinitions p1) (resolveActor p1) (list p1)
+p1-answered = list-answered p1 p1-fits p1-passes p1-actor
+
+-- As a draft it has an actor, and no name defined twice.
+pub p1-main : mainActor p1 ≡ end → ⊥
+unfolding drafted
+p1-main e = let z : _≡_ {A = ℕ} 0 1 = cc in omega arith
+
+pub p1-once : Distinct (map nameOf (draftDefinitions p1))
+unfolding drafted
+p1-once = once-says (draftDefinitions p1) .0 refl
 
 -- ---- From left to right: type a = nat; type b = nat; service : { "" : (b, a) -> () }
 pub left-first : list (book (type 0 1 (plain (PrimT Nat) end) ∷ (type 0 2 (plain (PrimT Nat) end) ∷ [])) (service 0 (beside (name 2) (name 1)))) ≡ given (2 ∷ 1 ∷ [])

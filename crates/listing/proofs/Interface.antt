@@ -33,7 +33,7 @@ use Rattle.judgement.proofs.Theorems.{check-says}
 use Rattle.listing.specs.Uses.{typeOf}
 use Rattle.listing.specs.Questions.{Outcome, actorVerdict}
 use Rattle.listing.specs.Questions as asked
-use Rattle.listing.proofs.Offers.{Serves, Function, Interface, service, class, Functions}
+use Rattle.listing.specs.Offers.{Serves, Function, Interface, service, class, Functions}
 
 -- ---- Kinds
 is-class : (κ : Kind) → T (isClassKind κ) → κ ≡ ClassT

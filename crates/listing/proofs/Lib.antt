@@ -8,8 +8,8 @@ pub mod Answered
 pub mod Examples
 pub mod Marks
 pub mod Marked
-pub mod Offers
 pub mod Interface
 pub mod Sites
 pub mod Used
 pub mod Projected
+pub mod Demand3

@@ -432,7 +432,7 @@ marked-not-after ds l n = (there, back)
 -- ---- What a walk lists
 module _ {ds : List Definition} {start : Forest Node} {seen out : List ℕ} (walked : Listed ds start seen out) where
   -- what a listed name refers to is listed
-  closed : {u v : ℕ} → List·Memᴰ u out → Refers ds u v → List·Memᴰ v out
+  pub closed : {u v : ℕ} → List·Memᴰ u out → Refers ds u v → List·Memᴰ v out
   closed {u} {v} i r = walked .complete v (onward (walked .sound u i) r)
 
   -- A name is marked exactly if it is listed and refers to itself or one listed before it refers to it.
@@ -483,7 +483,7 @@ module _ {ds : List Definition} {start : Forest Node} {seen out : List ℕ} (wal
   way-listed (last r) i = closed i r
   way-listed (step r way) i = way-listed way (closed i r)
 
-  way-comes : {u w k : ℕ} {l : List ℕ} → Way ds u l w → List·Memᴰ k l → List·Memᴰ k out → List·Memᴰ w out
+  pub way-comes : {u w k : ℕ} {l : List ℕ} → Way ds u l w → List·Memᴰ k l → List·Memᴰ k out → List·Memᴰ w out
   way-comes (last r) i j = Memᴰ·cast (sym (List·Memᴰ·eq-of-singleton i)) j
   way-comes (step r way) i j =
       ⊎-elim (λ e. way-listed way (Memᴰ·cast (sym e) j)) (λ k. way-comes way k j) (List·Memᴰ·cases-cons i)

@@ -38,7 +38,7 @@ use Rattle.judgement.proofs.Lookup.{member-says}
 use Rattle.judgement.proofs.Empty.{ascends-unique}
 use Rattle.listing.specs.Project.{without, Projection, take′, projectFrom, lowest}
 use Rattle.listing.specs.Questions.{Outcome, refused, given, after, actorVerdict, leftOver, projected, project}
-use Rattle.listing.proofs.Offers.{Interface, one, times, SameNames, Enough, LowestAbsent, nameAt, Positions}
+use Rattle.listing.specs.Offers.{Interface, one, times, SameNames, Enough, LowestAbsent, nameAt, Positions}
 use Rattle.listing.proofs.Interface.{interface-methods, answered, passed-once}
 use Rattle.listing.proofs.Used.{same-test}
 

@@ -18,7 +18,7 @@ use Rattle.format.specs.Book.{Definition}
 use Rattle.judgement.specs.Environment.{methodsAt, kidsOf}
 use Rattle.judgement.specs.WellFormed.{first, later, Distinct, nameOf}
 use Rattle.listing.specs.Uses.{Site, classSites, funcSites, kindSites, endSites, methodSites, sites}
-use Rattle.listing.proofs.Offers.{Function, Interface, Functions, treeAt, firstTrees, site, indexed, functionSites, MethodSites, none, method, FunctionSite, argument, result, SiteOf, ofClass, ofMethod, functionPlace, sitePlace, argumentsAndResults}
+use Rattle.listing.specs.Offers.{Function, Interface, Functions, treeAt, firstTrees, site, indexed, functionSites, MethodSites, none, method, FunctionSite, argument, result, SiteOf, ofClass, ofMethod, functionPlace, sitePlace, argumentsAndResults}
 use Rattle.listing.proofs.Interface.{function-end, function-unique, interface-arguments, interface-methods, interface-end}
 
 -- ---- Trees by their places

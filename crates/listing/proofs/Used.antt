@@ -42,7 +42,7 @@ use Rattle.listing.specs.Questions.{given, uses}
 use Rattle.listing.proofs.Folds.{Leafy, LeafyBodies, resolved-leafy}
 use Rattle.listing.proofs.Walked.{bound-defined, walk-lists, bound-walk}
 use Rattle.listing.proofs.Answered.{main-bodies}
-use Rattle.listing.proofs.Offers.{Interface, SiteOf, argumentsAndResults, kept, entryOf, RowOf, UsesGiven}
+use Rattle.listing.specs.Offers.{Interface, SiteOf, argumentsAndResults, kept, entryOf, RowOf, UsesGiven}
 use Rattle.listing.proofs.Interface.{named-no-class, answered, passed-once, passed-functions}
 use Rattle.listing.proofs.Sites.{sites-are, methods-listed, sites-say, sites-length}
 

@@ -1,7 +1,9 @@
--- What the questions answer. Read in this order: Chase, Recursive, Uses, Project, Questions; then References, which says what they mean.
+-- What the questions answer. Read in this order: Chase, Recursive, Uses, Project, Questions; then References and Offers, which say what they
+-- mean.
 pub mod Chase
 pub mod Recursive
 pub mod Uses
 pub mod Project
 pub mod Questions
 pub mod References
+pub mod Offers
