@@ -1,5 +1,6 @@
 -- The parts of an admitted book, where its table of contents says. Assumes nothing.
-use mathlib.Core.Path.{_≡_, refl, sym, ap, ap₂, _∙_}
+use mathlib.Core.Path.{_≡_, refl, sym, ap, ap₂, subst, _∙_}
+use mathlib.Core.Bool.{Bool, true, false, false≢true}
 use mathlib.Core.List.{List}
 use Prim.Native.Nat.{ℕ, _+_, _≤_}
 use native.Mathlib.Omega.{arith}
@@ -7,11 +8,19 @@ use lib.ListN.{length}
 use Rattle.format.specs.Forest.{count}
 use Rattle.format.specs.Book.{Book, trees}
 use Rattle.format.specs.Encode.{namesBytes, nodesBytes, definitionsBytes, filesBytes}
-use Rattle.format.specs.Layout.{le32, part, namesPart, nodesPart, definitionsPart, filesPart}
+use Rattle.format.specs.Layout.{le32, part, namesPart, nodesPart, definitionsPart, filesPart, Layout, broken, whole, layout}
 use Rattle.format.proofs.Encoded.{Placed}
 use Rattle.format.proofs.Admitted.{admitted-placed}
 use Rattle.book.specs.declared.kinds.Contents.{Contents}
-use Rattle.book.specs.Reading.{contentsOf}
+use Rattle.book.specs.declared.refusal.Refusal.{Refusal}
+use Rattle.book.specs.declared.refusal.Verdict.{Verdict}
+use Rattle.book.specs.declared.refusal.Verdict.the-variants.{Passed, Refused}
+use Rattle.book.specs.declared.Admission.{Admission}
+use Rattle.book.specs.declared.Admission.the-variants.{Refused as RefusedBook, Admitted as AdmittedBook}
+use Rattle.book.specs.Reading.{contentsOf, asAdmission, admission}
+use Rattle.judgement.specs.Check.{onLayout}
+use Rattle.typing.specs.declared.check.Checked.{Checked}
+use Rattle.typing.specs.Checking.{PartsOf, Passes, CheckedAs, BookAs}
 use Rattle.typing.specs.Books.{Admitted}
 
 module _ {bs : List ℕ} {c : Contents} (a : Admitted bs c) where
@@ -80,3 +89,60 @@ module _ {bs : List ℕ} {c : Contents} (a : Admitted bs c) where
         three = omega (arith, definitions-at, files-at, placed .filesAt);
         four = omega (arith, files-at, placed .ends);
       }
+
+  pub parts-of : PartsOf (part 32 (c .«nodes_at») bs) (part (c .«nodes_at») (c .«definitions_at») bs) (part (c .«definitions_at») (c .«files_at») bs)
+      (part (c .«files_at») (length bs) bs) (c .names) (c .nodes) (c .definitions) (c .files)
+  parts-of =
+      record {
+        bytes = bs;
+        book = a .book;
+        laid = a .laid;
+        names-are = names-here;
+        rows-are = nodes-here;
+        entries-are = definitions-here;
+        files-are = files-here;
+        name-count-is = names-count;
+        nodes-is = nodes-count;
+        definitions-is = definitions-count;
+        file-count-is = files-count;
+      }
+
+  pub book-as : (r : Checked) → CheckedAs parts-of r → BookAs a r
+  unfolding parts-of
+  book-as r x = record { verdict = x .verdict; passed = λ e. passes (nodesPart bs) (definitionsPart bs) nodes-here definitions-here (x .passed e) }
+    where
+      passes : {ns es : List ℕ} (ms fs : List ℕ) → ns ≡ ms → es ≡ fs → Passes ns es (a .book) r → Passes ms fs (a .book) r
+      passes {ns} ms fs e f q = subst (λ (l : List ℕ). Passes l fs (a .book) r) e (subst (λ (l : List ℕ). Passes ns l (a .book) r) f q)
+
+-- ---- From bytes to an admitted book
+isAdmitted : Admission → Bool
+isAdmitted (RefusedBook r) = false
+isAdmitted (AdmittedBook c) = true
+
+refusalOf : Admission → Verdict
+refusalOf (RefusedBook r) = Refused r
+refusalOf (AdmittedBook c) = Passed
+
+tableOf : Contents → Admission → Contents
+tableOf d (RefusedBook r) = d
+tableOf d (AdmittedBook c) = c
+
+pub refused-is : (bs : List ℕ) (f : Book → Verdict) {r : Refusal} → RefusedBook r ≡ admission bs → Refused r ≡ onLayout f (layout bs)
+unfolding admission onLayout refusalOf isAdmitted
+refused-is bs f {r} = go (layout bs)
+  where
+    go : (l : Layout) → RefusedBook r ≡ asAdmission l → Refused r ≡ onLayout f l
+    go broken e = ap refusalOf e
+    go (whole b) e = absurd (false≢true (ap isAdmitted e))
+
+pub admitted-is : (bs : List ℕ) {c : Contents} → AdmittedBook c ≡ admission bs → Admitted bs c
+unfolding admission isAdmitted contentsOf tableOf
+admitted-is bs {c} = go (layout bs) refl
+  where
+    go : (l : Layout) → layout bs ≡ l → AdmittedBook c ≡ asAdmission l → Admitted bs c
+    go broken z e = absurd (false≢true (sym (ap isAdmitted e)))
+    go (whole b) z e = record { book = b; laid = z; table = sym (ap (tableOf c) e) }
+
+pub on-book : {bs : List ℕ} {c : Contents} (a : Admitted bs c) (f : Book → Verdict) → f (a .book) ≡ onLayout f (layout bs)
+unfolding onLayout
+on-book a f = sym (ap (onLayout f) (a .laid))

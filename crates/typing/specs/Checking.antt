@@ -7,6 +7,7 @@ use lib.ListN.{length, take}
 use Rattle.format.specs.Forest.{count}
 use Rattle.format.specs.Book.{Book, trees}
 use Rattle.format.specs.Layout.{namesOf, namesPart, nodesPart, definitionsPart, filesPart, whole, layout}
+use Rattle.book.specs.declared.kinds.Contents.{Contents}
 use Rattle.book.specs.declared.refusal.Verdict.{Verdict}
 use Rattle.book.specs.declared.refusal.Verdict.the-variants.{Passed}
 use Rattle.judgement.specs.Environment.{mainDefinitions}
@@ -17,6 +18,7 @@ use Rattle.typing.specs.declared.actor.Actor.{Actor}
 use Rattle.typing.specs.declared.check.Checked.{Checked}
 use Rattle.typing.specs.Actors.{resolvedNone, methodsIn, actorTree, ActorStored}
 use Rattle.typing.specs.Split.{initAt, SplitAs}
+use Rattle.typing.specs.Books.{Admitted}
 use Rattle.typing.specs.Decs as decs
 
 -- The four bodies of an admitted book, and how many things each has.
@@ -53,3 +55,8 @@ pub record CheckedAs {names rows entries files : List ℕ} {name-count nodes def
     (p : PartsOf names rows entries files name-count nodes definitions file-count) (r : Checked) : Type 0 where
   pub verdict : r .verdict ≡ check (p .book)
   pub passed : r .verdict ≡ Passed → Passes rows entries (p .book) r
+
+-- The same of a whole book.
+pub record BookAs {bs : List ℕ} {c : Contents} (a : Admitted bs c) (r : Checked) : Type 0 where
+  pub verdict : r .verdict ≡ check (a .book)
+  pub passed : r .verdict ≡ Passed → Passes (nodesPart bs) (definitionsPart bs) (a .book) r

@@ -9,9 +9,10 @@ ghost use Rattle.book.specs.declared.refusal.Verdict.the-variants.{Passed};
 ghost use Rattle.environment.specs.Merging.{NamesIn};
 ghost use Rattle.typing.specs.Actors.{methodsIn};
 ghost use Rattle.typing.specs.Hashed.{ServicesIn};
-ghost use Rattle.typing.specs.Checking.{PartsOf, CheckedAs, HashedAs, refusedNone};
+ghost use Rattle.typing.specs.Checking.{PartsOf, CheckedAs, HashedAs, BookAs, refusedNone};
 ghost use Rattle.typing.specs.Books.{Admitted};
 use crate::actor::Actor;
+use book::Admission;
 use book::kinds::Contents;
 use book::refusal::Verdict;
 
@@ -99,5 +100,38 @@ pub fn check_parts(
         roots,
         ends,
         actor,
+    }
+}
+
+// The check of an admitted book.
+pub fn check_book(book: &[u8], c: Contents) -> Checked
+    requires { ⌜ Admitted (now book) c ⌝ }
+    ensures { λ r. ⌜ ((a : Admitted (now (book .entry)) c) → BookAs a r) ⌝ }
+{
+    let nodes_at = c.nodes_at;
+    let definitions_at = c.definitions_at;
+    let files_at = c.files_at;
+    check_parts(
+        &book[Contents::SIZE..nodes_at],
+        &book[nodes_at..definitions_at],
+        &book[definitions_at..files_at],
+        &book[files_at..],
+        c.names,
+        c.nodes,
+        c.definitions,
+        c.files,
+    )
+}
+
+// Whether a book passes: refusals 1 to 10 and 12 to 14, the first in the order of the check.
+pub fn check(book: &[u8]) -> Verdict
+    ensures { λ r. ⌜ r ≡ checkBytes (now (book .entry)) ⌝ }
+{
+    match book::admit(book) {
+        Admission::Refused(refusal) => Verdict::Refused(refusal),
+        Admission::Admitted(c) => {
+            let checked = check_book(book, c);
+            checked.verdict
+        }
     }
 }
