@@ -13,3 +13,4 @@ pub mod Merged
 pub mod Theorems
 pub mod Steps
 pub mod Empty
+pub mod MergedChains

@@ -207,7 +207,7 @@ no-decs : (n : ℕ) → decsVerdict n [] ≡ Passed
 unfolding decsVerdict onceVerdict bodiesVerdict bodiesFit circleVerdict findType
 no-decs n = pass-both (eachName (λ k. Passed) 0 n) Passed (passed-names (λ k. Passed) 0 n (λ i l u. refl)) refl
 
-init-verdict : (b : Book) → NoInit (b .files) → initVerdict b ≡ Passed
+pub init-verdict : (b : Book) → NoInit (b .files) → initVerdict b ≡ Passed
 unfolding initVerdict mergeVerdict sameVerdict findType kidsOf checkForest
 init-verdict b h =
     rw (no-init-definitions b h, no-init-tree (b .files) h, no-decs (names b)) (pass-both (eachName (λ k. Passed) 0 (names b)) Passed (passed-names (λ k. Passed) 0 (names b) (λ i l u. refl)) refl)

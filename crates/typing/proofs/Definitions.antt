@@ -25,10 +25,10 @@ use Rattle.typing.proofs.Walk.{and-on, and-stops, and-passed, check-non
 
 -- ---- the definitions that are left at entry d: none, or that of d and those after it
 module _ (ns es : List ℕ) {d to : ℕ} where
-  definitions-none : to ≤ d → definitionsIn ns es d to ≡ []
+  pub definitions-none : to ≤ d → definitionsIn ns es d to ≡ []
   definitions-none h = let z : to - d ≡ 0 = omega arith in rw (z, run-none (entryAt es) d)
 
-  definitions-cons : d < to → definitionsIn ns es d to ≡ definitionAt ns (entryAt es d) ∷ definitionsIn ns es (d + 1) to
+  pub definitions-cons : d < to → definitionsIn ns es d to ≡ definitionAt ns (entryAt es d) ∷ definitionsIn ns es (d + 1) to
   definitions-cons h = let z : to - d ≡ suc (to - (d + 1)) = omega arith in rw (z, run-cons (entryAt es) d (to - (d + 1)))
 
 -- ---- a loop that is at entry d: f says the same of the definitions that are left and of all, wherever P holds

@@ -6,8 +6,8 @@ pub mod Definitions
 pub mod Fitting
 pub mod Split
 pub mod Checks
-pub mod Opened
 pub mod Order
+pub mod Opened
 pub mod ImportFiles
 pub mod Classes
 pub mod Resolving
@@ -15,4 +15,5 @@ pub mod NodeTrees
 pub mod Merging
 pub mod ActorWalk
 pub mod Parts
+pub mod Inits
 pub mod Hashing

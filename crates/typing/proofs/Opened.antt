@@ -18,9 +18,16 @@ use Rattle.book.specs.declared.refusal.Verdict.the-variants.{Passed, Refused}
 use Rattle.book.specs.declared.Admission.{Admission}
 use Rattle.book.specs.declared.Admission.the-variants.{Refused as RefusedBook, Admitted as AdmittedBook}
 use Rattle.book.specs.Reading.{contentsOf, asAdmission, admission}
-use Rattle.judgement.specs.Check.{onLayout}
+use Rattle.book.specs.Refusal.{isPassed}
+use Rattle.judgement.specs.Environment.{mainDefinitions}
+use Rattle.judgement.specs.Check.{initVerdict, initCheck, onLayout}
+use Rattle.environment.specs.Tables.{Binds}
 use Rattle.typing.specs.declared.check.Checked.{Checked}
 use Rattle.typing.specs.Checking.{PartsOf, Passes, CheckedAs, BookAs}
+use Rattle.typing.specs.Init.{MainPassed}
+use Rattle.typing.proofs.Walk.{and-on, and-stops}
+use Rattle.typing.proofs.Checks.{passed-is}
+use Rattle.typing.proofs.Order.{definitions-passed}
 use Rattle.typing.specs.Books.{Admitted}
 
 module _ {bs : List ℕ} {c : Contents} (a : Admitted bs c) where
@@ -113,6 +120,29 @@ module _ {bs : List ℕ} {c : Contents} (a : Admitted bs c) where
     where
       passes : {ns es : List ℕ} (ms fs : List ℕ) → ns ≡ ms → es ≡ fs → Passes ns es (a .book) r → Passes ms fs (a .book) r
       passes {ns} ms fs e f q = subst (λ (l : List ℕ). Passes l fs (a .book) r) e (subst (λ (l : List ℕ). Passes ns l (a .book) r) f q)
+
+  module _ {r : Checked} (x : BookAs a r) where
+    -- ---- After the check, the init arguments
+    pub init-stops : isPassed (r .verdict) ≡ false → r .verdict ≡ initCheck (a .book)
+    unfolding initCheck
+    init-stops f = sym (rw (← x .verdict) (and-stops (r .verdict) _ f))
+
+    module _ (t : isPassed (r .verdict) ≡ true) where
+      passes : Passes (nodesPart bs) (definitionsPart bs) (a .book) r
+      passes = x .passed (passed-is (r .verdict) t)
+
+      pub main-passed : MainPassed parts-of (r .roots)
+      unfolding parts-of
+      main-passed =
+          record {
+            table = rw nodes-count (passes .checked .table);
+            binds = subst (λ (ns : List ℕ). Binds ns (r .roots) (mainDefinitions (a .book))) (sym nodes-here) (passes .checked .env .binds);
+            passed = definitions-passed (a .book) (sym (x .verdict) ∙ passed-is (r .verdict) t);
+          }
+
+      pub init-goes : {z : Verdict} → z ≡ initVerdict (parts-of .book) → z ≡ initCheck (a .book)
+      unfolding initCheck parts-of
+      init-goes e = e ∙ sym (rw (← x .verdict) (and-on (r .verdict) _ t))
 
 -- ---- From bytes to an admitted book
 isAdmitted : Admission → Bool

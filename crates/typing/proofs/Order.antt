@@ -1,6 +1,6 @@
 -- The order of the check, and the resolved actor's part in it. Assumes nothing.
 use mathlib.Core.Path.{_≡_, refl, sym, ap, ap₂, subst, _∙_}
-use mathlib.Core.Bool.{Bool, true, false, cond}
+use mathlib.Core.Bool.{Bool, true, false, cond, false≢true}
 use mathlib.Core.List.{List, [], _∷_}
 use Prim.Native.Nat.{ℕ}
 use lib.ListN.{length, take}
@@ -87,3 +87,18 @@ module _ (b : Book) where
 
           pub ends-actor : isPassed y ≡ true → (z : Verdict) → z ≡ actorVerdict ds (resolveActor b) → z ≡ check b
           ends-actor t z ms = ms ∙ sym (past ∙ and-on y _ t)
+
+-- ---- a book that passes has definitions that pass
+first-passed : (v w : Verdict) → andThen v w ≡ Passed → v ≡ Passed
+first-passed Passed w e = refl
+first-passed (Refused r) w e = e
+
+next-passed : (v w : Verdict) → andThen v w ≡ Passed → w ≡ Passed
+next-passed Passed w e = e
+next-passed (Refused r) w e = absurd (false≢true (ap isPassed e))
+
+pub definitions-passed : (b : Book) → check b ≡ Passed → decsVerdict (length (b .names)) (mainDefinitions b) ≡ Passed
+definitions-passed b e =
+    let after : Verdict = andThen (andThen (services b) (hashed b)) (actorVerdict (ds b) (resolveActor b)) in
+    let decs : Verdict = decsVerdict (length (b .names)) (ds b) in
+    first-passed decs after (next-passed (importsVerdict (imports b)) (andThen decs after) (sym (check-is b) ∙ e))

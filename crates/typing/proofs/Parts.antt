@@ -63,7 +63,7 @@ module _ {names rows entries files : List ℕ} {name-count nodes definitions fil
         few = nodes-known bs (p .laid) .fewNames;
       })
 
-  names-book : namesOf (length names) names ≡ b .names
+  pub names-book : namesOf (length names) names ≡ b .names
   names-book = ap (λ (l : List ℕ). namesOf (length l) l) (p .names-are) ∙ names-read bs (p .laid)
 
   pub all-trees : AllTrees rows name-count nodes

@@ -177,7 +177,7 @@ module _ (bs : List ℕ) {b : Book} (w : layout bs ≡ whole b) where
       let t = roles-main (b .files) f (admitted-parts bs w .roles) .1 in
       sym (s .role) ∙ eqb→eq _ 0 (subst T (sym (main-role (f .role))) (subst (λ (g : File). T (isMain (g .role))) (s .is f) t))
 
-  init-within : (initOf bs b ≤ length (b .files)) × (length (b .files) ≤ suc (initOf bs b))
+  pub init-within : (initOf bs b ≤ length (b .files)) × (length (b .files) ≤ suc (initOf bs b))
   unfolding initAt
   init-within = go (eqb (entryAt (filesPart bs) (length (b .files) - 1) .owner) 3)
     where

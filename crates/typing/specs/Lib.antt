@@ -7,3 +7,4 @@ pub mod Books
 pub mod Actors
 pub mod Hashed
 pub mod Checking
+pub mod Init

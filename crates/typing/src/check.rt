@@ -4,7 +4,7 @@ ghost use mathlib.Core.Bool.{cond};
 ghost use mathlib.Core.List.{List, []};
 ghost use Prim.Native.Nat.{ℕ, _≤_};
 ghost use lib.ListN.{length, take};
-ghost use Rattle.judgement.specs.Check.{hashesVerdict, checkBytes};
+ghost use Rattle.judgement.specs.Check.{hashesVerdict, initCheck, checkBytes, initCheckBytes};
 ghost use Rattle.book.specs.declared.refusal.Verdict.the-variants.{Passed};
 ghost use Rattle.environment.specs.Merging.{NamesIn};
 ghost use Rattle.typing.specs.Actors.{methodsIn};
@@ -133,5 +133,42 @@ pub fn check(book: &[u8]) -> Verdict
             let checked = check_book(book, c);
             checked.verdict
         }
+    }
+}
+
+// The init check of an admitted book: the whole check first.
+fn init_check_book(book: &[u8], c: Contents) -> Verdict
+    requires { ⌜ Admitted (now book) c ⌝ }
+    ensures { λ r. ⌜ ((a : Admitted (now (book .entry)) c) → r ≡ initCheck (a .book)) ⌝ }
+{
+    let checked = check_book(book, c);
+    let v = checked.verdict;
+    if !v.passed() {
+        return v;
+    }
+    let roots = checked.roots;
+    let nodes_at = c.nodes_at;
+    let definitions_at = c.definitions_at;
+    let files_at = c.files_at;
+    crate::init::check_init_args(
+        &book[Contents::SIZE..nodes_at],
+        &book[nodes_at..definitions_at],
+        &book[definitions_at..files_at],
+        &book[files_at..],
+        c.names,
+        c.nodes,
+        c.definitions,
+        c.files,
+        &roots,
+    )
+}
+
+// Whether a book and its init arguments pass: refusals 1 to 14, those of the check first. A book without an init file passes with its check.
+pub fn init_check(book: &[u8]) -> Verdict
+    ensures { λ r. ⌜ r ≡ initCheckBytes (now (book .entry)) ⌝ }
+{
+    match book::admit(book) {
+        Admission::Refused(refusal) => Verdict::Refused(refusal),
+        Admission::Admitted(c) => init_check_book(book, c),
     }
 }

@@ -16,6 +16,7 @@ pub mod check;
 pub mod decs;
 pub mod files;
 pub mod hashes;
+pub mod init;
 
 use book::kinds::Kind;
 use book::kinds::Mode;
