@@ -518,6 +518,15 @@ def book(text, damaged=True):
         source.fail(f"{type(error).__name__}: {error}")
 
 
+def name(text):
+    """The bytes of a NAME."""
+    source = Source(tokens(text))
+    found = source.name()
+    if source.at < len(source.words):
+        source.fail("a name alone expected")
+    return found
+
+
 def main():
     if len(sys.argv) != 2:
         sys.exit("usage: python3 tools/mkbook.py SOURCE > BOOK")

@@ -3,6 +3,7 @@
 
     crates/show_book/stdin, stdout        P1 and its table
     crates/layout_batch/stdin, stdout     the batch of all sources in tests/layout, with a line for each
+    crates/check_batch/stdin, stdout      the batch of all sources in tests/check, with a line for each
 
 Books come from the sources by tools/mkbook.py. What the programs must write comes from the sources' first lines and
 from tools/layout.py, which reads the bytes by the paper alone, and never from the programs. With --check nothing is
@@ -18,6 +19,7 @@ import mkbook
 
 ROOT = os.path.join(os.path.dirname(os.path.abspath(__file__)), "..")
 SOURCES = os.path.join(ROOT, "tests", "layout")
+CHECK_SOURCES = os.path.join(ROOT, "tests", "check")
 
 
 def table(book):
@@ -47,16 +49,30 @@ def batch():
     return records, lines + f"names {asked} asked {asked} agree\n"
 
 
+def check_batch():
+    """The records and lines of all sources of the check, whose layout is never broken."""
+    records, lines = b"", ""
+    for name, text in mkbatch.sources(CHECK_SOURCES):
+        book = mkbook.book(text)
+        assert not layout.faults(book), f"{name}: its layout is broken"
+        records += mkbatch.record(name, book)
+        lines += mkbatch.checked(name, text)
+    return records, lines
+
+
 def files():
     """Each file with its contents."""
     with open(os.path.join(SOURCES, "p01.did"), encoding="utf-8") as file:
         p1 = mkbook.book(file.read())
     records, lines = batch()
+    check_records, check_lines = check_batch()
     return {
         "crates/show_book/stdin": bytes(p1),
         "crates/show_book/stdout": table(p1).encode(),
         "crates/layout_batch/stdin": records,
         "crates/layout_batch/stdout": lines.encode(),
+        "crates/check_batch/stdin": check_records,
+        "crates/check_batch/stdout": check_lines.encode(),
     }
 
 
@@ -75,6 +91,7 @@ def main():
     for name, data in stale:
         print(f"{name}: {'not current' if sys.argv[1:] else 'written'}")
         if not sys.argv[1:]:
+            os.makedirs(os.path.dirname(os.path.join(ROOT, name)), exist_ok=True)
             with open(os.path.join(ROOT, name), "wb") as file:
                 file.write(data)
     sys.exit(1 if stale and sys.argv[1:] else 0)

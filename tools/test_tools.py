@@ -1,5 +1,5 @@
 #!/usr/bin/env python3
-"""Tests the tools and the sources in tests/layout:  python3 tools/test_tools.py"""
+"""Tests the tools and the sources in tests/layout and tests/check:  python3 tools/test_tools.py"""
 
 import os
 import struct
@@ -20,6 +20,11 @@ SOURCES = dict(mkbatch.sources(FOLDER))
 BOOKS = {name: mkbook.book(text) for name, text in SOURCES.items()}
 FINE = [name for name, text in SOURCES.items() if not mkbatch.broken_rules(text)]
 BROKEN = [name for name in SOURCES if name not in FINE]
+CHECK_FOLDER = os.path.join(HERE, "..", "tests", "check")
+CHECK_SOURCES = dict(mkbatch.sources(CHECK_FOLDER))
+CHECK_BOOKS = {name: mkbook.book(text) for name, text in CHECK_SOURCES.items()}
+NAMED = {2, 3, 7, 9, 12, 13, 14}  # the check's refusals that name something
+NAMELESS = {4, 5, 6, 8, 10}
 
 
 class Encoding(unittest.TestCase):
@@ -143,22 +148,109 @@ class Sources(unittest.TestCase):
         self.assertGreater(whole, 0)
 
 
+class CheckSources(unittest.TestCase):
+
+    def test_layouts(self):
+        """No layout is broken, nothing is damaged, and a book's own text is the same book."""
+        for name, book in CHECK_BOOKS.items():
+            self.assertEqual(layout.faults(book), [], name)
+            self.assertEqual(mkbook.book(CHECK_SOURCES[name], damaged=False), book, name)
+            self.assertEqual(mkbook.book(layout.text(book)), book, name)
+
+    def test_verdicts(self):
+        """Each refusal of the check is said, with a name where its row has one: a file's, a method's or any of the table."""
+        said = set()
+        for name, text in CHECK_SOURCES.items():
+            number, named = mkbatch.verdict(text)
+            book = layout.Reader(CHECK_BOOKS[name]).book
+            said.add(number)
+            self.assertEqual(named is not None, number in NAMED, name)
+            if number in (12, 13):
+                self.assertIn(named, [book.names[file.name] for file in book.files if file.role == 2], name)
+            elif number in (9, 14):
+                self.assertIn(named, [book.names[node.label] for node in book.nodes if node.label_kind == 2], name)
+            elif number in (2, 7):
+                self.assertIn(named, [book.names[row.name] for row in book.definitions], name)
+            elif number == 3:
+                self.assertIn(named, [book.names[node.value] for node in book.nodes if node.kind == 18], name)
+        self.assertEqual(said, {None} | NAMED | NAMELESS)
+
+    def test_books_differ(self):
+        self.assertEqual(len(CHECK_BOOKS), len(set(CHECK_BOOKS.values())))
+
+    def test_examples(self):
+        """Document 01's examples are those of tests/layout."""
+        examples = [name for name in SOURCES if name.startswith("p")]
+        self.assertEqual(examples, [name for name in CHECK_SOURCES if name.startswith("p") and name[1].isdigit()])
+        for name in examples:
+            self.assertEqual(CHECK_BOOKS[name], BOOKS[name], name)
+
+    def test_limits(self):
+        """The largest: 512 definitions, 16 files, 1,024 names, 4,000 nodes each inside the one before."""
+        books = {name: layout.Reader(book).book for name, book in CHECK_BOOKS.items() if name.startswith("large-")}
+        for part, most in (("names", 1024), ("definitions", 512), ("files", 16)):
+            self.assertEqual(max(len(getattr(book, part)) for book in books.values()), most)
+        for name, book in books.items():
+            if name.startswith("large-nested-"):
+                self.assertGreaterEqual(len(book.nodes), 4001, name)
+
+    def test_first_lines(self):
+        for line, found in {
+            "// passes: x\n": (None, None),
+            "// refused 4 -: x\n": (4, None),
+            "// refused 3 z: x\n": (3, b"z"),
+            '// refused 3 "": x: y\n': (3, b""),
+            '// refused 14 "\\00\\"a: b": x\n': (14, b'\x00"a: b'),
+            '// refused 3 "n" * 3: x\n': (3, b"nnn"),
+        }.items():
+            self.assertEqual(mkbatch.verdict(line), found, line)
+        for line in ("// passes\n", "// refused 4: x\n", "// refused - -: x\n", "// fine: x\n", "// refused 3 z y: x\n"):
+            with self.assertRaises(mkbook.SourceError, msg=line):
+                mkbatch.verdict(line)
+        self.assertEqual(mkbatch.checked("a", "// passes: x\n"), "a passed\na init passed\n")
+        with_init = '// passes: x\n// init refused 11 b: x\nfile "i" init\nargs ()\n'
+        self.assertEqual(mkbatch.checked("a", with_init), 'a passed\na init refused 11 "b"\n')
+        with self.assertRaises(mkbook.SourceError):
+            mkbatch.checked("a", '// passes: x\nfile "i" init\nargs ()\n')
+        with self.assertRaises(mkbook.SourceError):
+            mkbatch.checked("a", "// passes: x\n// init passes: there is no init file\n")
+        self.assertEqual(mkbatch.checked("a", "// refused 10 -: x\n"), "a refused 10 -\na init refused 10 -\n")
+        self.assertEqual(mkbatch.checked("a", '// refused 3 "\\"\\ff": x\n'), 'a refused 3 "\\22\\ff"\na init refused 3 "\\22\\ff"\n')
+
+
 class Batch(unittest.TestCase):
 
-    def test_batch(self):
-        with tempfile.TemporaryDirectory() as folder:
-            paths = [os.path.join(folder, name) for name in ("batch", "expected")]
-            subprocess.run([sys.executable, os.path.join(HERE, "mkbatch.py"), FOLDER, *paths], check=True)
+    def batch(self, folder):
+        """The records and the lines that mkbatch.py writes."""
+        with tempfile.TemporaryDirectory() as target:
+            paths = [os.path.join(target, name) for name in ("batch", "expected")]
+            subprocess.run([sys.executable, os.path.join(HERE, "mkbatch.py"), folder, *paths], check=True)
             with open(paths[0], "rb") as batch, open(paths[1], encoding="utf-8") as expected:
                 data, lines = batch.read(), expected.read().splitlines()
         self.assertLess(len(data), 2_000_000)
-        at, found = 0, []
+        at, records = 0, []
         while at < len(data):
             name = data[at + 1:at + 1 + data[at]].decode()
             at += 1 + data[at]
             size, = struct.unpack_from("<I", data, at)
-            book = data[at + 4:at + 4 + size]
+            records.append((name, data[at + 4:at + 4 + size]))
             at += 4 + size
+        return records, lines
+
+    def test_check_batch(self):
+        records, lines = self.batch(CHECK_FOLDER)
+        self.assertEqual(dict(records), CHECK_BOOKS)
+        self.assertEqual([name for name, _ in records], sorted(CHECK_SOURCES))
+        self.assertEqual([line.split()[0] for line in lines], [name for name in sorted(CHECK_SOURCES) for _ in range(2)])
+        self.assertIn("p09-import refused 14 \"\\00a\"", lines)
+        self.assertIn("p04 passed", lines)
+        self.assertIn("row-04-definition refused 4 -", lines)
+        self.assertEqual("\n".join(lines) + "\n", mkgate.check_batch()[1])
+
+    def test_batch(self):
+        records, lines = self.batch(FOLDER)
+        found = []
+        for name, book in records:
             self.assertEqual(book, BOOKS[name])
             if layout.faults(book):
                 found.append(f"{name} refused 1 -")

@@ -1,0 +1,54 @@
+-- `code` meets its contract. Assumes nothing.
+use Rattle.exports.proofs.Codes.{passed-code, refused-code}
+use borrow.Author.Needs.{needs}
+use Rattle.exports.proofs.code.Statement.{statement}
+use Rattle.exports.proofs.code.Tie as tie
+use Rattle.exports.proofs.code.Reads as reads
+use Rattle.exports.proofs.code.Lts as lts
+use Rattle.book.proofs.refusal.Refusal.name.Reads as name-reads
+use Rattle.book.proofs.refusal.Refusal.number.Reads as number-reads
+
+enum-told : tie.Need-enum-told
+enum-told c = search needs
+
+enum-known-v : tie.Need-enum-known-v
+enum-known-v c = search needs
+
+number-requires : tie.Need-number-requires
+number-requires c κs = search needs
+
+cast-result : tie.Need-cast-result
+cast-result c = search needs
+
+mul-result : tie.Need-mul-result
+mul-result c = search needs
+
+name-requires : tie.Need-name-requires
+name-requires c κs = search needs
+
+cast-result-2 : tie.Need-cast-result-2
+cast-result-2 c = search needs
+
+add-result : tie.Need-add-result
+add-result c = search needs
+
+returns : tie.Need-returns
+returns c = passed-code (c .enum-told .given .1)
+
+returns-2 : tie.Need-returns-2
+returns-2 c = refused-code (c .before .before .before .v .given .1) (c .before .number .ensures) (c .name .ensures)
+
+pub code-spec : {M : Type 1} → statement M
+code-spec =
+    tie.close
+    (tie.spec
+    enum-told
+    enum-known-v
+    number-requires
+    cast-result
+    mul-result
+    name-requires
+    cast-result-2
+    add-result
+    returns
+    returns-2)
