@@ -22,15 +22,18 @@ use book::refusal::Verdict;
 use format::Place;
 use labels::Label;
 
+// A label number for each of the 1,024 names.
+pub type HashByName = [u32; 1024];
+
 // A table that has 0 for each name.
-pub fn zeros() -> [u32; 1024]
+pub fn zeros() -> HashByName
     ensures { λ r. ⌜ r ≡ zeroTable ⌝ }
 {
     [0u32; 1024]
 }
 
 // The label number of each name, in one pass over their bytes.
-pub fn name_hashes(names: &[u8], count: usize) -> [u32; 1024]
+pub fn name_hashes(names: &[u8], count: usize) -> HashByName
     requires { ⌜ NamesIn (now names) count ⌝ }
     ensures { λ r. ⌜ HashesOf r (namesOf (length (now (names .entry))) (now (names .entry))) ⌝ }
 {
