@@ -116,7 +116,7 @@ module _ {bs : List ℕ} {c : Contents} (a : Admitted bs c) where
 
   pub book-as : (r : Checked) → CheckedAs parts-of r → BookAs a r
   unfolding parts-of
-  book-as r x = record { verdict = x .verdict; passed = λ e. passes (nodesPart bs) (definitionsPart bs) nodes-here definitions-here (x .passed e) }
+  book-as r x = record { verdict = x .verdict; passed = λ e. passes (nodesPart bs) (definitionsPart bs) nodes-here definitions-here (x .passed e); refused = x .refused }
     where
       passes : {ns es : List ℕ} (ms fs : List ℕ) → ns ≡ ms → es ≡ fs → Passes ns es (a .book) r → Passes ms fs (a .book) r
       passes {ns} ms fs e f q = subst (λ (l : List ℕ). Passes l fs (a .book) r) e (subst (λ (l : List ℕ). Passes ns l (a .book) r) f q)

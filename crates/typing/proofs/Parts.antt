@@ -99,6 +99,7 @@ module _ {names rows entries files : List ℕ} {name-count nodes definitions fil
       (record {
         verdict = is;
         passed = λ q. absurd (false≢true (sym f ∙ ap isPassed q));
+        refused = λ g. refl;
       })
 
   -- ---- The definitions that are not the init file's
@@ -192,10 +193,11 @@ module _ {names rows entries files : List ℕ} {name-count nodes definitions fil
               pub parts-actor : isPassed z ≡ false → (r : Checked) → r ≡ refusedNone z → CheckedAs p r
               parts-actor f = stop z check-is f
 
-              pub parts-passed : CheckedAs p (record { verdict = z; main = k; roots = roots; ends = ends′; actor = x .actor })
-              parts-passed =
+              pub parts-passed : isPassed z ≡ true → CheckedAs p (record { verdict = z; main = k; roots = roots; ends = ends′; actor = x .actor })
+              parts-passed zp =
                   record {
                     verdict = check-is;
+                    refused = λ g. absurd (false≢true (sym g ∙ zp));
                     passed =
                         λ q.
                         record {

@@ -10,6 +10,7 @@ use Rattle.format.specs.Layout.{namesOf, namesPart, nodesPart, definitionsPart,
 use Rattle.book.specs.declared.kinds.Contents.{Contents}
 use Rattle.book.specs.declared.refusal.Verdict.{Verdict}
 use Rattle.book.specs.declared.refusal.Verdict.the-variants.{Passed}
+use Rattle.book.specs.Refusal.{isPassed}
 use Rattle.judgement.specs.Environment.{mainDefinitions}
 use Rattle.judgement.specs.Actor.{resolveActor}
 use Rattle.judgement.specs.Check.{hashesVerdict, check}
@@ -55,8 +56,10 @@ pub record CheckedAs {names rows entries files : List ℕ} {name-count nodes def
     (p : PartsOf names rows entries files name-count nodes definitions file-count) (r : Checked) : Type 0 where
   pub verdict : r .verdict ≡ check (p .book)
   pub passed : r .verdict ≡ Passed → Passes rows entries (p .book) r
+  pub refused : isPassed (r .verdict) ≡ false → r ≡ refusedNone (r .verdict)
 
 -- The same of a whole book.
 pub record BookAs {bs : List ℕ} {c : Contents} (a : Admitted bs c) (r : Checked) : Type 0 where
   pub verdict : r .verdict ≡ check (a .book)
   pub passed : r .verdict ≡ Passed → Passes (nodesPart bs) (definitionsPart bs) (a .book) r
+  pub refused : isPassed (r .verdict) ≡ false → r ≡ refusedNone (r .verdict)

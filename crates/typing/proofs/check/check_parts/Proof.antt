@@ -94,7 +94,7 @@ returns-5 : tie.Need-returns-5
 returns-5 c = λ p. parts-actor p _ (c .before .before .before .before .before .before .before .before .before .before .before .before .before .before .before .before .before .before .before .before .before .before .before .imports .ensures) (sym (c .before .before .before .before .before .before .before .before .before .before .before .before .before .before .before .before .before .before .before .before .before .before .passed .ensures) ∙ not-false _ (c .before .before .before .before .before .before .before .before .before .before .before .before .before .before .before .before .before .before .before .before .before .if1 .left)) (rw (← c .before .before .before .before .before .before .before .before .before .before .before .before .before .before .before .before .before .before .before .before .init-file .ensures) (c .before .before .before .before .before .before .before .before .before .before .before .before .before .before .before .before .before .before .before .main-definitions .ensures)) (c .before .before .before .before .before .before .before .before .before .before .before .before .before .before .before .before .before .before .check-decs .ensures) (sym (c .before .before .before .before .before .before .before .before .before .before .before .before .before .before .before .before .before .passed2 .ensures) ∙ not-false _ (c .before .before .before .before .before .before .before .before .before .before .before .before .before .before .before .before .if2 .left)) (c .before .before .before .before .before .before .before .before .before .before .before .before .resolve .ensures) (sym (c .before .before .before .before .before .before .before .before .before .before .before .passed3 .ensures) ∙ not-false _ (c .before .before .before .before .before .before .before .before .before .before .if3 .left)) (c .before .before .before .before .before .before .before .before .check-hashes .ensures) (sym (c .before .before .before .before .before .before .before .passed4 .ensures) ∙ not-false _ (c .before .before .before .before .before .before .if4 .left)) (c .before .before .before .check-actor .ensures) (sym (c .before .before .passed5 .ensures) ∙ not-true _ (c .before .if5 .taken)) _ (c .stopped5 .ensures)
 
 returns-6 : tie.Need-returns-6
-returns-6 c = λ p. parts-passed p _ (c .before .before .before .before .before .before .before .before .before .before .before .before .before .before .before .before .before .before .before .before .before .before .imports .ensures) (sym (c .before .before .before .before .before .before .before .before .before .before .before .before .before .before .before .before .before .before .before .before .before .passed .ensures) ∙ not-false _ (c .before .before .before .before .before .before .before .before .before .before .before .before .before .before .before .before .before .before .before .before .if1 .left)) (rw (← c .before .before .before .before .before .before .before .before .before .before .before .before .before .before .before .before .before .before .before .init-file .ensures) (c .before .before .before .before .before .before .before .before .before .before .before .before .before .before .before .before .before .before .main-definitions .ensures)) (c .before .before .before .before .before .before .before .before .before .before .before .before .before .before .before .before .before .check-decs .ensures) (sym (c .before .before .before .before .before .before .before .before .before .before .before .before .before .before .before .before .passed2 .ensures) ∙ not-false _ (c .before .before .before .before .before .before .before .before .before .before .before .before .before .before .before .if2 .left)) (c .before .before .before .before .before .before .before .before .before .before .before .resolve .ensures) (sym (c .before .before .before .before .before .before .before .before .before .before .passed3 .ensures) ∙ not-false _ (c .before .before .before .before .before .before .before .before .before .if3 .left)) (c .before .before .before .before .before .before .before .check-hashes .ensures) (sym (c .before .before .before .before .before .before .passed4 .ensures) ∙ not-false _ (c .before .before .before .before .before .if4 .left)) (c .before .before .check-actor .ensures)
+returns-6 c = λ p. parts-passed p _ (c .before .before .before .before .before .before .before .before .before .before .before .before .before .before .before .before .before .before .before .before .before .before .imports .ensures) (sym (c .before .before .before .before .before .before .before .before .before .before .before .before .before .before .before .before .before .before .before .before .before .passed .ensures) ∙ not-false _ (c .before .before .before .before .before .before .before .before .before .before .before .before .before .before .before .before .before .before .before .before .if1 .left)) (rw (← c .before .before .before .before .before .before .before .before .before .before .before .before .before .before .before .before .before .before .before .init-file .ensures) (c .before .before .before .before .before .before .before .before .before .before .before .before .before .before .before .before .before .before .main-definitions .ensures)) (c .before .before .before .before .before .before .before .before .before .before .before .before .before .before .before .before .before .check-decs .ensures) (sym (c .before .before .before .before .before .before .before .before .before .before .before .before .before .before .before .before .passed2 .ensures) ∙ not-false _ (c .before .before .before .before .before .before .before .before .before .before .before .before .before .before .before .if2 .left)) (c .before .before .before .before .before .before .before .before .before .before .before .resolve .ensures) (sym (c .before .before .before .before .before .before .before .before .before .before .passed3 .ensures) ∙ not-false _ (c .before .before .before .before .before .before .before .before .before .if3 .left)) (c .before .before .before .before .before .before .before .check-hashes .ensures) (sym (c .before .before .before .before .before .before .passed4 .ensures) ∙ not-false _ (c .before .before .before .before .before .if4 .left)) (c .before .before .check-actor .ensures) (sym (c .before .passed5 .ensures) ∙ not-false _ (c .if5 .left))
 
 pub check-parts-spec : {M : Type 1} → statement M
 check-parts-spec =
