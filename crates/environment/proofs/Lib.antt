@@ -8,3 +8,4 @@ pub mod AsFunc
 pub mod Hashes
 pub mod Same
 pub mod Merges
+pub mod Emptied

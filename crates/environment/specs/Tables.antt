@@ -110,13 +110,16 @@ EndAt ns e (unbound n) = e ≡ 65535
 EndAt ns e circle = ⊥
 EndAt ns e (ends t) = (e ≡ 65535 → ⊥) × (t ≡ treeAt ns e)
 
+-- A table of alias ends has where the chain of each name's definition ends.
+abbrev pub Chains : List ℕ → List ℕ → ℕ → List Definition → Type 0
+Chains ns ends′ names ds = (n : ℕ) → n < names → EndAt ns (getD ends′ n 65535) (nameEnd ds n (findType ds n))
+
 -- The lowest name whose chain never ends, as the check refuses it; and, where there is none, all ends.
 pub record AliasEndsAs (ns roots : List ℕ) (names count definitions : ℕ) (ends′ : List ℕ) (circle′ : ℕ) : Type 0 where
   pub nodes : EndNodes ends′ count
   pub lowest : (ds : List Definition) → Binds ns roots ds → length ds ≡ definitions →
       eachName (λ n. circleVerdict ds n (findType ds n)) 0 names ≡ cond (eqb circle′ 65535) Passed (Refused (refusal.Refusal.Circle circle′))
-  pub all : circle′ ≡ 65535 → (ds : List Definition) → Binds ns roots ds → length ds ≡ definitions → (n : ℕ) → n < names →
-      EndAt ns (getD ends′ n 65535) (nameEnd ds n (findType ds n))
+  pub all : circle′ ≡ 65535 → (ds : List Definition) → Binds ns roots ds → length ds ≡ definitions → Chains ns ends′ names ds
 
 -- A node of a book, with a table of alias ends.
 pub record Ended (ns ends′ : List ℕ) (node : ℕ) : Type 0 where

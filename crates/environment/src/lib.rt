@@ -8,6 +8,7 @@ ghost use Rattle.format.specs.Whole.{treeAt};
 ghost use Rattle.judgement.specs.Environment.{chainFrom};
 ghost use Rattle.environment.specs.Tables.{blankTable, Nodes, Entries, Roots, Binds, asEnd, InRange, DefinesAs, NameEndAs, aliasCircles, aliasNode, Ended, AliasEndsAs, endIs};
 
+pub mod empty;
 pub mod merge;
 
 use book::kinds::Kind;

@@ -52,6 +52,7 @@ module _ {es ns : List ℕ} {names count from to : ℕ} (x : Bodies es ns names 
       record {
         verdict = sym (rw once (rw (ne-eqb twice 65535 h) refl));
         checked = λ e. never-passed (Refused (refusal.Refusal.Twice twice)) refl e;
+        chains = λ e. never-passed (Refused (refusal.Refusal.Twice twice)) refl e;
       }
 
   module _ (h : twice ≡ 65535) where
@@ -77,6 +78,7 @@ module _ {es ns : List ℕ} {names count from to : ℕ} (x : Bodies es ns names 
         record {
           verdict = sym (rw once-passed (rw (← q) (and-stops v _ f)));
           checked = λ e. absurd (false≢true (sym f ∙ ap isPassed e));
+          chains = λ e. absurd (false≢true (sym f ∙ ap isPassed e));
         }
 
     module _ (v : Verdict) (q : v ≡ bodiesVerdict ds ds) (p : isPassed v ≡ true) {ends′ : List ℕ} {circle′ : ℕ} (a : AliasEndsAs ns roots names count (to - from) ends′ circle′) where
@@ -92,6 +94,7 @@ module _ {es ns : List ℕ} {names count from to : ℕ} (x : Bodies es ns names 
           record {
             verdict = sym (rw (once-passed, bodies-passed, lowest) (rw (ne-eqb circle′ 65535 n) refl));
             checked = λ e. never-passed (Refused (refusal.Refusal.Circle circle′)) refl e;
+            chains = λ e. never-passed (Refused (refusal.Refusal.Circle circle′)) refl e;
           }
 
       module _ (c : circle′ ≡ 65535) where
@@ -121,6 +124,7 @@ module _ {es ns : List ℕ} {names count from to : ℕ} (x : Bodies es ns names 
               record {
                 verdict = sym (rw (once-passed, bodies-passed, lowest, c) (rw (sym fit-is ∙ e) refl));
                 checked = λ z. never-passed (Refused refusal.Refusal.NoFunction) refl z;
+                chains = λ z. never-passed (Refused refusal.Refusal.NoFunction) refl z;
               }
 
           pub decs-passed : b ≡ true → DecsAs es ns names count from to Passed roots ends′
@@ -129,4 +133,5 @@ module _ {es ns : List ℕ} {names count from to : ℕ} (x : Bodies es ns names 
               record {
                 verdict = sym (rw (once-passed, bodies-passed, lowest, c) (rw (sym fit-is ∙ e) refl));
                 checked = λ z. env-checked;
+                chains = λ z. a .all c ds binds (defined-length ns (x .entries));
               }

@@ -4,6 +4,7 @@ use mathlib.Core.Logic.{_↔_}
 use mathlib.Core.Bool.{Bool, true, false, cond, false≢true}
 use mathlib.Core.List.{List, [], _∷_, _++_}
 use Prim.Native.Nat.{ℕ, suc, _+_, _*_, _-_, _≤_, _<_}
+use native.Mathlib.Nat.{sub-zero}
 use native.Mathlib.Omega.{arith}
 use native.Mathlib.Decide.{decLt, ℕ-discrete}
 use borrow.Author.Tests.{eq-eqb, ne-eqb, lt-ltb}
@@ -15,8 +16,10 @@ use Rattle.format.specs.Book.{Definition, Book, trees}
 use Rattle.format.specs.Encode.{Row, Entry}
 use Rattle.format.specs.Layout.{rowAt, entryAt, namesOf, nodesPart, definitionsPart, filesPart, siblings}
 use Rattle.format.specs.Whole.{Within, treeAt, actorAt, definitionAt}
+use Rattle.format.proofs.Lists.{all-of}
+use Rattle.format.proofs.Rows.{nothing, siblings-none}
 use Rattle.format.proofs.Stored.{actor-some}
-use Rattle.format.proofs.Admitted.{nodes-long}
+use Rattle.format.proofs.Admitted.{nodes-long, definition-stored, file-stored}
 use Rattle.format.proofs.Theorems.{found}
 use Rattle.book.specs.declared.refusal.Refusal as refusal
 use Rattle.book.specs.declared.refusal.Verdict.{Verdict}
@@ -27,7 +30,8 @@ use Rattle.judgement.specs.Environment.{keep, Found, missing, body, findType, i
 use Rattle.judgement.specs.Check.{decsVerdict, mergeVerdict, initTree, initVerdict, checkForest, eachName, circleVerdict}
 use Rattle.judgement.proofs.Books.{init-definitions-fit}
 use Rattle.judgement.proofs.MergedChains.{merged-no-circle}
-use Rattle.judgement.proofs.Theorems.{init-verdict}
+use Rattle.judgement.proofs.Lookup.{keep-last}
+use Rattle.judgement.proofs.Theorems.{NoInit, no-init-tree, init-verdict}
 use Rattle.environment.specs.Tables.{Nodes, Entries, Roots, EndNodes, Binds, AliasEndsAs, foundAt, definitionsIn}
 use Rattle.environment.specs.Merging.{HashesAgree, HashesOf, Mergeable, MergedAs}
 use Rattle.environment.proofs.AsFunc.{ends-func}
@@ -39,13 +43,14 @@ use Rattle.typing.specs.Split.{initAt, SplitAs}
 use Rattle.typing.specs.Decs.{Bodies, DecsAs}
 use Rattle.typing.specs.Decs as decs
 use Rattle.typing.specs.Checking.{PartsOf}
-use Rattle.typing.specs.Init.{lacked, MainPassed}
+use Rattle.typing.specs.declared.init.InitChecked.{InitChecked}
+use Rattle.typing.specs.Init.{lacked, MainPassed, bothDefinitions, initNone, InitCheckedAs}
 use Rattle.typing.proofs.Walk.{and-on, and-stops, opened, kids-trees, row-within}
 use Rattle.typing.proofs.Checks.{passed-is}
 use Rattle.typing.proofs.Classes.{tree-kids}
 use Rattle.typing.proofs.Definitions.{definitions-none, definitions-cons}
-use Rattle.typing.proofs.Parts.{files-held, all-trees, names-book}
-use Rattle.typing.proofs.Split.{RootTree, initOf, few-definitions, nodes-known, entries-known, init-within, no-init, init-tree-is, init-root, main-definitions-are, init-definitions-are, definition-tree-fits, file-tree}
+use Rattle.typing.proofs.Parts.{files-held, book-trees, all-trees, names-book}
+use Rattle.typing.proofs.Split.{RootTree, initOf, few-definitions, nodes-known, entries-known, init-within, no-init, init-definitions-none, init-tree-is, init-root, main-definitions-are, init-definitions-are, definition-tree-fits, file-tree}
 
 -- ---- The definitions of main that init lacks, counted
 pub record CountLeft (init es : List ℕ) (count main n d : ℕ) : Type 0 where
@@ -113,6 +118,21 @@ unfolding lacked keep
 lacked-is ns init ids x [] = refl
 lacked-is ns init ids x (d ∷ ds) = rw (x (d .name), missing-is ns (getD init (d .name) 65535)) (ap (λ (l : List Definition). cond (eqb (getD init (d .name) 65535) 65535) (d ∷ l) l) (lacked-is ns init ids x ds))
 
+-- no more are kept than there are
+keep-short : (test : Definition → Bool) (ds : List Definition) → length (keep test ds) ≤ length ds
+unfolding keep
+keep-short test [] = omega arith
+keep-short test (d ∷ ds) = go (test d) (keep-short test ds)
+  where
+    go : (b : Bool) → length (keep test ds) ≤ length ds → length (cond b (d ∷ keep test ds) (keep test ds)) ≤ suc (length ds)
+    go true h = omega (arith, h)
+    go false h = omega (arith, h)
+
+-- a merge with nothing
+merge-none : (ds : List Definition) → mergeDefinitions [] ds ≡ ds
+unfolding mergeDefinitions findType isMissing
+merge-none ds = keep-last _ [] ds tt (all-of _ (λ d. refl) ds)
+
 module _ {names rows entries files : List ℕ} {name-count nodes definitions file-count : ℕ} (p : PartsOf names rows entries files name-count nodes definitions file-count)
     {init : ℕ} (is : init ≡ initAt files file-count) where
   abbrev bs : List ℕ
@@ -130,8 +150,63 @@ module _ {names rows entries files : List ℕ} {name-count nodes definitions fil
   init-same : initOf bs b ≡ init
   init-same = sym (is ∙ ap₂ initAt (p .files-are) (p .file-count-is))
 
-  pub init-none : init ≡ file-count → Passed ≡ initVerdict b
-  init-none h = sym (init-verdict b (no-init bs (p .laid) (init-same ∙ h ∙ p .file-count-is)))
+  few-all : definitions ≤ 512
+  few-all = omega (arith, few-definitions bs (p .laid), p .definitions-is)
+
+  -- ---- A refusal, wherever it comes from
+  stop : (v : Verdict) → v ≡ initVerdict b → isPassed v ≡ false → (r : InitChecked) → r ≡ initNone v → InitCheckedAs p r
+  stop v is f r e =
+      rw e
+      (record {
+        verdict = is;
+        passed = λ q. absurd (false≢true (sym f ∙ ap isPassed q));
+        refused = λ g. refl;
+      })
+
+  -- ---- Without an init file
+  module _ (h : init ≡ file-count) where
+    last : initOf bs b ≡ length (b .files)
+    last = init-same ∙ h ∙ p .file-count-is
+
+    none-here : NoInit (b .files)
+    none-here = no-init bs (p .laid) last
+
+    all-main : SplitAs (definitionsPart bs) (length (b .definitions)) (initOf bs b) (length (b .definitions))
+    all-main =
+        record {
+          within = omega arith;
+          before = λ d l e. let o = definition-stored bs (p .laid) d l .owner in omega (arith, o, e, last);
+          next = λ l. absurd (omega arith);
+        }
+
+    both-main : bothDefinitions b ≡ ds
+    both-main = ap (λ (l : List Definition). mergeDefinitions l ds) (init-definitions-none bs (p .laid) last) ∙ merge-none ds
+
+    main-length : length ds ≡ definitions
+    main-length =
+        ap length (main-definitions-are bs (p .laid) all-main)
+        ∙ defined-length (nodesPart bs) (entries-known bs (p .laid) 0 (length (b .definitions)) (omega arith) (omega arith))
+        ∙ sub-zero (length (b .definitions)) ∙ sym (p .definitions-is)
+
+    pub init-none : {roots : List ℕ} → MainPassed p roots → InitCheckedAs p (record { verdict = Passed; roots = roots; count = definitions; from = 0; until = 0 })
+    unfolding kidsOf
+    init-none {roots} m =
+        record {
+          verdict = sym (init-verdict b none-here);
+          refused = λ g. absurd (false≢true (sym g));
+          passed =
+              λ q.
+              record {
+                all = book-trees p;
+                table = rw (← p .nodes-is) (m .table);
+                binds = subst (λ (l : List Definition). Binds rows roots l) (sym both-main) (m .binds);
+                counted = ap length both-main ∙ main-length;
+                few = few-all;
+                arguments = siblings-none rows 0 0 (omega arith) ∙ sym (ap kidsOf (no-init-tree (b .files) none-here));
+                whole = nothing rows 0 0 refl (record { held = omega arith; few = all-trees p .nodes .within .few });
+                within = omega arith;
+              };
+        }
 
   module _ (h : init ≡ file-count → ⊥) where
     init-inside : init < file-count
@@ -181,15 +256,15 @@ module _ {names rows entries files : List ℕ} {name-count nodes definitions fil
       main-entries = rw (p .entries-are, p .name-count-is, p .nodes-is) (entries-known bs (p .laid) 0 k (omega arith) within)
 
       pub few-own : definitions - k ≤ 512
-      few-own = omega (arith, few-definitions bs (p .laid), p .definitions-is)
+      few-own = omega (arith, few-all)
 
       module _ {v : Verdict} {own ends₀ : List ℕ} (d : DecsAs entries rows name-count nodes k definitions v own ends₀) where
         own-is : v ≡ decsVerdict (length (b .names)) ids
         own-is = rw (own-are, ← p .name-count-is) (d .verdict)
 
-        pub init-decs : isPassed v ≡ false → v ≡ initVerdict b
+        pub init-decs : isPassed v ≡ false → (r : InitChecked) → r ≡ initNone v → InitCheckedAs p r
         unfolding initVerdict
-        init-decs f = sym (rw (← own-is) (and-stops v _ f))
+        init-decs f = stop v (sym (rw (← own-is) (and-stops v _ f))) f
 
         module _ (vp : isPassed v ≡ true) where
           own-checked : decs.Checked rows own ends₀ nodes ids
@@ -207,13 +282,13 @@ module _ {names rows entries files : List ℕ} {name-count nodes definitions fil
               merge-is : w ≡ mergeVerdict (b .names) ids ds
               merge-is = said (b .names) ids ds (subst (HashesAgree hs) (names-book p) (o .agree)) (sym (p .name-count-is)) (own-checked .env .binds) (m .binds)
 
-              pub init-differs : isPassed w ≡ false → w ≡ initVerdict b
+              pub init-differs : isPassed w ≡ false → (r : InitChecked) → r ≡ initNone w → InitCheckedAs p r
               unfolding initVerdict
-              init-differs f = sym (rw (← own-is, ← merge-is) (and-on v _ vp ∙ and-stops w _ f))
+              init-differs f = stop w (sym (rw (← own-is, ← merge-is) (and-on v _ vp ∙ and-stops w _ f))) f
 
               module _ (wp : isPassed w ≡ true) {both : List ℕ} (g : MergedAs own roots both) where
                 abbrev all : List Definition
-                all = mergeDefinitions ids ds
+                all = bothDefinitions b
 
                 pub both-table : Roots both nodes
                 both-table = merged-roots g own-table (m .table)
@@ -229,6 +304,13 @@ module _ {names rows entries files : List ℕ} {name-count nodes definitions fil
                       ∙ ap₂ _+_ (ap length own-are ∙ defined-length rows (own-bodies .entries))
                       (ap length (lacked-is rows own ids (own-checked .env .binds) ds ∙ ap (lacked own) main-are))
                       ∙ sym (c rows)
+
+                  count-few : n ≤ 512
+                  unfolding lacked
+                  count-few =
+                      let l = keep-short (λ d. eqb (getD own (d .name) 65535) 65535) (definitionsIn rows entries 0 k) in
+                      let m = defined-length rows main-entries in
+                      omega (arith, c rows, l, m, s .within, few-all)
 
                   module _ {ends′ : List ℕ} {circle′ : ℕ} (a : AliasEndsAs rows both name-count nodes n ends′ circle′) where
                     no-circle : circle′ ≡ 65535
@@ -287,10 +369,39 @@ module _ {names rows entries files : List ℕ} {name-count nodes definitions fil
                             ap (λ (x : Row). siblings rows (e .root + 1) (e .root + x .size)) row
                             ∙ sym (tree-kids (opened (init-tree .trees) (init-tree .some) .here)) ∙ ap kidsOf (sym tree-is)
 
-                        pub init-arguments : {z : Verdict} →
-                            ((all : List Definition) → Env rows both ends′ false all → z ≡ checkForest false false all (siblings rows (e .root + 1) (e .root + r .size))) →
-                            z ≡ initVerdict b
-                        unfolding initVerdict
-                        init-arguments t =
-                            t all env ∙ ap (checkForest false false all) kids-are
-                            ∙ sym (rw (← own-is, ← merge-is) (and-on v _ vp ∙ and-on w _ wp))
+                        arguments-end : e .root + r .size ≤ count (trees b)
+                        arguments-end =
+                            let t = file-stored bs (p .laid) (initOf bs b) inside .tree (init-root bs (p .laid) inside) .ends in
+                            let q = ap (λ (x : Row). x .size) row ∙ ap₂ (λ (ns : List ℕ) (j : ℕ). rowAt ns j .size) (p .rows-are) root-is in
+                            omega (arith, t, q, root-is)
+
+                        module _ {z : Verdict}
+                            (t : (all : List Definition) → Env rows both ends′ false all → z ≡ checkForest false false all (siblings rows (e .root + 1) (e .root + r .size))) where
+                          arguments-is : z ≡ initVerdict b
+                          unfolding initVerdict
+                          arguments-is =
+                              t all env ∙ ap (checkForest false false all) kids-are
+                              ∙ sym (rw (← own-is, ← merge-is) (and-on v _ vp ∙ and-on w _ wp))
+
+                          pub init-unfit : isPassed z ≡ false → (r : InitChecked) → r ≡ initNone z → InitCheckedAs p r
+                          init-unfit f = stop z arguments-is f
+
+                          pub init-passed : isPassed z ≡ true →
+                              InitCheckedAs p (record { verdict = z; roots = both; count = n; from = e .root + 1; until = e .root + r .size })
+                          init-passed zp =
+                              record {
+                                verdict = arguments-is;
+                                refused = λ g. absurd (false≢true (sym g ∙ zp));
+                                passed =
+                                    λ q.
+                                    record {
+                                      all = book-trees p;
+                                      table = rw (← p .nodes-is) both-table;
+                                      binds = both-binds;
+                                      counted = count-is;
+                                      few = count-few;
+                                      arguments = kids-are;
+                                      whole = arguments-in .whole;
+                                      within = arguments-end;
+                                    };
+                              }

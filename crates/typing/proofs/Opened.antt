@@ -20,11 +20,12 @@ use Rattle.book.specs.declared.Admission.the-variants.{Refused as RefusedBook, 
 use Rattle.book.specs.Reading.{contentsOf, asAdmission, admission}
 use Rattle.book.specs.Refusal.{isPassed}
 use Rattle.judgement.specs.Environment.{mainDefinitions}
-use Rattle.judgement.specs.Check.{initVerdict, initCheck, onLayout}
+use Rattle.judgement.specs.Check.{initCheck, onLayout}
 use Rattle.environment.specs.Tables.{Binds}
 use Rattle.typing.specs.declared.check.Checked.{Checked}
 use Rattle.typing.specs.Checking.{PartsOf, Passes, CheckedAs, BookAs}
-use Rattle.typing.specs.Init.{MainPassed}
+use Rattle.typing.specs.declared.init.InitChecked.{InitChecked}
+use Rattle.typing.specs.Init.{MainPassed, initNone, InitPasses, InitCheckedAs, InitBookAs}
 use Rattle.typing.proofs.Walk.{and-on, and-stops}
 use Rattle.typing.proofs.Checks.{passed-is}
 use Rattle.typing.proofs.Order.{definitions-passed}
@@ -123,9 +124,15 @@ module _ {bs : List ℕ} {c : Contents} (a : Admitted bs c) where
 
   module _ {r : Checked} (x : BookAs a r) where
     -- ---- After the check, the init arguments
-    pub init-stops : isPassed (r .verdict) ≡ false → r .verdict ≡ initCheck (a .book)
+    pub init-stops : isPassed (r .verdict) ≡ false → (z : InitChecked) → z ≡ initNone (r .verdict) → InitBookAs a z
     unfolding initCheck
-    init-stops f = sym (rw (← x .verdict) (and-stops (r .verdict) _ f))
+    init-stops f z e =
+        rw e
+        (record {
+          verdict = sym (rw (← x .verdict) (and-stops (r .verdict) _ f));
+          passed = λ q. absurd (false≢true (sym f ∙ ap isPassed q));
+          refused = λ g. refl;
+        })
 
     module _ (t : isPassed (r .verdict) ≡ true) where
       passes : Passes (nodesPart bs) (definitionsPart bs) (a .book) r
@@ -140,9 +147,14 @@ module _ {bs : List ℕ} {c : Contents} (a : Admitted bs c) where
             passed = definitions-passed (a .book) (sym (x .verdict) ∙ passed-is (r .verdict) t);
           }
 
-      pub init-goes : {z : Verdict} → z ≡ initVerdict (parts-of .book) → z ≡ initCheck (a .book)
+      pub init-goes : (z : InitChecked) → InitCheckedAs parts-of z → InitBookAs a z
       unfolding initCheck parts-of
-      init-goes e = e ∙ sym (rw (← x .verdict) (and-on (r .verdict) _ t))
+      init-goes z y =
+          record {
+            verdict = y .verdict ∙ sym (rw (← x .verdict) (and-on (r .verdict) _ t));
+            passed = λ q. subst (λ (ns : List ℕ). InitPasses ns (a .book) z) nodes-here (y .passed q);
+            refused = y .refused;
+          }
 
 -- ---- From bytes to an admitted book
 isAdmitted : Admission → Bool

@@ -19,7 +19,7 @@ use Rattle.book.specs.Refusal.{isPassed}
 use Rattle.judgement.specs.Environment.{mainDefinitions, kidsOf}
 use Rattle.judgement.specs.Actor.{belowClass, serviceImports, firstActor, mainActor, resolveWith, resolveActor}
 use Rattle.judgement.specs.Check.{importsVerdict, decsVerdict, hashesVerdict, actorVerdict, check}
-use Rattle.environment.specs.Tables.{Roots, definitionsIn}
+use Rattle.environment.specs.Tables.{Roots, Chains, definitionsIn}
 use Rattle.environment.specs.Merging.{NamesIn}
 use Rattle.environment.proofs.Laws.{defined-length}
 use Rattle.typing.specs.declared.actor.Resolved.{Resolved}
@@ -66,10 +66,13 @@ module _ {names rows entries files : List ℕ} {name-count nodes definitions fil
   pub names-book : namesOf (length names) names ≡ b .names
   names-book = ap (λ (l : List ℕ). namesOf (length l) l) (p .names-are) ∙ names-read bs (p .laid)
 
-  pub all-trees : AllTrees rows name-count nodes
-  all-trees =
-      rw (p .rows-are, p .name-count-is, p .nodes-is)
+  pub book-trees : AllTrees rows (length (b .names)) (count (trees b))
+  book-trees =
+      subst (λ (ns : List ℕ). AllTrees ns (length (b .names)) (count (trees b))) (sym (p .rows-are))
       (record { nodes = nodes-known bs (p .laid); whole = trees-whole bs (p .laid); fits = trees-fit bs (p .laid) })
+
+  pub all-trees : AllTrees rows name-count nodes
+  all-trees = rw (p .name-count-is, p .nodes-is) book-trees
 
   pub files-of : Files files file-count nodes
   files-of =
@@ -140,6 +143,9 @@ module _ {names rows entries files : List ℕ} {name-count nodes definitions fil
         tables : decs.Checked rows roots ends′ nodes ds
         tables = rw (definitions-are s) (d .checked (passed-is w wp))
 
+        ends-chains : Chains rows ends′ name-count ds
+        ends-chains = subst (λ (l : List Definition). Chains rows ends′ name-count l) (sym (definitions-are s)) (d .chains (passed-is w wp))
+
         tabled : Tabled rows roots k ds
         tabled = (tables .env .binds, rw (definitions-are s) (defined-length rows (bodies-of s .entries) ∙ sub-zero k))
 
@@ -204,6 +210,9 @@ module _ {names rows entries files : List ℕ} {name-count nodes definitions fil
                           definitions = definitions-are s;
                           within = omega (arith, s .within, p .definitions-is);
                           checked = rw (← p .nodes-is) tables;
+                          chains = subst (λ (c : ℕ). Chains rows ends′ c ds) (p .name-count-is) ends-chains;
+                          counted = tabled .1;
+                          all = book-trees;
                           actor = actor-is;
                           stored = parts-stored;
                         };

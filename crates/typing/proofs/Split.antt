@@ -109,7 +109,7 @@ rises m (d ∷ l) t (suc i) (suc j) x h k =
     (omega (arith, p .0, r .0), r .1)
 
 -- what g makes of a run is good, where it is at each place
-all-made : {A B : Type 0} (Good : B → Type 0) (g : A → B) (f : ℕ → A) (n k : ℕ) → ((i : ℕ) → n ≤ i → i < n + k → Good (g (f i))) → All Good (map g (run f n k))
+pub all-made : {A B : Type 0} (Good : B → Type 0) (g : A → B) (f : ℕ → A) (n k : ℕ) → ((i : ℕ) → n ≤ i → i < n + k → Good (g (f i))) → All Good (map g (run f n k))
 unfolding run
 all-made Good g f n zero h = tt
 all-made Good g f n (suc k) h = (h n (omega arith) (omega arith), all-made Good g f (suc n) k (λ i l m. h i (omega arith) (omega arith)))
@@ -253,6 +253,17 @@ module _ (bs : List ℕ) {b : Book} (w : layout bs ≡ whole b) where
       let x : Definition = definitionAt (nodesPart bs) (entryAt (definitionsPart bs) i) in
       rw (definition-stored bs w i (omega arith) .is x, definition-stored bs w j k .is x) at (rises 0 (b .definitions) (admitted-parts bs w .grouped) i j x h k .1)
 
+  -- those before entry k, and the others
+  pub definitions-parts : (k : ℕ) → k ≤ length (b .definitions) →
+      b .definitions ≡ definitionsIn (nodesPart bs) (definitionsPart bs) 0 k ++ definitionsIn (nodesPart bs) (definitionsPart bs) k (length (b .definitions))
+  definitions-parts k h =
+      let at : ℕ → Entry = entryAt (definitionsPart bs) in
+      let make : Entry → Definition = definitionAt (nodesPart bs) in
+      let n : ℕ = length (b .definitions) in
+      let e : n ≡ k + (n - k) = omega arith in
+      definitions-are bs w ∙ ap (λ (m : ℕ). map make (run at 0 m)) e ∙ ap (map make) (run-append at 0 k (n - k))
+      ∙ map-append make (run at 0 k) (run at (0 + k) (n - k)) ∙ rw (zero-add k, sub-zero k)
+
   module _ {k : ℕ} (s : SplitAs (definitionsPart bs) (length (b .definitions)) (initOf bs b) k) where
     later-owner : (d : ℕ) → k ≤ d → d < length (b .definitions) → entryAt (definitionsPart bs) d .owner ≡ initOf bs b
     later-owner d l m =
@@ -271,15 +282,6 @@ module _ (bs : List ℕ) {b : Book} (w : layout bs ≡ whole b) where
     abbrev inits : List Definition
     inits = definitionsIn (nodesPart bs) (definitionsPart bs) k (length (b .definitions))
 
-    definitions-parts : b .definitions ≡ mains ++ inits
-    definitions-parts =
-        let at : ℕ → Entry = entryAt (definitionsPart bs) in
-        let make : Entry → Definition = definitionAt (nodesPart bs) in
-        let n : ℕ = length (b .definitions) in
-        let e : n ≡ k + (n - k) = omega (arith, s .within) in
-        definitions-are bs w ∙ ap (λ (m : ℕ). map make (run at 0 m)) e ∙ ap (map make) (run-append at 0 k (n - k))
-        ∙ map-append make (run at 0 k) (run at (0 + k) (n - k)) ∙ rw (zero-add k, sub-zero k)
-
     module _ (Good : Bool → Type 0) where
       mains-good : Good false → All (λ (d : Definition). Good (isInitRole (roleAt (b .files) (d .file)))) mains
       mains-good g = all-made _ (definitionAt (nodesPart bs)) (entryAt (definitionsPart bs)) 0 (k - 0) (λ i l m. rw (before-split i (omega arith)) g)
@@ -291,13 +293,13 @@ module _ (bs : List ℕ) {b : Book} (w : layout bs ≡ whole b) where
     pub main-definitions-are : mainDefinitions b ≡ definitionsIn (nodesPart bs) (definitionsPart bs) 0 k
     unfolding mainDefinitions
     main-definitions-are =
-        ap (keep (λ d. not (isInitRole (roleAt (b .files) (d .file))))) definitions-parts
+        ap (keep (λ d. not (isInitRole (roleAt (b .files) (d .file))))) (definitions-parts k (s .within))
         ∙ keep-first _ mains inits (mains-good (λ c. not c ≡ true) refl) (inits-good (λ c. not c ≡ false) refl)
 
     pub init-definitions-are : initDefinitions b ≡ definitionsIn (nodesPart bs) (definitionsPart bs) k (length (b .definitions))
     unfolding initDefinitions
     init-definitions-are =
-        ap (keep (λ d. isInitRole (roleAt (b .files) (d .file)))) definitions-parts
+        ap (keep (λ d. isInitRole (roleAt (b .files) (d .file)))) (definitions-parts k (s .within))
         ∙ keep-last _ mains inits (mains-good (λ c. c ≡ false) refl) (inits-good (λ c. c ≡ true) refl)
 
   -- ---- The trees of definitions and files, at roots

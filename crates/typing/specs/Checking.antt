@@ -14,10 +14,10 @@ use Rattle.book.specs.Refusal.{isPassed}
 use Rattle.judgement.specs.Environment.{mainDefinitions}
 use Rattle.judgement.specs.Actor.{resolveActor}
 use Rattle.judgement.specs.Check.{hashesVerdict, check}
-use Rattle.environment.specs.Tables.{blankTable, definitionsIn}
+use Rattle.environment.specs.Tables.{blankTable, Chains, definitionsIn}
 use Rattle.typing.specs.declared.actor.Actor.{Actor}
 use Rattle.typing.specs.declared.check.Checked.{Checked}
-use Rattle.typing.specs.Actors.{resolvedNone, methodsIn, actorTree, ActorStored}
+use Rattle.typing.specs.Actors.{AllTrees, resolvedNone, methodsIn, actorTree, ActorStored}
 use Rattle.typing.specs.Split.{initAt, SplitAs}
 use Rattle.typing.specs.Books.{Admitted}
 use Rattle.typing.specs.Decs as decs
@@ -48,7 +48,10 @@ refusedNone v = record { verdict = v; main = 0; roots = blankTable; ends = blank
 pub record Passes (rows entries : List ℕ) (b : Book) (r : Checked) : Type 0 where
   pub definitions : mainDefinitions b ≡ definitionsIn rows entries 0 (r .main)
   pub within : r .main ≤ length (b .definitions)
+  pub counted : length (mainDefinitions b) ≡ r .main
   pub checked : decs.Checked rows (r .roots) (r .ends) (count (trees b)) (mainDefinitions b)
+  pub chains : Chains rows (r .ends) (length (b .names)) (mainDefinitions b)
+  pub all : AllTrees rows (length (b .names)) (count (trees b))
   pub actor : actorTree rows (r .actor) ≡ resolveActor b
   pub stored : ActorStored rows (r .roots) (r .ends) (r .actor)
 

@@ -14,7 +14,7 @@ use Rattle.book.specs.declared.refusal.Verdict.{Verdict}
 use Rattle.book.specs.declared.refusal.Verdict.the-variants.{Passed}
 use Rattle.judgement.specs.Environment.{asService}
 use Rattle.judgement.specs.Check.{decsVerdict}
-use Rattle.environment.specs.Tables.{Nodes, Entries, Roots, EndNodes, Binds, endIs, definitionsIn}
+use Rattle.environment.specs.Tables.{Nodes, Entries, Roots, EndNodes, Binds, Chains, endIs, definitionsIn}
 use Rattle.typing.specs.Walk.{Env}
 
 -- Definitions of an admitted book: nodes, entries, and bodies that fit.
@@ -34,3 +34,4 @@ pub record Checked (ns roots ends′ : List ℕ) (count : ℕ) (ds : List Defini
 pub record DecsAs (es ns : List ℕ) (names count from to : ℕ) (v : Verdict) (roots ends′ : List ℕ) : Type 0 where
   pub verdict : v ≡ decsVerdict names (definitionsIn ns es from to)
   pub checked : v ≡ Passed → Checked ns roots ends′ count (definitionsIn ns es from to)
+  pub chains : v ≡ Passed → Chains ns ends′ names (definitionsIn ns es from to)

@@ -4,14 +4,16 @@ ghost use mathlib.Core.Bool.{cond};
 ghost use mathlib.Core.List.{List, []};
 ghost use Prim.Native.Nat.{ℕ, _≤_};
 ghost use lib.ListN.{length, take};
-ghost use Rattle.judgement.specs.Check.{hashesVerdict, initCheck, checkBytes, initCheckBytes};
+ghost use Rattle.judgement.specs.Check.{hashesVerdict, checkBytes, initCheckBytes};
 ghost use Rattle.book.specs.declared.refusal.Verdict.the-variants.{Passed};
 ghost use Rattle.environment.specs.Merging.{NamesIn};
 ghost use Rattle.typing.specs.Actors.{methodsIn};
 ghost use Rattle.typing.specs.Hashed.{ServicesIn};
 ghost use Rattle.typing.specs.Checking.{PartsOf, CheckedAs, HashedAs, BookAs, refusedNone};
+ghost use Rattle.typing.specs.Init.{InitBookAs};
 ghost use Rattle.typing.specs.Books.{Admitted};
 use crate::actor::Actor;
+use crate::init::InitChecked;
 use book::Admission;
 use book::kinds::Contents;
 use book::refusal::Verdict;
@@ -137,14 +139,14 @@ pub fn check(book: &[u8]) -> Verdict
 }
 
 // The init check of an admitted book: the whole check first.
-fn init_check_book(book: &[u8], c: Contents) -> Verdict
+pub fn init_check_book(book: &[u8], c: Contents) -> InitChecked
     requires { ⌜ Admitted (now book) c ⌝ }
-    ensures { λ r. ⌜ ((a : Admitted (now (book .entry)) c) → r ≡ initCheck (a .book)) ⌝ }
+    ensures { λ r. ⌜ ((a : Admitted (now (book .entry)) c) → InitBookAs a r) ⌝ }
 {
     let checked = check_book(book, c);
     let v = checked.verdict;
     if !v.passed() {
-        return v;
+        return crate::init::stopped(v);
     }
     let roots = checked.roots;
     let nodes_at = c.nodes_at;
@@ -159,7 +161,7 @@ fn init_check_book(book: &[u8], c: Contents) -> Verdict
         c.nodes,
         c.definitions,
         c.files,
-        &roots,
+        roots,
     )
 }
 
@@ -169,6 +171,9 @@ pub fn init_check(book: &[u8]) -> Verdict
 {
     match book::admit(book) {
         Admission::Refused(refusal) => Verdict::Refused(refusal),
-        Admission::Admitted(c) => init_check_book(book, c),
+        Admission::Admitted(c) => {
+            let found = init_check_book(book, c);
+            found.verdict
+        }
     }
 }

@@ -3,14 +3,36 @@ ghost use mathlib.Core.Path.{_≡_};
 ghost use mathlib.Core.List.{List};
 ghost use Prim.Native.Nat.{ℕ, _+_, _≤_};
 ghost use lib.ListN.{length};
-ghost use Rattle.judgement.specs.Check.{initVerdict};
 ghost use Rattle.environment.specs.Tables.{Entries, definitionsIn};
 ghost use Rattle.typing.specs.Checking.{PartsOf};
-ghost use Rattle.typing.specs.Init.{lacked, MainPassed};
+ghost use Rattle.typing.specs.Init.{lacked, MainPassed, initNone, InitCheckedAs};
 use book::read::Entry;
 use book::read::Node;
 use book::refusal::Verdict;
 use environment::Table;
+
+// What the init check finds, and what the init list needs: the table of the definitions that the arguments see, how many those are, and the
+// range of the arguments' nodes. Without an init file the definitions are main's, and the range is empty.
+pub struct InitChecked {
+    pub verdict: Verdict,
+    pub roots: [u16; 1024],
+    pub count: usize,
+    pub from: usize,
+    pub until: usize,
+}
+
+// Refused arguments have nothing to go on with.
+pub fn stopped(verdict: Verdict) -> InitChecked
+    ensures { λ r. ⌜ r ≡ initNone verdict ⌝ }
+{
+    InitChecked {
+        verdict,
+        roots: environment::blank(),
+        count: 0,
+        from: 0,
+        until: 0,
+    }
+}
 
 // How many definitions the init file's `count` and main's make together: a name that both define counts once.
 fn merged_count(
@@ -46,35 +68,52 @@ pub fn check_init_args(
     nodes: usize,
     definitions: usize,
     file_count: usize,
-    roots: &[u16],
-) -> Verdict
-    requires { ⌜ ((p : PartsOf (now names) (now rows) (now entries) (now files) «name_count» nodes definitions «file_count») × MainPassed p (now roots)) ⌝ }
+    roots: [u16; 1024],
+) -> InitChecked
+    requires { ⌜ ((p : PartsOf (now names) (now rows) (now entries) (now files) «name_count» nodes definitions «file_count») × MainPassed p roots) ⌝ }
     ensures { λ r. ⌜ ((p : PartsOf (now (names .entry)) (now (rows .entry)) (now (entries .entry)) (now (files .entry)) «name_count» nodes definitions «file_count») →
-        MainPassed p (now (roots .entry)) → r ≡ initVerdict (p .book)) ⌝ }
+        MainPassed p roots → InitCheckedAs p r) ⌝ }
 {
     let init = crate::files::init_file(files, file_count);
     if init == file_count {
-        return Verdict::Passed;
+        return InitChecked {
+            verdict: Verdict::Passed,
+            roots,
+            count: definitions,
+            from: 0,
+            until: 0,
+        };
     }
     let main = crate::files::main_definitions(entries, definitions, init);
     let decs = crate::decs::check_decs(entries, rows, name_count, nodes, main, definitions);
     let v = decs.verdict;
     if !v.passed() {
-        return v;
+        return stopped(v);
     }
     let own = decs.roots;
     let hashes = environment::merge::name_hashes(names, name_count);
-    let w = environment::merge::merge(rows, &hashes, &own, roots, name_count);
+    let w = environment::merge::merge(rows, &hashes, &own, &roots, name_count);
     if !w.passed() {
-        return w;
+        return stopped(w);
     }
-    let both = environment::merge::merged(&own, roots);
+    let both = environment::merge::merged(&own, &roots);
     let count = merged_count(entries, &own, name_count, nodes, definitions - main, main);
     let found = environment::alias_ends(rows, &both, name_count, nodes, count);
     let ends = found.ends;
     let e = Entry::at(files, init);
     let root = e.root as usize;
     let n = Node::at(rows, root);
+    let from = root + 1;
     let until = root + n.size as usize;
-    crate::check_fields(rows, &both, &ends, false, root + 1, until)
+    let z = crate::check_fields(rows, &both, &ends, false, from, until);
+    if !z.passed() {
+        return stopped(z);
+    }
+    InitChecked {
+        verdict: z,
+        roots: both,
+        count,
+        from,
+        until,
+    }
 }

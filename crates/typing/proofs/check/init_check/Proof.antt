@@ -28,7 +28,7 @@ returns c = refused-is _ initCheck (sym (c .before .refusal .given .1) ∙ c .be
 
 returns-2 : tie.Need-returns-2
 unfolding initCheckBytes
-returns-2 c = let a = admitted-is _ (sym (c .before .before .c .given .1) ∙ c .before .before .before .before .admit .ensures) in c .init-check-book .ensures a ∙ on-book a initCheck
+returns-2 c = let a = admitted-is _ (sym (c .before .before .c .given .1) ∙ c .before .before .before .before .admit .ensures) in c .init-check-book .ensures a .verdict ∙ on-book a initCheck
 
 pub init-check-spec : {M : Type 1} → statement M
 init-check-spec =

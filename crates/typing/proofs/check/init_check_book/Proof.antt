@@ -12,6 +12,7 @@ use Rattle.typing.proofs.check.init_check_book.Lts as lts
 use Rattle.book.proofs.refusal.Verdict.passed.Reads as passed-reads
 use Rattle.typing.proofs.check.check_book.Reads as check-book-reads
 use Rattle.typing.proofs.init.check_init_args.Reads as check-init-args-reads
+use Rattle.typing.proofs.init.stopped.Reads as stopped-reads
 
 check-book-requires : tie.Need-check-book-requires
 check-book-requires c κs = search needs
@@ -19,8 +20,11 @@ check-book-requires c κs = search needs
 passed-requires : tie.Need-passed-requires
 passed-requires c κs = search needs
 
+stopped-requires : tie.Need-stopped-requires
+stopped-requires c κs = search needs
+
 returns : tie.Need-returns
-returns c = λ a. init-stops a (c .before .before .check-book .ensures a) (sym (c .before .passed .ensures) ∙ not-true _ (c .if1 .taken))
+returns c = λ a. init-stops a (c .before .before .before .check-book .ensures a) (sym (c .before .before .passed .ensures) ∙ not-true _ (c .before .if1 .taken)) _ (c .stopped .ensures)
 
 sub-check-init-args : tie.Need-sub-check-init-args
 sub-check-init-args c = bounds (c .before .before .before .before .before .pre) .one
@@ -58,16 +62,13 @@ part-check-init-args-start-4 c = bounds (c .before .before .before .before .befo
 part-check-init-args-end-4 : tie.Need-part-check-init-args-end-4
 part-check-init-args-end-4 c = search needs
 
-slice-aggregate-check-init-args : tie.Need-slice-aggregate-check-init-args
-slice-aggregate-check-init-args c = search needs
-
 check-init-args-requires : tie.Need-check-init-args-requires
 unfolding part
-check-init-args-requires c κs = (parts-of (c .before .before .before .before .before .before .before .before .before .before .pre), main-passed (c .before .before .before .before .before .before .before .before .before .before .pre) (c .before .before .before .before .before .before .before .before .check-book .ensures (c .before .before .before .before .before .before .before .before .before .before .pre)) (sym (c .before .before .before .before .before .before .before .passed .ensures) ∙ not-false _ (c .before .before .before .before .before .before .if1 .left)))
+check-init-args-requires c κs = (parts-of (c .before .before .before .before .before .before .before .before .before .pre), main-passed (c .before .before .before .before .before .before .before .before .before .pre) (c .before .before .before .before .before .before .before .check-book .ensures (c .before .before .before .before .before .before .before .before .before .pre)) (sym (c .before .before .before .before .before .before .passed .ensures) ∙ not-false _ (c .before .before .before .before .before .if1 .left)))
 
 returns-2 : tie.Need-returns-2
 unfolding part
-returns-2 c = λ a. init-goes a (c .before .before .before .before .before .before .before .before .before .check-book .ensures a) (sym (c .before .before .before .before .before .before .before .before .passed .ensures) ∙ not-false _ (c .before .before .before .before .before .before .before .if1 .left)) (c .check-init-args .ensures (parts-of a) (main-passed a (c .before .before .before .before .before .before .before .before .before .check-book .ensures a) (sym (c .before .before .before .before .before .before .before .before .passed .ensures) ∙ not-false _ (c .before .before .before .before .before .before .before .if1 .left))))
+returns-2 c = λ a. init-goes a (c .before .before .before .before .before .before .before .before .check-book .ensures a) (sym (c .before .before .before .before .before .before .before .passed .ensures) ∙ not-false _ (c .before .before .before .before .before .before .if1 .left)) _ (c .check-init-args .ensures (parts-of a) (main-passed a (c .before .before .before .before .before .before .before .before .check-book .ensures a) (sym (c .before .before .before .before .before .before .before .passed .ensures) ∙ not-false _ (c .before .before .before .before .before .before .if1 .left))))
 
 pub init-check-book-spec : {M : Type 1} → statement M
 init-check-book-spec =
@@ -75,6 +76,7 @@ init-check-book-spec =
     (tie.spec
     check-book-requires
     passed-requires
+    stopped-requires
     returns
     sub-check-init-args
     part-check-init-args-start
@@ -88,6 +90,5 @@ init-check-book-spec =
     sub-check-init-args-4
     part-check-init-args-start-4
     part-check-init-args-end-4
-    slice-aggregate-check-init-args
     check-init-args-requires
     returns-2)

@@ -1,0 +1,204 @@
+-- A tree is gone through by its rows, one after the other. Assumes nothing.
+--     agrees-set, agrees-again     one name more in a set, by its flag
+--     tree-each                    a tree is gone through by its references
+--     GoLeft, go-..                the loop
+use mathlib.Core.Path.{_≡_, refl, sym, ap, subst, _∙_}
+use mathlib.Core.Bool.{Bool, true, false, cond, _||_}
+use mathlib.Core.List.{List, [], _∷_}
+use Prim.Native.Nat.{ℕ, suc, _+_, _-_, _≤_, _<_}
+use native.Mathlib.Decide.{ℕ-discrete}
+use native.Mathlib.Omega.{arith}
+use borrow.Author.Tests.{eq-eqb, ne-eqb}
+use lib.Dec.{eqb}
+use lib.ListN.{length, getD, set, length-set, length-replicate}
+use lib.Seq.{getD-set-same, getD-set-other}
+use Rattle.format.specs.Encode.{Row}
+use Rattle.format.specs.Layout.{run, rowAt}
+use Rattle.format.specs.References.{references}
+use Rattle.format.specs.Whole.{Within, treeAt}
+use Rattle.format.proofs.Lists.{run-none, run-cons}
+use Rattle.format.proofs.References.{everywhere, varsOf, references-siblings}
+use Rattle.judgement.specs.Check.{member}
+use Rattle.environment.specs.Flags.{noFlags, isSet}
+use Rattle.environment.specs.Tables.{blankTable, Roots}
+use Rattle.environment.proofs.Defines.{blank-length, blank-at}
+use Rattle.typing.specs.Walk.{Trees}
+use Rattle.typing.proofs.NodeTrees.{node-trees}
+use Rattle.listing.specs.Recursive.{marking, unbound, note, noteName, go}
+use Rattle.listing.specs.Recursive as listing
+use Rattle.listing.proofs.Folds.{each}
+use Rattle.listing.proofs.Marked.{go-fits}
+use Rattle.analysis.specs.declared.recursive.Marks.{Marks}
+use Rattle.analysis.specs.Book.{Agrees}
+use Rattle.analysis.specs.Marking.{MarksHold, GoneThrough, NodeIn}
+
+-- ---- Flags
+pub no-flags-length : length noFlags ≡ 1024
+unfolding noFlags
+no-flags-length = length-replicate {A = ℕ} 1024 0
+
+pub no-flags-at : (n : ℕ) → isSet noFlags n ≡ false
+unfolding noFlags
+no-flags-at n = rw (everywhere {A = ℕ} 1024 n 0)
+
+pub agrees-none : Agrees noFlags []
+unfolding member
+agrees-none n lt = no-flags-at n
+
+module _ (flags l : List ℕ) (agrees : Agrees flags l) (n : ℕ) where
+  pub agrees-set : n < length flags → Agrees (set flags n 1) (n ∷ l)
+  unfolding member
+  agrees-set h k lt = look (ℕ-discrete k n)
+    where
+      look : Dec (k ≡ n) → isSet (set flags n 1) k ≡ (eqb k n || member k l)
+      look (yes e) = rw (e, getD-set-same flags n 1 0 h, eq-eqb n n refl)
+      look (no d) = rw (getD-set-other flags n k 1 0 d, ne-eqb k n d) (agrees k lt)
+
+  -- a name that is there already
+  pub agrees-again : isSet flags n ≡ true → Agrees flags (n ∷ l)
+  unfolding member
+  agrees-again h k lt = look (ℕ-discrete k n)
+    where
+      look : Dec (k ≡ n) → isSet flags k ≡ (eqb k n || member k l)
+      look (yes e) = rw (e, h, eq-eqb n n refl)
+      look (no d) = rw (ne-eqb k n d) (agrees k lt)
+
+pub held-none : (r : Marks) → r .seen ≡ noFlags → r .marked ≡ noFlags → r .stopped ≡ false → MarksHold (marking [] []) r
+held-none r s m g =
+    record {
+      goes = g;
+      seen-are = subst (λ (f : List ℕ). Agrees f []) (sym s) agrees-none;
+      marked-are = subst (λ (f : List ℕ). Agrees f []) (sym m) agrees-none;
+      seen-long = ap length s ∙ no-flags-length;
+      long = ap length m ∙ no-flags-length;
+    }
+
+-- ---- One name
+pub note-again : (n : ℕ) (v : Marks) → n < 1024 → getD (v .seen) n 0 ≡ 1 → (s : listing.Marks) → MarksHold s v → MarksHold (noteName n s) v
+unfolding noteName note
+note-again n v lt e (marking seen set′) h =
+    let is : member n seen ≡ true = sym (h .seen-are n lt) ∙ eq-eqb (getD (v .seen) n 0) 1 e in
+    subst (λ (b : Bool). MarksHold (note n b seen set′) v) (sym is) h
+note-again n v lt e (unbound m) h = h
+
+abbrev pub noted : ℕ → Marks → Marks
+noted n v = record { seen = set (v .seen) n 1; marked = set (v .marked) n 1; stopped = v .stopped; bad = v .bad }
+
+pub note-anew : (n : ℕ) (v : Marks) → n < 1024 → (getD (v .seen) n 0 ≡ 1 → ⊥) → (s : listing.Marks) → MarksHold s v → MarksHold (noteName n s) (noted n v)
+unfolding noteName note
+note-anew n v lt e (marking seen set′) h =
+    let is : member n seen ≡ false = sym (h .seen-are n lt) ∙ ne-eqb (getD (v .seen) n 0) 1 e in
+    subst (λ (b : Bool). MarksHold (note n b seen set′) (noted n v)) (sym is)
+    (record {
+      goes = h .goes;
+      seen-are = agrees-set (v .seen) seen (h .seen-are) n (omega (arith, h .seen-long));
+      marked-are = agrees-set (v .marked) set′ (h .marked-are) n (omega (arith, h .long));
+      seen-long = length-set (v .seen) n 1 ∙ h .seen-long;
+      long = length-set (v .marked) n 1 ∙ h .long;
+    })
+note-anew n v lt e (unbound m) h = record { stops = h .stops; at-name = h .at-name }
+
+-- ---- The rows of a tree
+unfoldable pub noteRows : List Row → listing.Marks → listing.Marks
+noteRows [] s = s
+noteRows (r ∷ rs) s = noteRows rs (cond (eqb (r .kind) 18) (noteName (r .value) s) s)
+
+rows-each : (rs : List Row) (s : listing.Marks) → each noteName (varsOf rs) s ≡ noteRows rs s
+unfolding each varsOf noteRows
+rows-each [] s = refl
+rows-each (r ∷ rs) s = look (eqb (r .kind) 18) (rows-each rs)
+  where
+    look : (b : Bool) → ((s′ : listing.Marks) → each noteName (varsOf rs) s′ ≡ noteRows rs s′) →
+        each noteName (cond b (r .value ∷ varsOf rs) (varsOf rs)) s ≡ noteRows rs (cond b (noteName (r .value) s) s)
+    look true h = h (noteName (r .value) s)
+    look false h = h s
+
+-- no table is asked of a tree that is only gone through
+no-roots : (count : ℕ) → Roots blankTable count
+no-roots count = record { long = blank-length; node = λ n h. absurd (h (blank-at n)) }
+
+module _ {ns : List ℕ} {n : ℕ} (i : NodeIn ns n) where
+  fitting : Trees ns blankTable blankTable n (n + rowAt ns n .size)
+  fitting = node-trees (i .all) (no-roots (i .count)) (no-roots (i .count)) (i .inside)
+
+  pub tree-each : (s : listing.Marks) → go (treeAt ns n) s ≡ each noteName (references (treeAt ns n)) s
+  tree-each s = let t = fitting in go-fits (t .walk .names) (t .place) (treeAt ns n) (t .fits) s
+
+  tree-rows : (s : listing.Marks) (until : ℕ) → until ≡ n + rowAt ns n .size → go (treeAt ns n) s ≡ noteRows (run (rowAt ns) n (until - n)) s
+  tree-rows s until e =
+      tree-each s ∙ ap (λ (l : List ℕ). each noteName l s) (references-siblings ns n (n + rowAt ns n .size))
+      ∙ rows-each (run (rowAt ns) n ((n + rowAt ns n .size) - n)) s
+      ∙ ap (λ (u : ℕ). noteRows (run (rowAt ns) n (u - n)) s) (sym e)
+
+  pub ends-in : n + rowAt ns n .size ≤ i .count
+  ends-in = i .all .nodes .tree n (i .inside) .ends
+
+  pub row-in : (k until : ℕ) → until ≡ n + rowAt ns n .size → k < until → Within ns (k + 1)
+  row-in k until e h = record { held = omega (arith, ends-in, i .all .nodes .within .held); few = i .all .nodes .within .few }
+
+  pub root-in : Within ns (n + 1)
+  root-in = record { held = omega (arith, i .inside, i .all .nodes .within .held); few = i .all .nodes .within .few }
+
+  pub small : (k until : ℕ) → until ≡ n + rowAt ns n .size → k < until → (r : Row) → r ≡ rowAt ns k → r .kind ≡ 18 → r .value < 1024
+  small k until e h r is q =
+      let f = i .all .nodes .row k (omega (arith, ends-in)) .name (ap (λ (x : Row). x .kind) (sym is) ∙ q) in
+      omega (arith, f, ap (λ (x : Row). x .value) is, i .all .nodes .fewNames)
+
+-- ---- The loop: what is noted, and then the rows that are left
+pub record Noting (ns : List ℕ) (root until : ℕ) (v : Marks) (i : ℕ) (s : listing.Marks) : Type 0 where
+  pub state : listing.Marks
+  pub holds : MarksHold state v
+  pub rest : noteRows (run (rowAt ns) i (until - i)) state ≡ noteRows (run (rowAt ns) root (until - root)) s
+
+pub record GoLeft (ns : List ℕ) (root until : ℕ) (m v : Marks) (i : ℕ) : Type 0 where
+  pub ends : until ≡ root + rowAt ns root .size
+  pub began : root ≤ i
+  pub passed : i ≤ until
+  pub noting : (s : listing.Marks) → MarksHold s m → Noting ns root until v i s
+
+module _ {ns : List ℕ} {root until : ℕ} {m : Marks} where
+  pub go-start : (r : Row) → r ≡ rowAt ns root → until ≡ root + r .size → GoLeft ns root until m m root
+  go-start r is e =
+      let e′ : until ≡ root + rowAt ns root .size = e ∙ ap (λ (x : Row). root + x .size) is in
+      record { ends = e′; began = omega arith; passed = omega arith; noting = λ s h. record { state = s; holds = h; rest = refl } }
+
+  module _ {v : Marks} {i : ℕ} (l : GoLeft ns root until m v i) where
+    pub go-end : NodeIn ns root → until ≤ i → GoneThrough (treeAt ns root) m v
+    unfolding noteRows
+    go-end n h s k =
+        let z : until - i ≡ 0 = omega arith in
+        let x = l .noting s k in
+        subst (λ (t : listing.Marks). MarksHold t v)
+        (sym (ap (λ (j : ℕ). noteRows (run (rowAt ns) i j) (x .state)) z ∙ ap (λ (rs : List Row). noteRows rs (x .state)) (run-none (rowAt ns) i)) ∙ x .rest ∙ sym (tree-rows n s until (l .ends)))
+        (x .holds)
+
+    module _ (h : i < until) (r : Row) (is : r ≡ rowAt ns i) where
+      opens : run (rowAt ns) i (until - i) ≡ r ∷ run (rowAt ns) (i + 1) (until - (i + 1))
+      opens = let z : until - i ≡ suc (until - (i + 1)) = omega arith in rw (z, is) (run-cons (rowAt ns) i (until - (i + 1)))
+
+      step : (s : listing.Marks) →
+          noteRows (run (rowAt ns) i (until - i)) s ≡ noteRows (run (rowAt ns) (i + 1) (until - (i + 1))) (cond (eqb (r .kind) 18) (noteName (r .value) s) s)
+      unfolding noteRows
+      step s = ap (λ (rs : List Row). noteRows rs s) opens
+
+      -- by whether the row is a name, and what is held after it
+      go-on : (b : Bool) → eqb (r .kind) 18 ≡ b → {w : Marks} → ((s : listing.Marks) → MarksHold s v → MarksHold (cond b (noteName (r .value) s) s) w) →
+          GoLeft ns root until m w (i + 1)
+      go-on b e f =
+          record {
+            ends = l .ends;
+            began = omega arith;
+            passed = omega arith;
+            noting = λ s k.
+                let x = l .noting s k in
+                record { state = cond b (noteName (r .value) (x .state)) (x .state); holds = f (x .state) (x .holds); rest = sym (step (x .state) ∙ rw e) ∙ x .rest };
+          }
+
+      pub go-other : (r .kind ≡ 18 → ⊥) → GoLeft ns root until m v (i + 1)
+      go-other d = go-on false (ne-eqb (r .kind) 18 d) (λ s k. k)
+
+      pub go-again : r .kind ≡ 18 → r .value < 1024 → getD (v .seen) (r .value) 0 ≡ 1 → GoLeft ns root until m v (i + 1)
+      go-again e lt q = go-on true (eq-eqb (r .kind) 18 e) (note-again (r .value) v lt q)
+
+      pub go-anew : r .kind ≡ 18 → r .value < 1024 → (getD (v .seen) (r .value) 0 ≡ 1 → ⊥) → GoLeft ns root until m (noted (r .value) v) (i + 1)
+      go-anew e lt q = go-on true (eq-eqb (r .kind) 18 e) (note-anew (r .value) v lt q)

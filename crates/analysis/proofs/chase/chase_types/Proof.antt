@@ -1,0 +1,23 @@
+-- `chase_types` meets its contract. Assumes nothing.
+use Rattle.analysis.proofs.ChasedActor.{fresh-started, fresh-chased}
+use borrow.Author.Needs.{needs}
+use Rattle.analysis.proofs.chase.chase_types.Statement.{statement}
+use Rattle.analysis.proofs.chase.chase_types.Tie as tie
+use Rattle.analysis.proofs.chase.chase_types.Lts as lts
+use Rattle.analysis.proofs.chase.chase.Reads as chase-reads
+use Rattle.analysis.proofs.chase.fresh.Reads as fresh-reads
+
+add-chase : tie.Need-add-chase
+add-chase c = search needs
+
+fresh-requires : tie.Need-fresh-requires
+fresh-requires c κs = search needs
+
+chase-requires : tie.Need-chase-requires
+chase-requires c κs = (c .before .before .before .pre .0, fresh-started (c .before .before .before .pre .1) (c .fresh .ensures))
+
+returns : tie.Need-returns
+returns c = fresh-chased (c .before .before .before .before .pre .1) _ _ _ _ (c .before .fresh .ensures) (c .chase .ensures)
+
+pub chase-types-spec : {M : Type 1} → statement M
+chase-types-spec = tie.close (tie.spec add-chase fresh-requires chase-requires returns)

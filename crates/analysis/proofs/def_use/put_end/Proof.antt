@@ -1,0 +1,44 @@
+-- `put_end` meets its contract. Assumes nothing.
+use Rattle.format.proofs.Rows.{node-within}
+use Rattle.analysis.proofs.SitedMethods.{most-none, end-puts-none, end-puts-other, end-puts}
+use Rattle.analysis.proofs.def_use.put_end.Statement.{statement}
+use Rattle.analysis.proofs.def_use.put_end.Tie as tie
+use Rattle.analysis.proofs.def_use.put_end.Reads as reads
+use Rattle.analysis.proofs.def_use.put_end.Lts as lts
+use Rattle.analysis.proofs.def_use.put_func.Reads as put-func-reads
+use Rattle.book.proofs.read.Node.at.Reads as at-reads
+
+returns : tie.Need-returns
+returns c =
+    let a = c .before .before .before .before .args in
+    (most-none _ _ _, λ x q used h. end-puts-none (a .rows .now) (a .e) (a .method) (a .places) (a .k) (a .out .now) (c .if1 .taken) x q used)
+
+at-requires : tie.Need-at-requires
+at-requires c κs = node-within (c .before .before .before .before .pre .0 (c .if1 .left))
+
+returns-2 : tie.Need-returns-2
+returns-2 c =
+    let a = c .before .before .before .before .before .before .before .args in (
+      most-none _ _ _,
+      λ x q used h. end-puts-other (a .rows .now) (a .e) (a .method) (a .places) (a .k) (a .out .now) (c .before .before .before .if1 .left) (c .before .before .before .before .before .before .before .pre .0 (c .before .before .before .if1 .left)) _ (c .before .before .at .ensures) (c .if2 .taken) x q used,
+    )
+
+put-func-requires : tie.Need-put-func-requires
+put-func-requires c κs =
+    let p = c .before .before .before .before .before .before .before .before .pre in
+    (p .0 (c .before .before .before .before .if1 .left), p .1, p .2, p .3)
+
+same-length : tie.Need-same-length
+same-length c = c .before .before .put-func .ensures .0 .long
+
+returns-3 : tie.Need-returns-3
+returns-3 c =
+    let a = c .before .before .before .before .before .before .before .before .before .before .before .args in
+    let p = c .before .before .put-func .ensures in (
+      p .0,
+      end-puts (a .rows .now) (a .e) (a .method) (a .places) (a .k) (a .out .now) (c .before .before .before .before .before .before .before .if1 .left) (c .before .before .before .before .before .before .before .before .before .before .before .pre .0 (c .before .before .before .before .before .before .before .if1 .left)) _ (c .before .before .before .before .before .before .at .ensures) (c .before .before .before .before .if2 .left) (p .1),
+    )
+
+pub put-end-spec : {M : Type 1} → statement M
+put-end-spec =
+    tie.close (tie.spec returns at-requires returns-2 put-func-requires same-length returns-3)

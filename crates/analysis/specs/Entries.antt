@@ -1,0 +1,95 @@
+-- The entries of uses, as the code counts and writes them, and what its functions ask. Definitions; assumes nothing.
+--     usesBy              the entries of the sites that pass a test
+--     putAll, Puts        entries in a lent slice
+--     HitsIn              a test of types, by the numbers that the code has for nodes
+--     Known, Offered      what is known of a book, and what is asked of an interface
+use mathlib.Core.Path.{_≡_}
+use mathlib.Core.Bool.{Bool, cond}
+use mathlib.Core.List.{List, [], _∷_, map}
+use Prim.Native.Nat.{ℕ, suc, _+_, _*_, _≤_, _<_}
+use lib.Dec.{eqb, ltb}
+use lib.ListN.{length, getD}
+use lib.Seq.{sets}
+use Rattle.format.specs.Forest.{Forest, breadth}
+use Rattle.format.specs.Node.{Node}
+use Rattle.format.specs.Book.{Definition}
+use Rattle.format.specs.Layout.{rowAt, siblings}
+use Rattle.format.specs.Whole.{Whole, treeAt}
+use Rattle.environment.specs.Tables.{Nodes, EndNodes, Chains}
+use Rattle.listing.specs.Uses.{Use, Site}
+use Rattle.listing.specs.Offers.{kept, entryOf}
+
+-- ---- Which entries
+
+-- A test of types.
+abbrev pub Test : Type 0
+Test = Forest Node → Bool
+
+-- Those of the sites whose type passes the test, in their order.
+unfoldable pub usesBy : Test → List Site → List Use
+usesBy used ss = map entryOf (kept (λ (s : Site). used (s .type)) ss)
+
+-- ---- Entries in a lent slice
+
+-- The three numbers of an entry.
+unfoldable pub numbers : Use → List ℕ
+numbers e = e .method ∷ e .result ∷ e .index ∷ []
+
+-- Entry k, where there are places for more than k entries; else nothing changes.
+unfoldable pub put : (places k : ℕ) → Use → List ℕ → List ℕ
+put places k e old = cond (ltb k places) (sets old (3 * k) (numbers e)) old
+
+unfoldable pub putAll : (places k : ℕ) → List Use → List ℕ → List ℕ
+putAll places k [] old = old
+putAll places k (e ∷ es) old = putAll places (suc k) es (put places k e old)
+
+-- Entries as the k-th and so on: there are `next` by then, and `new` is what they make of a slice that was `old`.
+pub record Puts (places k : ℕ) (es : List Use) (old new : List ℕ) (next : ℕ) : Type 0 where
+  pub counted : next ≡ k + length es
+  pub written : new ≡ putAll places k es old
+
+-- At most so many entries, in a slice that keeps its length.
+pub record AtMost (most k : ℕ) (old new : List ℕ) (next : ℕ) : Type 0 where
+  pub few : next ≤ k + most
+  pub long : length new ≡ length old
+
+-- ---- Which trees use the name
+
+-- The trees from node i up to node e do, by the number at i.
+unfoldable pub hit : List ℕ → ℕ → ℕ → Bool
+hit near i e = ltb (getD near i 0) e
+
+-- A test of types says so of the tree at each node from `from` up to `until`.
+pub record HitsIn (used : Test) (ns near : List ℕ) (from until : ℕ) : Type 0 where
+  pub agrees : (i : ℕ) → from ≤ i → i < until → used (treeAt ns i) ≡ hit near i (i + rowAt ns i .size)
+
+-- ---- Trees beside each other
+
+-- Node `at` stands after the first `count` trees from node `from` up to node `until`; after all of them where they are fewer.
+pub record SkipsTo (ns : List ℕ) (from until count at : ℕ) : Type 0 where
+  pub before : Whole ns from at
+  pub after : Whole ns at until
+  pub least : breadth (siblings ns from at) ≤ count
+  pub enough : at < until → breadth (siblings ns from at) ≡ count
+
+-- ---- Methods
+
+-- Where the chain from a node ends, by a table of alias ends; 65,535 for none.
+unfoldable pub endNode : List ℕ → List ℕ → ℕ → ℕ
+endNode ns ends′ node = cond (eqb (rowAt ns node .kind) 18) (getD ends′ (rowAt ns node .value) 65535) node
+
+-- What is known of a book: its table of alias ends is that of the definitions, and the test says what the numbers say.
+pub record Known (ns ends′ near : List ℕ) (names nodes : ℕ) (ds : List Definition) (used : Test) : Type 0 where
+  pub chains : Chains ns ends′ names ds
+  pub hits : HitsIn used ns near 0 nodes
+
+-- An interface in a book: a class's arguments, which are the trees from node `from` up to node `until`, and services.
+pub record Offered (ns ends′ : List ℕ) (from until : ℕ) (services : List ℕ) (count : ℕ) : Type 0 where
+  pub names : ℕ
+  pub nodes : ℕ
+  pub book : Nodes ns names nodes
+  pub table : EndNodes ends′ nodes
+  pub arguments : Whole ns from until
+  pub inside : until ≤ nodes
+  pub few : count ≤ 16
+  pub service : (k : ℕ) → k < count → getD services k 0 < nodes

@@ -1,0 +1,9 @@
+-- What the contracts of the analysis cite. The definitions of what it answers are those of the crate `listing`.
+pub mod Book
+pub mod Handed
+pub mod Walking
+pub mod Marking
+pub mod Reaching
+pub mod Interfaces
+pub mod Entries
+pub mod Projecting

@@ -1,0 +1,41 @@
+-- How the code holds the marks of `infer_rec`. Definitions; assumes nothing.
+use mathlib.Core.Path.{_≡_}
+use mathlib.Core.Bool.{true, false}
+use mathlib.Core.List.{List}
+use Prim.Native.Nat.{ℕ, _<_}
+use lib.ListN.{length}
+use Rattle.format.specs.Forest.{Forest}
+use Rattle.format.specs.Node.{Node}
+use Rattle.listing.specs.Recursive.{marking, unbound, go}
+use Rattle.listing.specs.Recursive as listing
+use Rattle.typing.specs.Actors.{AllTrees}
+use Rattle.analysis.specs.declared.recursive.Marks.{Marks}
+use Rattle.analysis.specs.Book.{Agrees}
+
+-- Nothing has stopped it, and the flags tell the names seen and those marked.
+pub record Flagged (seen set : List ℕ) (r : Marks) : Type 0 where
+  pub goes : r .stopped ≡ false
+  pub seen-are : Agrees (r .seen) seen
+  pub marked-are : Agrees (r .marked) set
+  pub seen-long : length (r .seen) ≡ 1024
+  pub long : length (r .marked) ≡ 1024
+
+-- It was stopped at this name.
+pub record StoppedAt (n : ℕ) (r : Marks) : Type 0 where
+  pub stops : r .stopped ≡ true
+  pub at-name : r .bad ≡ n
+
+abbrev pub MarksHold : listing.Marks → Marks → Type 0
+MarksHold (marking seen set) r = Flagged seen set r
+MarksHold (unbound n) r = StoppedAt n r
+
+-- From m, whatever it holds, a tree was gone through.
+abbrev pub GoneThrough : Forest Node → Marks → Marks → Type 0
+GoneThrough t m r = (s : listing.Marks) → MarksHold s m → MarksHold (go t s) r
+
+-- A node of a book.
+pub record NodeIn (ns : List ℕ) (node : ℕ) : Type 0 where
+  pub names : ℕ
+  pub count : ℕ
+  pub all : AllTrees ns names count
+  pub inside : node < count

@@ -1,0 +1,78 @@
+// What a question hands over: names ascending by their flags, and a list copied into a lent one. Assumes nothing of a book.
+ghost use mathlib.Core.Path.{_≡_};
+ghost use Prim.Native.Nat.{_≤_, _<_};
+ghost use lib.ListN.{length, take};
+ghost use Rattle.environment.specs.Flags.{flagged};
+ghost use Rattle.listing.specs.Questions.{given, fit};
+ghost use Rattle.analysis.specs.Handed.{noNames, answerOf, leftIn};
+use book::refusal::Refusal;
+
+// What a question answers: how many entries stand at the front of the lent list, or why there are none.
+pub enum Answer {
+    Given(usize),
+    Refused(Refusal),
+}
+
+// Hands a list over into a lent one; 16 where that is shorter.
+pub fn hand(list: &[u16], out: &mut [u16]) -> Answer
+    requires { ⌜ length (now list) < 4294967296 ⌝ }
+    ensures answer { λ r. ⌜ r ≡ answerOf (fit (length (now (out .entry))) (given (now (list .entry)))) ⌝ }
+    ensures left { λ _. ⌜ now (out .exit) ≡ leftIn (fit (length (now (out .entry))) (given (now (list .entry)))) (now (out .entry)) ⌝ }
+{
+    let n = list.len();
+    if out.len() < n {
+        return Answer::Refused(Refusal::Short(n as u32));
+    }
+    let mut j = 0;
+    while j < n {
+        out[j] = list[j];
+        j += 1;
+    }
+    Answer::Given(n)
+}
+
+// Name numbers: the first `len` of the list.
+pub struct Names {
+    pub list: [u16; 1024],
+    pub len: usize,
+}
+
+pub type NameList = [u16; 1024];
+
+// A list to fill.
+fn no_names() -> NameList
+    ensures { λ r. ⌜ r ≡ noNames ⌝ }
+{
+    [0u16; 1024]
+}
+
+// The names below `names` whose flag is set, ascending.
+pub fn names_of(flags: &[u8], names: usize) -> Names
+    requires { ⌜ (length (now flags) ≡ 1024) × (names ≤ 1024) ⌝ }
+    ensures { λ r. ⌜ (take (r .len) (r .list) ≡ flagged (now (flags .entry)) 0 names) × (r .len ≤ 1024) ⌝ }
+{
+    let mut list = no_names();
+    let mut len: usize = 0;
+    let mut i: usize = 0;
+    while i < names {
+        let n = i;
+        i += 1;
+        if flags[n] != 1 {
+            continue;
+        }
+        list[len] = n as u16;
+        len += 1;
+    }
+    Names { list, len }
+}
+
+// Hands names over into a lent list; 16 where that is shorter.
+pub fn hand_names(names: Names, out: &mut [u16]) -> Answer
+    requires { ⌜ names .len ≤ 1024 ⌝ }
+    ensures answer { λ r. ⌜ r ≡ answerOf (fit (length (now (out .entry))) (given (take (names .len) (names .list)))) ⌝ }
+    ensures left { λ _. ⌜ now (out .exit) ≡ leftIn (fit (length (now (out .entry))) (given (take (names .len) (names .list)))) (now (out .entry)) ⌝ }
+{
+    let list = names.list;
+    let n = names.len;
+    hand(&list[..n], out)
+}

@@ -1,0 +1,244 @@
+// `project_methods` of analysis.rs: methods take their names from the asked ones, in order. The asked names are kept as counts, since
+// their order does not matter. Functions ask of their caller what a book gives (specs/Projecting.antt).
+ghost use mathlib.Core.Path.{_≡_};
+ghost use mathlib.Core.List.{List};
+ghost use Prim.Native.Nat.{ℕ, _+_, _-_, _≤_, _<_};
+ghost use lib.ListN.{length, getD, take};
+ghost use Rattle.format.specs.Book.{Definition};
+ghost use Rattle.format.specs.Layout.{siblings};
+ghost use Rattle.judgement.specs.Environment.{aliasEnd, methodsAt};
+ghost use Rattle.judgement.specs.Actor.{belowClass};
+ghost use Rattle.environment.specs.Flags.{noFlags};
+ghost use Rattle.typing.specs.Walk.{Methods};
+ghost use Rattle.typing.specs.Actors.{methodsIn, actorTree};
+ghost use Rattle.analysis.specs.Interfaces.{Offering};
+ghost use Rattle.analysis.specs.Projecting.{Asking, countOne, lowerFar, LowestAs, placeAt, Room, MethodTaken, MethodsTaken, Services, AllProjected, ProjectAs, projection};
+use book::read::Node;
+use book::refusal::Refusal;
+use book::refusal::Verdict;
+use typing::actor::Actor;
+
+// How often each of the 1,024 names is asked for.
+pub type Counts = [usize; 1024];
+
+// The asked numbers: how often each below 1,024, and the lowest other one, which is no name of any book; NONE where there is none.
+pub struct Asked {
+    pub left: [usize; 1024],
+    pub far: u32,
+}
+
+impl Asked {
+    // No number that is asked for: one more than the highest.
+    pub const NONE: u32 = 65536;
+}
+
+fn no_counts() -> Counts
+    ensures { λ r. ⌜ r ≡ noFlags ⌝ }
+{
+    [0usize; 1024]
+}
+
+// Counts a number, where it is a name.
+fn count_one(left: &mut [usize], n: u16)
+    requires { ⌜ (length (now left) ≡ 1024) × (getD (now left) n 0 + 1 < 18446744073709551616) ⌝ }
+    ensures { λ _. ⌜ now (left .exit) ≡ countOne n (now (left .entry)) ⌝ }
+{
+    if n >= 1024 {
+        return;
+    }
+    let i = n as usize;
+    left[i] = left[i] + 1;
+}
+
+// The lower of two numbers that are no names.
+fn lower_far(far: u32, n: u16) -> u32
+    ensures { λ r. ⌜ r ≡ lowerFar n far ⌝ }
+{
+    if n < 1024 {
+        return far;
+    }
+    let m = n as u32;
+    if m < far {
+        return m;
+    }
+    far
+}
+
+// The asked numbers of a list.
+pub fn count_asked(list: &[u16]) -> Asked
+    ensures { λ r. ⌜ (length (r .left) ≡ 1024) × Asking (r .left) (r .far) (now (list .entry)) ⌝ }
+{
+    let mut left = no_counts();
+    let mut far = Asked::NONE;
+    let mut i = 0;
+    while i < list.len() {
+        let n = list[i];
+        count_one(&mut left, n);
+        far = lower_far(far, n);
+        i += 1;
+    }
+    Asked { left, far }
+}
+
+// The lowest number still asked for, or NONE.
+pub fn lowest_left(left: &[usize], far: u32) -> u32
+    requires { ⌜ length (now left) ≡ 1024 ⌝ }
+    ensures { λ r. ⌜ LowestAs (now (left .entry)) far r ⌝ }
+{
+    let mut n = 0;
+    while n < 1024 {
+        if left[n] != 0 {
+            return n as u32;
+        }
+        n += 1;
+    }
+    far
+}
+
+// Writes a position at place k, where there is that place.
+fn place(out: &mut [u16], places: usize, k: usize, at: usize)
+    requires { ⌜ (places ≤ length (now out)) × (at < 65536) ⌝ }
+    ensures { λ _. ⌜ now (out .exit) ≡ placeAt places k at (now (out .entry)) ⌝ }
+{
+    if k >= places {
+        return;
+    }
+    out[k] = at as u16;
+}
+
+// How far a projection is: the next position, and how many are taken.
+struct Reached {
+    at: usize,
+    taken: usize,
+}
+
+// The method at the next position: where its name is still asked for, it takes it. Answers how many are taken.
+fn take_method(n: usize, w: Reached, left: &mut [usize], places: usize, out: &mut [u16]) -> usize
+    requires { ⌜ Room places 1 (record { at = w .at; taken = w .taken; left = now left; out = now out }) × (n < 1024) ⌝ }
+    ensures { λ r. ⌜ MethodTaken places n (record { at = w .at; taken = w .taken; left = now (left .entry); out = now (out .entry) })
+        (now (left .exit)) (now (out .exit)) r ⌝ }
+{
+    let k = w.taken;
+    let often = left[n];
+    if often == 0 {
+        return k;
+    }
+    left[n] = often - 1;
+    place(out, places, k, w.at);
+    k + 1
+}
+
+// The methods from node `from` up to node `until`.
+fn take_methods(
+    rows: &[u8],
+    from: usize,
+    until: usize,
+    w: Reached,
+    left: &mut [usize],
+    places: usize,
+    out: &mut [u16],
+) -> Reached
+    requires { ⌜ ((roots ends : List ℕ) × Methods (now rows) roots ends from until)
+        × Room places (until - from) (record { at = w .at; taken = w .taken; left = now left; out = now out }) ⌝ }
+    ensures { λ r. ⌜ MethodsTaken places (until - from) (siblings (now (rows .entry)) from until)
+        (record { at = w .at; taken = w .taken; left = now (left .entry); out = now (out .entry) })
+        (record { at = r .at; taken = r .taken; left = now (left .exit); out = now (out .exit) }) ⌝ }
+{
+    let mut at = w.at;
+    let mut taken = w.taken;
+    let mut i = from;
+    while i < until {
+        let t = Node::at(rows, i);
+        taken = take_method(t.label as usize, Reached { at, taken }, left, places, out);
+        at += 1;
+        i += t.size;
+    }
+    Reached { at, taken }
+}
+
+// All methods of the first `count` services: what is left of the asked names, how many positions are taken, and those written that have
+// one of the first `places` places. With no places it only counts.
+pub fn project_methods(
+    rows: &[u8],
+    services: &[u16],
+    count: usize,
+    left: &mut [usize],
+    places: usize,
+    out: &mut [u16],
+) -> usize
+    requires { ⌜ Services (now rows) (now services) count × (length (now left) ≡ 1024) × (places ≤ length (now out)) ⌝ }
+    ensures { λ r. ⌜ AllProjected places (methodsIn (now (rows .entry)) (take count (now (services .entry))))
+        (now (left .entry)) (now (out .entry)) (now (left .exit)) (now (out .exit)) r ⌝ }
+{
+    let mut w = Reached { at: 0, taken: 0 };
+    let mut k = 0;
+    while k < count {
+        let s = services[k] as usize;
+        let t = Node::at(rows, s);
+        w = take_methods(rows, s + 1, s + t.size, w, left, places, out);
+        k += 1;
+    }
+    w.taken
+}
+
+// What the question answers: a refusal, or how many positions stand at the front of the lent list.
+pub struct Projected {
+    pub verdict: Verdict,
+    pub taken: usize,
+}
+
+// The positions of the methods of the first `count` services that take the asked names. 15: the lowest name left over; 16: the lent list is
+// too short. A refusal leaves the lent list as it is: positions are counted before they are written.
+pub fn project(
+    rows: &[u8],
+    services: &[u16],
+    count: usize,
+    list: &[u16],
+    out: &mut [u16],
+) -> Projected
+    requires { ⌜ Services (now rows) (now services) count ⌝ }
+    ensures { λ r. ⌜ ProjectAs (projection (length (now (out .entry))) (methodsIn (now (rows .entry)) (take count (now (services .entry)))) (now (list .entry)))
+        (now (out .entry)) (now (out .exit)) r ⌝ }
+{
+    let a = count_asked(list);
+    let mut left = a.left;
+    let taken = project_methods(rows, services, count, &mut left, 0, out);
+    let absent = lowest_left(&left, a.far);
+    if absent != Asked::NONE {
+        return Projected {
+            verdict: Verdict::Refused(Refusal::Absent(absent as u16)),
+            taken: 0,
+        };
+    }
+    let places = out.len();
+    if places < taken {
+        return Projected {
+            verdict: Verdict::Refused(Refusal::Short(taken as u32)),
+            taken: 0,
+        };
+    }
+    let mut again = a.left;
+    let written = project_methods(rows, services, count, &mut again, places, out);
+    Projected {
+        verdict: Verdict::Passed,
+        taken: written,
+    }
+}
+
+// The positions of an actor's methods.
+pub fn project_actor(
+    rows: &[u8],
+    ends: &[u16],
+    actor: Actor,
+    list: &[u16],
+    out: &mut [u16],
+) -> Projected
+    requires { ⌜ ((names count : ℕ) × (ds : List Definition) × Offering (now rows) (now ends) actor names count ds) ⌝ }
+    ensures { λ r. ⌜ ((names count : ℕ) (ds : List Definition) → Offering (now (rows .entry)) (now (ends .entry)) actor names count ds →
+        ProjectAs (projection (length (now (out .entry))) (methodsAt (aliasEnd ds (belowClass (actorTree (now (rows .entry)) actor)))) (now (list .entry)))
+        (now (out .entry)) (now (out .exit)) r) ⌝ }
+{
+    let i = crate::interface::interface_of(rows, ends, actor);
+    let services = i.services;
+    project(rows, &services, i.count, list, out)
+}

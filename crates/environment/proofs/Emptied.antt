@@ -1,0 +1,366 @@
+-- The walk of `replace_empty` over stored nodes, with its marks as bytes. Assumes nothing.
+--     visit-none, visit-empty, visit-circle, visit-other, visit-missing, visit-type    the visit of a name, by its mark and its root
+--     head-not, head-named, only-head, FieldsLeft, fields-start, ..                    the type at its root
+--     key-missing, key-visited, KeysLeft, keys-start, ..                               all names
+use mathlib.Core.Path.{_≡_, refl, sym, ap, ap₂, _∙_}
+use mathlib.Core.Bool.{Bool, true, false, cond, true≢false}
+use mathlib.Core.List.{List, [], _∷_, map}
+use Prim.Native.Nat.{ℕ, zero, suc, _+_, _-_, _≤_, _<_}
+use native.Mathlib.Nat.{sub-zero}
+use native.Mathlib.Numerals.{add-one, sub-one}
+use native.Mathlib.Decide.{ℕ-discrete}
+use native.Mathlib.Omega.{arith}
+use borrow.Author.Tests.{ne-eqb}
+use lib.Dec.{eqb}
+use lib.ListN.{length, getD, set, take, drop, replicate, length-replicate, List·getD-map}
+use lib.Seq.{set-set, take-set-lt, getD-take, drop-cons}
+use Rattle.format.specs.Forest.{Forest, tree}
+use Rattle.format.specs.Node.{Kind, PrimT, VarT, OptT, VecT, RecordT, VariantT, FuncT, ServT, ClassT, InitT, Node}
+use Rattle.format.specs.Book.{Definition}
+use Rattle.format.specs.Encode.{Row}
+use Rattle.format.specs.Layout.{rowAt, kinds, kindOf, nodeOf, siblings}
+use Rattle.format.specs.Whole.{Within, Whole, WholeAt, treeAt}
+use Rattle.format.proofs.References.{kind-alone}
+use Rattle.format.proofs.Rows.{opens, kids-whole, node-within, siblings-none, siblings-opens}
+use Rattle.format.proofs.Stored.{tree-opens}
+use Rattle.judgement.specs.Environment.{Found, missing, body, findType, isMissing, Head, named, other, headKind, head}
+use Rattle.judgement.specs.Empty.{Mark, unvisited, visiting, answered, Visit, visitField, visitFields, visitType, visitFound, store, visitMarked, isEmpty, keysFrom, visitAll, isEmptyMark, emptyFrom, replaceEmpty}
+use Rattle.environment.specs.Tables.{foundAt, Binds}
+use Rattle.environment.specs.Flags.{noFlags, flagged}
+use Rattle.environment.specs.Emptying.{Environment, TypeIn, markOf, answerByte, marksOf, Visited, visitHead, visitKey, EmptiedAs}
+use Rattle.environment.proofs.Links.{head-var, head-other, found-none, found-some}
+
+-- ---- marks and their bytes
+map-set : {A B : Type 0} (f : A → B) (l : List A) (i : ℕ) (a : A) → map f (set l i a) ≡ set (map f l) i (f a)
+map-set f [] i a = refl
+map-set f (x ∷ l) zero a = refl
+map-set {A} {B} f (x ∷ l) (suc i) a = ap (λ (r : List B). f x ∷ r) (map-set f l i a)
+
+module _ (names n : ℕ) (h : n < names) (bytes : List ℕ) where
+  mark-at : getD (marksOf names bytes) n unvisited ≡ markOf (getD bytes n 0)
+  unfolding marksOf markOf
+  mark-at = List·getD-map markOf (take names bytes) n 0 ∙ ap markOf (getD-take names bytes n 0 h)
+
+  mark-set : (b : ℕ) → marksOf names (set bytes n b) ≡ set (marksOf names bytes) n (markOf b)
+  unfolding marksOf
+  mark-set b = ap (map markOf) (take-set-lt names bytes n b h) ∙ map-set markOf (take names bytes) n b
+
+mark-other : (b : ℕ) → (b ≡ 0 → ⊥) → (b ≡ 1 → ⊥) → (b ≡ 2 → ⊥) → markOf b ≡ answered false
+unfolding markOf
+mark-other b i j k = rw (ne-eqb b 0 i, ne-eqb b 1 j, ne-eqb b 2 k)
+
+mark-answer : (e : Bool) → markOf (answerByte e) ≡ answered e
+unfolding markOf answerByte
+mark-answer true = refl
+mark-answer false = refl
+
+-- ---- one visit
+deeper : (ds : List Definition) (depth n : ℕ) → (depth ≡ 0 → ⊥) → (marks : List Mark) →
+    isEmpty ds depth n marks ≡ visitMarked (isEmpty ds (depth - 1)) n (findType ds n) (getD marks n unvisited) marks
+unfolding isEmpty
+deeper ds zero n h marks = absurd (h refl)
+deeper ds (suc k) n h marks = rw (sub-one (suc k))
+
+module _ (ns roots : List ℕ) (names depth n : ℕ) (bytes : List ℕ) where
+  pub visit-none : depth ≡ 0 → Visited ns roots names (λ ds. isEmpty ds depth n) bytes false bytes
+  unfolding isEmpty
+  visit-none z = record { is = λ ds b. rw z }
+
+  module _ (deep : depth ≡ 0 → ⊥) (h : n < names) where
+    -- by the name's mark
+    by-mark : (m : Mark) → markOf (getD bytes n 0) ≡ m → (ds : List Definition) →
+        isEmpty ds depth n (marksOf names bytes) ≡ visitMarked (isEmpty ds (depth - 1)) n (findType ds n) m (marksOf names bytes)
+    by-mark m e ds =
+        deeper ds depth n deep (marksOf names bytes)
+        ∙ ap (λ (q : Mark). visitMarked (isEmpty ds (depth - 1)) n (findType ds n) q (marksOf names bytes)) (mark-at names n h bytes ∙ e)
+
+    pub visit-empty : getD bytes n 0 ≡ 1 → Visited ns roots names (λ ds. isEmpty ds depth n) bytes true bytes
+    unfolding visitMarked markOf
+    visit-empty e = record { is = λ ds b. sym (by-mark (answered true) (ap markOf e) ds) }
+
+    pub visit-circle : getD bytes n 0 ≡ 2 → Visited ns roots names (λ ds. isEmpty ds depth n) bytes true (set bytes n 1)
+    unfolding visitMarked store markOf
+    visit-circle e =
+        record { is = λ ds b. ap (λ (ms : List Mark). record { empty = true; marks = ms }) (mark-set names n h bytes 1) ∙ sym (by-mark visiting (ap markOf e) ds) }
+
+    pub visit-other : (getD bytes n 0 ≡ 0 → ⊥) → (getD bytes n 0 ≡ 1 → ⊥) → (getD bytes n 0 ≡ 2 → ⊥) → Visited ns roots names (λ ds. isEmpty ds depth n) bytes false bytes
+    unfolding visitMarked
+    visit-other i j k = record { is = λ ds b. sym (by-mark (answered false) (mark-other (getD bytes n 0) i j k) ds) }
+
+    module _ (new : getD bytes n 0 ≡ 0) where
+      -- a name that is visited, by what the table has for it
+      by-root : (f : Found) → foundAt ns (getD roots n 65535) ≡ f → (ds : List Definition) → Binds ns roots ds →
+          isEmpty ds depth n (marksOf names bytes) ≡ store n (visitFound (isEmpty ds (depth - 1)) f (marksOf names (set bytes n 2)))
+      unfolding visitMarked markOf
+      by-root f e ds b =
+          by-mark unvisited (ap markOf new) ds
+          ∙ ap₂ (λ (q : Found) (ms : List Mark). store n (visitFound (isEmpty ds (depth - 1)) q ms)) (b n ∙ e) (sym (mark-set names n h bytes 2))
+
+      pub visit-missing : getD roots n 65535 ≡ 65535 → Visited ns roots names (λ ds. isEmpty ds depth n) bytes false (set bytes n 3)
+      unfolding visitFound store markOf
+      visit-missing e =
+          record {
+            is = λ ds b.
+                ap (λ (ms : List Mark). record { empty = false; marks = ms })
+                (ap (marksOf names) (sym (set-set bytes n 2 3)) ∙ mark-set names n h (set bytes n 2) 3)
+                ∙ sym (by-root missing (found-none ns (getD roots n 65535) e) ds b);
+          }
+
+      pub visit-type : (root : ℕ) → root ≡ getD roots n 65535 → (root ≡ 65535 → ⊥) → (e : Bool) (after : List ℕ) →
+          Visited ns roots names (λ ds. visitFound (isEmpty ds (depth - 1)) (body (treeAt ns root))) (set bytes n 2) e after →
+          (byte : ℕ) → byte ≡ answerByte e → Visited ns roots names (λ ds. isEmpty ds depth n) bytes e (set after n byte)
+      unfolding store
+      visit-type root at some e after v byte is =
+          record {
+            is = λ ds b.
+                ap (λ (ms : List Mark). record { empty = e; marks = ms })
+                (mark-set names n h after byte ∙ ap (set (marksOf names after) n) (ap markOf is ∙ mark-answer e))
+                ∙ ap (store n) (v .is ds b)
+                ∙ sym (by-root (body (treeAt ns root)) (ap (foundAt ns) (sym at) ∙ found-some ns root some) ds b);
+          }
+
+-- ---- the type at a node: of a type that is no record, the head
+abbrev isRecord : Kind → Bool
+isRecord (PrimT p) = false
+isRecord (VarT m) = false
+isRecord OptT = false
+isRecord VecT = false
+isRecord RecordT = true
+isRecord VariantT = false
+isRecord (FuncT a ms) = false
+isRecord ServT = false
+isRecord ClassT = false
+isRecord InitT = false
+
+record-kind : (k v : ℕ) → isRecord (kindOf k v) ≡ cond (eqb k 21) true false
+unfolding kinds
+record-kind k v = kind-alone isRecord false true 21 v (omega arith) refl refl k
+
+module _ (visit : ℕ → List Mark → Visit) where
+  kind-head : (κ : Kind) (kids : Forest Node) (marks : List Mark) → isRecord κ ≡ false → visitType visit κ kids marks ≡ visitHead visit (headKind κ) marks
+  unfolding visitType visitHead headKind
+  kind-head (PrimT p) kids marks e = refl
+  kind-head (VarT m) kids marks e = refl
+  kind-head OptT kids marks e = refl
+  kind-head VecT kids marks e = refl
+  kind-head RecordT kids marks e = absurd (true≢false e)
+  kind-head VariantT kids marks e = refl
+  kind-head (FuncT a ms) kids marks e = refl
+  kind-head ServT kids marks e = refl
+  kind-head ClassT kids marks e = refl
+  kind-head InitT kids marks e = refl
+
+  -- a field ends the walk just where its head does
+  field-head : (h : Head) (rest : List Mark → Visit) (marks : List Mark) →
+      visitField visit h rest marks ≡ (let v = visitHead visit h marks in cond (v .empty) v (rest (v .marks)))
+  unfolding visitField visitHead
+  field-head other rest marks = refl
+  field-head (named m) rest marks = refl
+
+module _ {ns : List ℕ} {node : ℕ} (w : WholeAt ns node) where
+  head-at : head (treeAt ns node) ≡ headKind (nodeOf (rowAt ns node) .kind)
+  unfolding head
+  head-at = ap head (tree-opens w)
+
+  type-at : (visit : ℕ → List Mark → Visit) (marks : List Mark) →
+      visitFound visit (body (treeAt ns node)) marks ≡ visitType visit (nodeOf (rowAt ns node) .kind) (siblings ns (node + 1) (node + rowAt ns node .size)) marks
+  unfolding visitFound
+  type-at visit marks = ap (λ (t : Forest Node). visitFound visit (body t) marks) (tree-opens w)
+
+module _ {ns roots : List ℕ} {names node : ℕ} (x : TypeIn ns roots names node) where
+  whole-here : WholeAt ns node
+  whole-here = x .env .nodes .tree node (x .inside) .whole
+
+  pub type-within : Within ns (node + 1)
+  type-within = node-within whole-here
+
+  module _ (r : Row) (is : r ≡ rowAt ns node) where
+    pub type-size : (1 ≤ r .size) × (node + r .size ≤ x .env .count)
+    type-size = rw is (whole-here .one, x .env .nodes .tree node (x .inside) .ends)
+
+    pub named-small : r .kind ≡ 18 → r .value < names
+    named-small k = rw is (x .env .nodes .row node (x .inside) .name (ap (λ (q : Row). q .kind) (sym is) ∙ k))
+
+    module _ (depth : ℕ) (before : List ℕ) where
+      -- a type that is no name
+      pub head-not : (r .kind ≡ 18 → ⊥) → Visited ns roots names (λ ds. visitHead (isEmpty ds depth) (head (treeAt ns node))) before false before
+      unfolding visitHead
+      head-not k = record { is = λ ds b. sym (ap (λ (h : Head). visitHead (isEmpty ds depth) h (marksOf names before)) (head-other whole-here r is k)) }
+
+      pub head-named : r .kind ≡ 18 → {e : Bool} {after : List ℕ} → Visited ns roots names (λ ds. isEmpty ds depth (r .value)) before e after →
+          Visited ns roots names (λ ds. visitHead (isEmpty ds depth) (head (treeAt ns node))) before e after
+      unfolding visitHead
+      head-named k v =
+          record { is = λ ds b. v .is ds b ∙ sym (ap (λ (h : Head). visitHead (isEmpty ds depth) h (marksOf names before)) (head-var whole-here r is k)) }
+
+      -- a type that is no record
+      pub only-head : (r .kind ≡ 21 → ⊥) → {e : Bool} {after : List ℕ} → Visited ns roots names (λ ds. visitHead (isEmpty ds depth) (head (treeAt ns node))) before e after →
+          Visited ns roots names (λ ds. visitFound (isEmpty ds depth) (body (treeAt ns node))) before e after
+      unfolding nodeOf
+      only-head k v =
+          let no : isRecord (nodeOf (rowAt ns node) .kind) ≡ false = rw (← is, record-kind (r .kind) (r .value), ne-eqb (r .kind) 21 k) in
+          record {
+            is = λ ds b.
+                v .is ds b
+                ∙ ap (λ (h : Head). visitHead (isEmpty ds depth) h (marksOf names before)) (head-at whole-here)
+                ∙ sym (type-at whole-here (isEmpty ds depth) (marksOf names before) ∙ kind-head (isEmpty ds depth) (nodeOf (rowAt ns node) .kind) _ (marksOf names before) no);
+          }
+
+-- ---- the fields of a record, from node i up to node `until`: what is left of the walk answers as all of it does
+pub record FieldsLeft (ns roots : List ℕ) (names depth node : ℕ) (before : List ℕ) (until i : ℕ) (bytes : List ℕ) : Type 0 where
+  pub env : Environment ns roots names
+  pub inside : until ≤ env .count
+  pub whole : Whole ns i until
+  pub long : length bytes ≡ 1024
+  pub rest : (ds : List Definition) → Binds ns roots ds →
+      visitFields (isEmpty ds depth) (siblings ns i until) (marksOf names bytes) ≡ visitFound (isEmpty ds depth) (body (treeAt ns node)) (marksOf names before)
+
+pub fields-start : {ns roots : List ℕ} {names node : ℕ} (x : TypeIn ns roots names node) (r : Row) → r ≡ rowAt ns node → r .kind ≡ 21 → (depth : ℕ) (before : List ℕ) → length before ≡ 1024 →
+    FieldsLeft ns roots names depth node before (node + r .size) (node + 1) before
+unfolding visitType nodeOf kindOf kinds
+fields-start {ns} {roots} {names} {node} x r is k depth before l =
+    let w = whole-here x in
+    let one : nodeOf (rowAt ns node) .kind ≡ RecordT = rw (← is, k) in
+    record {
+      env = x .env;
+      inside = type-size x r is .1;
+      whole = rw is (kids-whole w);
+      long = l;
+      rest = λ ds b.
+          rw is
+          (sym (type-at w (isEmpty ds depth) (marksOf names before) ∙ ap (λ (κ : Kind). visitType (isEmpty ds depth) κ (siblings ns (node + 1) (node + rowAt ns node .size)) (marksOf names before)) one));
+    }
+
+module _ {ns roots : List ℕ} {names depth node : ℕ} {before : List ℕ} {until i : ℕ} {bytes : List ℕ} (l : FieldsLeft ns roots names depth node before until i bytes) where
+  pub fields-end : until ≤ i → Visited ns roots names (λ ds. visitFound (isEmpty ds depth) (body (treeAt ns node))) before false bytes
+  unfolding visitFields
+  fields-end h = record { is = λ ds b. sym (ap (λ (f : Forest Node). visitFields (isEmpty ds depth) f (marksOf names bytes)) (siblings-none ns i until h)) ∙ l .rest ds b }
+
+  module _ (h : i < until) where
+    pub field-in : TypeIn ns roots names i
+    field-in = record { env = l .env; inside = omega (arith, l .inside) }
+
+    pub field-size : (r : Row) → r ≡ rowAt ns i → (1 ≤ r .size) × (i + r .size ≤ until)
+    field-size r is = let o = opens (l .whole) h in rw is (o .here .one, o .rest .ordered)
+
+    -- the first field, and those after it
+    field-first : (ds : List Definition) → (e : Bool) (marks : List Mark) →
+        record { empty = e; marks = marks } ≡ visitHead (isEmpty ds depth) (head (treeAt ns i)) (marksOf names bytes) →
+        visitFields (isEmpty ds depth) (siblings ns i until) (marksOf names bytes)
+        ≡ cond e (record { empty = e; marks = marks }) (visitFields (isEmpty ds depth) (siblings ns (i + rowAt ns i .size) until) marks)
+    unfolding visitFields
+    field-first ds e marks q =
+        let o = opens (l .whole) h in
+        let next : List Mark → Visit = visitFields (isEmpty ds depth) (siblings ns (i + rowAt ns i .size) until) in
+        ap (λ (f : Forest Node). visitFields (isEmpty ds depth) f (marksOf names bytes)) (siblings-opens o)
+        ∙ field-head (isEmpty ds depth) (headKind (nodeOf (rowAt ns i) .kind)) next (marksOf names bytes)
+        ∙ ap (λ (v : Visit). cond (v .empty) v (next (v .marks)))
+        (ap (λ (k : Head). visitHead (isEmpty ds depth) k (marksOf names bytes)) (sym (head-at (o .here))) ∙ sym q)
+
+    module _ {e : Bool} {after : List ℕ} (v : Visited ns roots names (λ ds. visitHead (isEmpty ds depth) (head (treeAt ns i))) bytes e after) where
+      pub fields-stop : e ≡ true → Visited ns roots names (λ ds. visitFound (isEmpty ds depth) (body (treeAt ns node))) before true after
+      fields-stop y =
+          record {
+            is = λ ds b. sym (field-first ds true (marksOf names after) (ap (λ (q : Bool). record { empty = q; marks = marksOf names after }) (sym y) ∙ v .is ds b)) ∙ l .rest ds b;
+          }
+
+      pub fields-on : e ≡ false → length after ≡ 1024 → (r : Row) → r ≡ rowAt ns i → FieldsLeft ns roots names depth node before until (i + r .size) after
+      fields-on y long r is =
+          record {
+            env = l .env;
+            inside = l .inside;
+            whole = rw is (opens (l .whole) h .rest);
+            long = long;
+            rest = λ ds b.
+                rw is
+                (sym (field-first ds false (marksOf names after) (ap (λ (q : Bool). record { empty = q; marks = marksOf names after }) (sym y) ∙ v .is ds b)) ∙ l .rest ds b);
+          }
+
+-- ---- all names
+module _ (ns roots : List ℕ) (names n : ℕ) (before : List ℕ) (ds : List Definition) (b : Binds ns roots ds) where
+  pub key-missing : getD roots n 65535 ≡ 65535 → marksOf names before ≡ visitKey (isEmpty ds (suc names)) n (findType ds n) (marksOf names before)
+  unfolding visitKey isMissing
+  key-missing e = rw (b n ∙ found-none ns (getD roots n 65535) e)
+
+  pub key-visited : (getD roots n 65535 ≡ 65535 → ⊥) → (depth : ℕ) → depth ≡ suc names → {e : Bool} {after : List ℕ} → Visited ns roots names (λ ds′. isEmpty ds′ depth n) before e after →
+      marksOf names after ≡ visitKey (isEmpty ds (suc names)) n (findType ds n) (marksOf names before)
+  unfolding visitKey isMissing
+  key-visited some depth d v =
+      rw (b n ∙ found-some ns (getD roots n 65535) some) (ap (λ (u : Visit). u .marks) (v .is ds b) ∙ ap (λ (k : ℕ). isEmpty ds k n (marksOf names before) .marks) d)
+
+keys-cons : (visit : ℕ → List Mark → Visit) (ds : List Definition) (n names : ℕ) (marks : List Mark) → n < names →
+    visitAll visit (keysFrom ds n (names - n)) marks ≡ visitAll visit (keysFrom ds (n + 1) (names - (n + 1))) (visitKey visit n (findType ds n) marks)
+unfolding keysFrom visitAll visitKey
+keys-cons visit ds n names marks h =
+    let z : names - n ≡ suc (names - (n + 1)) = omega arith in
+    rw (z, add-one n) (go (isMissing (findType ds n)))
+  where
+    rest : List ℕ
+    rest = keysFrom ds (suc n) (names - suc n)
+
+    go : (m : Bool) → visitAll visit (cond m rest (n ∷ rest)) marks ≡ visitAll visit rest (cond m marks (visit n marks .marks))
+    go true = refl
+    go false = refl
+
+-- what is left of the walk leaves the marks that all of it does
+pub record KeysLeft (ns roots : List ℕ) (names : ℕ) (bytes : List ℕ) (n : ℕ) : Type 0 where
+  pub passed : n ≤ names
+  pub long : length bytes ≡ 1024
+  pub rest : (ds : List Definition) → Binds ns roots ds →
+      visitAll (isEmpty ds (suc names)) (keysFrom ds n (names - n)) (marksOf names bytes)
+      ≡ visitAll (isEmpty ds (suc names)) (keysFrom ds 0 names) (replicate names unvisited)
+
+no-marks : (k m : ℕ) → k ≤ m → map markOf (take k (replicate m 0)) ≡ replicate k unvisited
+unfolding markOf
+no-marks zero m h = refl
+no-marks (suc k) zero h = absurd (omega arith)
+no-marks (suc k) (suc m) h = ap (λ (l : List Mark). unvisited ∷ l) (no-marks k m (omega arith))
+
+pub keys-start : (ns roots : List ℕ) (names : ℕ) → names ≤ 1024 → KeysLeft ns roots names noFlags 0
+unfolding marksOf noFlags
+keys-start ns roots names h =
+    record {
+      passed = omega arith;
+      long = length-replicate {A = ℕ} 1024 0;
+      rest = λ ds b. rw (sub-zero names, no-marks names 1024 h);
+    }
+
+pub keys-on : {ns roots : List ℕ} {names : ℕ} {bytes : List ℕ} {n : ℕ} → KeysLeft ns roots names bytes n → n < names → {after : List ℕ} → length after ≡ 1024 →
+    ((ds : List Definition) → Binds ns roots ds → marksOf names after ≡ visitKey (isEmpty ds (suc names)) n (findType ds n) (marksOf names bytes)) →
+    KeysLeft ns roots names after (n + 1)
+keys-on {ns} {roots} {names} {bytes} {n} l h long v =
+    record {
+      passed = omega arith;
+      long = long;
+      rest = λ ds b.
+          ap (visitAll (isEmpty ds (suc names)) (keysFrom ds (n + 1) (names - (n + 1)))) (v ds b)
+          ∙ sym (keys-cons (isEmpty ds (suc names)) ds n names (marksOf names bytes) h)
+          ∙ l .rest ds b;
+    }
+
+-- ---- the bytes are flags
+empty-set : (b : ℕ) → isEmptyMark (markOf b) ≡ eqb b 1
+unfolding isEmptyMark markOf
+empty-set b = go (ℕ-discrete b 0) (ℕ-discrete b 1) (ℕ-discrete b 2)
+  where
+    go : Dec (b ≡ 0) → Dec (b ≡ 1) → Dec (b ≡ 2) → isEmptyMark (cond (eqb b 0) unvisited (cond (eqb b 1) (answered true) (cond (eqb b 2) visiting (answered false)))) ≡ eqb b 1
+    go (yes e) q r = rw e
+    go (no p) (yes e) r = rw e
+    go (no p) (no q) (yes e) = rw e
+    go (no p) (no q) (no r) = rw (ne-eqb b 0 p, ne-eqb b 1 q, ne-eqb b 2 r)
+
+flags-from : (bytes : List ℕ) (n k : ℕ) → n + k ≤ length bytes → flagged bytes n k ≡ emptyFrom n (map markOf (take k (drop n bytes)))
+unfolding flagged emptyFrom
+flags-from bytes n zero h = refl
+flags-from bytes n (suc k) h =
+    rw (drop-cons bytes n 0 (omega arith), empty-set (getD bytes n 0))
+    (ap (λ (l : List ℕ). cond (eqb (getD bytes n 0) 1) (n ∷ l) l) (flags-from bytes (suc n) k (omega arith)))
+
+pub keys-end : {ns roots : List ℕ} {names : ℕ} {bytes : List ℕ} {n : ℕ} → names ≤ 1024 → KeysLeft ns roots names bytes n → names ≤ n → EmptiedAs ns roots names bytes
+unfolding replaceEmpty keysFrom visitAll marksOf
+keys-end {ns} {roots} {names} {bytes} {n} few l h =
+    let z : names - n ≡ 0 = omega arith in
+    record {
+      long = l .long;
+      is = λ ds b. flags-from bytes 0 names (omega (arith, l .long)) ∙ ap (emptyFrom 0) (rw z at (l .rest ds b));
+    }

@@ -1,0 +1,59 @@
+-- `emptiness_passed` meets its contract. Assumes nothing.
+use native.Mathlib.Omega.{arith}
+use Rattle.format.specs.Layout.{part}
+use Rattle.typing.proofs.Opened.{bounds}
+use borrow.Author.Needs.{needs}
+use Rattle.questions.proofs.emptiness_passed.Statement.{statement}
+use Rattle.questions.proofs.emptiness_passed.Tie as tie
+use Rattle.questions.proofs.emptiness_passed.Reads as reads
+use Rattle.questions.proofs.emptiness_passed.Lts as lts
+use Rattle.analysis.proofs.hand.hand_names.Reads as hand-names-reads
+use Rattle.analysis.proofs.hand.names_of.Reads as names-of-reads
+use Rattle.environment.proofs.empty.replace_empty.Reads as replace-empty-reads
+
+sub-replace-empty : tie.Need-sub-replace-empty
+sub-replace-empty c = bounds (c .before .before .before .pre .admitted) .two
+
+part-replace-empty-start : tie.Need-part-replace-empty-start
+part-replace-empty-start c = bounds (c .before .before .before .pre .admitted) .two
+
+part-replace-empty-end : tie.Need-part-replace-empty-end
+part-replace-empty-end c = let b = bounds (c .before .before .before .pre .admitted) in omega (arith, b .three, b .four)
+
+slice-aggregate-replace-empty : tie.Need-slice-aggregate-replace-empty
+slice-aggregate-replace-empty c = search needs
+
+replace-empty-requires : tie.Need-replace-empty-requires
+unfolding part
+replace-empty-requires c κs = ?
+
+slice-aggregate-names-of : tie.Need-slice-aggregate-names-of
+slice-aggregate-names-of c = search needs
+
+names-of-requires : tie.Need-names-of-requires
+names-of-requires c κs = ?
+
+hand-names-requires : tie.Need-hand-names-requires
+hand-names-requires c κs = search needs
+
+same-length : tie.Need-same-length
+same-length c = search needs
+
+returns : tie.Need-returns
+unfolding part
+returns c = ?
+
+pub emptiness-passed-spec : {M : Type 1} → statement M
+emptiness-passed-spec =
+    tie.close
+    (tie.spec
+    sub-replace-empty
+    part-replace-empty-start
+    part-replace-empty-end
+    slice-aggregate-replace-empty
+    replace-empty-requires
+    slice-aggregate-names-of
+    names-of-requires
+    hand-names-requires
+    same-length
+    returns)

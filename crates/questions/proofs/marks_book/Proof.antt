@@ -1,0 +1,46 @@
+-- `marks_book` meets its contract. Assumes nothing.
+use mathlib.Core.Path.{_≡_, sym, _∙_}
+use Rattle.judgement.specs.Check.{check}
+use Rattle.listing.specs.Questions.{marksOver}
+use Rattle.questions.proofs.Asking.{answered-refused, check-alone}
+use borrow.Author.Needs.{needs}
+use Rattle.questions.proofs.marks_book.Statement.{statement}
+use Rattle.questions.proofs.marks_book.Tie as tie
+use Rattle.questions.proofs.marks_book.Reads as reads
+use Rattle.questions.proofs.marks_book.Lts as lts
+use Rattle.questions.proofs.marks_passed.Reads as marks-passed-reads
+use Rattle.typing.proofs.check.check_book.Reads as check-book-reads
+
+check-book-requires : tie.Need-check-book-requires
+check-book-requires c κs = search needs
+
+enum-known-v : tie.Need-enum-known-v
+enum-known-v c = search needs
+
+enum-told : tie.Need-enum-told
+enum-told c = search needs
+
+marks-passed-requires : tie.Need-marks-passed-requires
+marks-passed-requires c κs = let a = c .before .before .before .before .before .before .before .pre in record { admitted = a; checked = c .before .before .before .check-book .ensures a; passed = ? }
+
+returns : tie.Need-returns
+unfolding marksOver
+returns c = λ a. answered-refused _ (check-alone (check (a .book)) _ ?)
+
+same-length : tie.Need-same-length
+same-length c = search needs
+
+returns-2 : tie.Need-returns-2
+returns-2 c = λ a. c .before .before .marks-passed .ensures record { admitted = a; checked = c .before .before .before .before .before .before .check-book .ensures a; passed = ? }
+
+pub marks-book-spec : {M : Type 1} → statement M
+marks-book-spec =
+    tie.close
+    (tie.spec
+    check-book-requires
+    enum-known-v
+    enum-told
+    marks-passed-requires
+    returns
+    same-length
+    returns-2)
