@@ -9,12 +9,13 @@ use borrow.Author.Tests.{ne-eqb}
 use lib.Dec.{eqb}
 use lib.ListN.{length}
 use Rattle.format.specs.Book.{Definition, Book}
-use Rattle.format.specs.Layout.{rowAt, siblings, entryAt, nodesPart, definitionsPart, whole, layout}
+use Rattle.format.specs.Layout.{part, rowAt, siblings, entryAt, nodesPart, definitionsPart, whole, layout}
 use Rattle.format.specs.Rules.{noTrees}
 use Rattle.format.specs.Whole.{Within, treeAt, definitionAt, actorAt}
 use Rattle.format.proofs.Lists.{All}
 use Rattle.format.proofs.Rows.{node-within}
 use Rattle.format.proofs.Stored.{tree-opens, actor-none, actor-some}
+use Rattle.book.specs.declared.kinds.Contents.{Contents}
 use Rattle.book.specs.declared.refusal.Refusal as refusal
 use Rattle.book.specs.declared.refusal.Refusal.the-variants.{NoActor}
 use Rattle.book.specs.declared.refusal.Verdict.{Verdict}
@@ -27,15 +28,17 @@ use Rattle.environment.specs.Tables.{Entries, Roots, DefinesAs, definitionsIn}
 use Rattle.environment.proofs.Laws.{defined-length, defined-binds, defined-once}
 use Rattle.typing.specs.Actors.{Tabled}
 use Rattle.typing.specs.Checking.{PartsOf}
+use Rattle.typing.specs.Books.{Admitted}
 use Rattle.typing.proofs.Split.{all-made, definitions-parts, owners-rise, main-actor-is, few-definitions, entries-known}
 use Rattle.typing.proofs.Parts.{files-some, files-of, all-trees}
 use Rattle.typing.proofs.NodeTrees.{node-trees}
+use Rattle.typing.proofs.Opened.{parts-of, parts-book}
 use Rattle.listing.specs.Chase.{chaseTypes}
 use Rattle.listing.specs.Questions.{Outcome, refused, after, actorVerdict, walked, draftDefinitions, draftList}
 use Rattle.analysis.specs.declared.chase.Walk.{Walk}
 use Rattle.analysis.specs.Book.{Readable}
 use Rattle.analysis.specs.Walking.{Counted, WalkedAs}
-use Rattle.questions.specs.Drafts.{OwnAs}
+use Rattle.questions.specs.Drafts.{DraftOf, OwnAs}
 use Rattle.questions.proofs.Lists.{Walks}
 
 module _ (bs : List ℕ) {b : Book} (w : layout bs ≡ whole b) {k : ℕ} (s : OwnAs (definitionsPart bs) (length (b .definitions)) k) where
@@ -131,3 +134,12 @@ module _ {names rows entries files : List ℕ} {name-count nodes definitions fil
               Walks rows roots k (draftDefinitions (p .book)) (treeAt rows root) w
           draft-walks e {w} h =
               record { tables = draft-tabled; few = draft-few; comes = subst (λ (z : ℕ). WalkedAs rows roots k (siblings rows root (root + z)) w) e h }
+
+-- ---- An admitted book
+pub draft-of : {bs : List ℕ} {c : Contents} (a : Admitted bs c) →
+    DraftOf (part (c .«nodes_at») (c .«definitions_at») bs) (part (c .«definitions_at») (c .«files_at») bs) (part (c .«files_at») (length bs) bs) (c .names) (c .nodes) (c .definitions)
+draft-of {bs} {c} a = record { names = part 32 (c .«nodes_at») bs; file-count = c .files; parts = parts-of a }
+
+pub draft-same : {bs : List ℕ} {c : Contents} (a : Admitted bs c) → draft-of a .parts .book ≡ a .book
+unfolding draft-of
+draft-same a = parts-book a

@@ -115,6 +115,10 @@ module _ {bs : List ℕ} {c : Contents} (a : Admitted bs c) where
         file-count-is = files-count;
       }
 
+  pub parts-book : parts-of .book ≡ a .book
+  unfolding parts-of
+  parts-book = refl
+
   pub book-as : (r : Checked) → CheckedAs parts-of r → BookAs a r
   unfolding parts-of
   book-as r x = record { verdict = x .verdict; passed = λ e. passes (nodesPart bs) (definitionsPart bs) nodes-here definitions-here (x .passed e); refused = x .refused }

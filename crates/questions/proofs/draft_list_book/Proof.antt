@@ -1,7 +1,11 @@
 -- `draft_list_book` meets its contract. Assumes nothing.
 use native.Mathlib.Omega.{arith}
 use Rattle.format.specs.Layout.{part}
-use Rattle.typing.proofs.Opened.{bounds, parts-of}
+use mathlib.Core.Path.{_≡_, sym, ap}
+use Rattle.typing.proofs.Opened.{bounds}
+use Rattle.listing.specs.Questions.{draftList}
+use Rattle.questions.proofs.Drafting.{draft-of, draft-same}
+use Rattle.questions.proofs.Asking.{answered-as}
 use borrow.Author.Needs.{needs}
 use Rattle.questions.proofs.draft_list_book.Statement.{statement}
 use Rattle.questions.proofs.draft_list_book.Tie as tie
@@ -38,14 +42,14 @@ part-draft-parts-end-3 c = search needs
 
 draft-parts-requires : tie.Need-draft-parts-requires
 unfolding part
-draft-parts-requires c κs = record { names = _; file-count = _; parts = parts-of (c .before .before .before .before .before .before .pre) }
+draft-parts-requires c κs = draft-of (c .before .before .before .before .before .before .pre)
 
 same-length : tie.Need-same-length
 same-length c = search needs
 
 returns : tie.Need-returns
 unfolding part
-returns c = λ a. ?
+returns c = λ a. answered-as (ap draftList (sym (draft-same a))) (c .before .before .draft-parts .ensures (draft-of a))
 
 pub draft-list-book-spec : {M : Type 1} → statement M
 draft-list-book-spec =

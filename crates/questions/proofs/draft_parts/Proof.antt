@@ -6,7 +6,7 @@ use Rattle.format.specs.Encode.{Entry, Row}
 use Rattle.typing.proofs.Parts.{files-held, files-some, entries-held, all-trees}
 use Rattle.questions.proofs.Asking.{answered-refused}
 use Rattle.questions.proofs.Lists.{walk-says, walk-short}
-use Rattle.questions.proofs.Drafting.{draft-lacks, draft-root, draft-readable, draft-entries, draft-twice, draft-table, draft-walks, draft-walked}
+use Rattle.questions.proofs.Drafting.{draft-lacks, draft-within, draft-readable, draft-entries, draft-twice, draft-table, draft-counted, draft-walks, draft-walked}
 use borrow.Author.Needs.{needs}
 use Rattle.questions.proofs.draft_parts.Statement.{statement}
 use Rattle.questions.proofs.draft_parts.Tie as tie
@@ -38,25 +38,25 @@ cast-root : tie.Need-cast-root
 cast-root c = search needs
 
 at-requires-2 : tie.Need-at-requires-2
-at-requires-2 c κs = ?
+at-requires-2 c κs = draft-within (c .before .before .before .before .before .before .before .before .before .before .before .before .pre .parts) _ (ap (λ (e : Entry). e .root) (c .before .before .before .before .before .before .before .at .ensures)) (c .before .before .before .before .before .if1 .left)
 
 slice-aggregate-chase-types : tie.Need-slice-aggregate-chase-types
 slice-aggregate-chase-types c = search needs
 
 add-chase-types : tie.Need-add-chase-types
-add-chase-types c = ?
+add-chase-types c = let w = draft-readable (c .before .before .before .before .before .before .before .before .before .before .before .before .before .before .before .pre .parts) _ (ap (λ (e : Entry). e .root) (c .before .before .before .before .before .before .before .before .before .before .at .ensures)) (c .before .before .before .before .before .before .before .before .if1 .left) (draft-table (c .before .before .before .before .before .before .before .before .before .before .before .before .before .before .before .pre .parts) _ (ap (λ (e : Entry). e .root) (c .before .before .before .before .before .before .before .before .before .before .at .ensures)) (c .before .before .before .before .before .before .before .before .if1 .left) (c .before .before .before .before .before .before .before .own-definitions .ensures) (c .before .before .before .before .before .before .define .ensures) (c .before .before .before .before .before .if2 .left)) (ap (λ (q : Row). q .size) (c .before .before .at2 .ensures)) in omega (arith, w .inside, w .rooted .all .nodes .fewNodes)
 
 chase-types-requires : tie.Need-chase-types-requires
-chase-types-requires c κs = ?
+chase-types-requires c κs = let p = c .before .before .before .before .before .before .before .before .before .before .before .before .before .before .before .pre .parts in let e = ap (λ (e : Entry). e .root) (c .before .before .before .before .before .before .before .before .before .before .at .ensures) in (draft-readable p _ e (c .before .before .before .before .before .before .before .before .if1 .left) (draft-table p _ e (c .before .before .before .before .before .before .before .before .if1 .left) (c .before .before .before .before .before .before .before .own-definitions .ensures) (c .before .before .before .before .before .before .define .ensures) (c .before .before .before .before .before .if2 .left)) (ap (λ (q : Row). q .size) (c .before .before .at2 .ensures)), draft-counted p _ e (c .before .before .before .before .before .before .before .before .if1 .left) (c .before .before .before .before .before .before .before .own-definitions .ensures) (c .before .before .before .before .before .before .define .ensures) (c .before .before .before .before .before .if2 .left))
 
 hand-walk-requires : tie.Need-hand-walk-requires
-hand-walk-requires c κs = ?
+hand-walk-requires c κs = let p = c .before .before .before .before .before .before .before .before .before .before .before .before .before .before .before .before .before .pre .parts in walk-short (draft-walks p _ (ap (λ (e : Entry). e .root) (c .before .before .before .before .before .before .before .before .before .before .before .before .at .ensures)) (c .before .before .before .before .before .before .before .before .before .before .if1 .left) (c .before .before .before .before .before .before .before .before .before .own-definitions .ensures) (c .before .before .before .before .before .before .before .before .define .ensures) (c .before .before .before .before .before .before .before .if2 .left) (ap (λ (q : Row). q .size) (c .before .before .before .before .at2 .ensures)) (c .before .chase-types .ensures))
 
 same-length : tie.Need-same-length
 same-length c = search needs
 
 returns-3 : tie.Need-returns-3
-returns-3 c = ?
+returns-3 c = λ d. let p = d .parts in let e = ap (λ (e : Entry). e .root) (c .before .before .before .before .before .before .before .before .before .before .before .before .before .before .before .at .ensures) in c .before .before .hand-walk .ensures _ (walk-says (draft-walks p _ e (c .before .before .before .before .before .before .before .before .before .before .before .before .before .if1 .left) (c .before .before .before .before .before .before .before .before .before .before .before .before .own-definitions .ensures) (c .before .before .before .before .before .before .before .before .before .before .before .define .ensures) (c .before .before .before .before .before .before .before .before .before .before .if2 .left) (ap (λ (q : Row). q .size) (c .before .before .before .before .before .before .before .at2 .ensures)) (c .before .before .before .before .chase-types .ensures)) _ (draft-walked p _ e (c .before .before .before .before .before .before .before .before .before .before .before .before .before .if1 .left) (c .before .before .before .before .before .before .before .before .before .before .before .before .own-definitions .ensures) (c .before .before .before .before .before .before .before .before .before .before .before .define .ensures) (c .before .before .before .before .before .before .before .before .before .before .if2 .left)))
 
 pub draft-parts-spec : {M : Type 1} → statement M
 draft-parts-spec =

@@ -2,6 +2,9 @@
 use native.Mathlib.Omega.{arith}
 use Rattle.format.specs.Layout.{part}
 use Rattle.typing.proofs.Opened.{bounds}
+use Rattle.questions.proofs.Asking.{answered-as}
+use Rattle.questions.proofs.Passed.{passed-book}
+use Rattle.questions.proofs.Lists.{empty-ready, empty-flags, empty-given}
 use borrow.Author.Needs.{needs}
 use Rattle.questions.proofs.emptiness_passed.Statement.{statement}
 use Rattle.questions.proofs.emptiness_passed.Tie as tie
@@ -25,13 +28,14 @@ slice-aggregate-replace-empty c = search needs
 
 replace-empty-requires : tie.Need-replace-empty-requires
 unfolding part
-replace-empty-requires c κs = ?
+replace-empty-requires c κs = empty-ready (passed-book (c .before .before .before .before .before .pre))
 
 slice-aggregate-names-of : tie.Need-slice-aggregate-names-of
 slice-aggregate-names-of c = search needs
 
 names-of-requires : tie.Need-names-of-requires
-names-of-requires c κs = ?
+unfolding part
+names-of-requires c κs = empty-flags (passed-book (c .before .before .before .before .before .before .before .pre)) (c .before .replace-empty .ensures)
 
 hand-names-requires : tie.Need-hand-names-requires
 hand-names-requires c κs = search needs
@@ -41,7 +45,7 @@ same-length c = search needs
 
 returns : tie.Need-returns
 unfolding part
-returns c = ?
+returns c = λ p. answered-as (empty-given (passed-book p) (c .before .before .before .before .before .before .replace-empty .ensures) (c .before .before .before .before .names-of .ensures .0)) record { answer = c .before .before .hand-names .ensures .0; left = c .before .before .hand-names .ensures .1 }
 
 pub emptiness-passed-spec : {M : Type 1} → statement M
 emptiness-passed-spec =

@@ -21,17 +21,17 @@ enum-told : tie.Need-enum-told
 enum-told c = search needs
 
 marks-passed-requires : tie.Need-marks-passed-requires
-marks-passed-requires c κs = let a = c .before .before .before .before .before .before .before .pre in record { admitted = a; checked = c .before .before .before .check-book .ensures a; passed = ? }
+marks-passed-requires c κs = let a = c .before .before .before .before .before .before .before .pre in record { admitted = a; checked = c .before .before .before .check-book .ensures a; passed = c .before .enum-told .given .1 }
 
 returns : tie.Need-returns
 unfolding marksOver
-returns c = λ a. answered-refused _ (check-alone (check (a .book)) _ ?)
+returns c = λ a. answered-refused _ (check-alone (check (a .book)) _ (sym (c .before .before .before .check-book .ensures a .verdict) ∙ c .before .v .given .1))
 
 same-length : tie.Need-same-length
 same-length c = search needs
 
 returns-2 : tie.Need-returns-2
-returns-2 c = λ a. c .before .before .marks-passed .ensures record { admitted = a; checked = c .before .before .before .before .before .before .check-book .ensures a; passed = ? }
+returns-2 c = λ a. c .before .before .marks-passed .ensures record { admitted = a; checked = c .before .before .before .before .before .before .check-book .ensures a; passed = c .before .before .before .before .enum-told .given .1 }
 
 pub marks-book-spec : {M : Type 1} → statement M
 marks-book-spec =

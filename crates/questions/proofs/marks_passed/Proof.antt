@@ -1,7 +1,11 @@
 -- `marks_passed` meets its contract. Assumes nothing.
+use mathlib.Core.Path.{_≡_, refl}
 use native.Mathlib.Omega.{arith}
 use Rattle.format.specs.Layout.{part}
 use Rattle.typing.proofs.Opened.{bounds}
+use Rattle.questions.proofs.Asking.{answered-refused, answered-as}
+use Rattle.questions.proofs.Passed.{passed-book, rooted, tabled}
+use Rattle.questions.proofs.Lists.{marks-stop, marks-ready, marks-given}
 use borrow.Author.Needs.{needs}
 use Rattle.questions.proofs.marks_passed.Statement.{statement}
 use Rattle.questions.proofs.marks_passed.Tie as tie
@@ -25,17 +29,18 @@ slice-aggregate-infer-rec c = search needs
 
 infer-rec-requires : tie.Need-infer-rec-requires
 unfolding part
-infer-rec-requires c κs = ?
+infer-rec-requires c κs = rooted (passed-book (c .before .before .before .before .before .before .pre))
 
 returns : tie.Need-returns
 unfolding part
-returns c = ?
+returns c = λ p. let q = passed-book p in answered-refused _ (marks-stop q _ _ (c .before .infer-rec .ensures _ (tabled q .0)) (c .if1 .taken))
 
 slice-aggregate-names-of : tie.Need-slice-aggregate-names-of
 slice-aggregate-names-of c = search needs
 
 names-of-requires : tie.Need-names-of-requires
-names-of-requires c κs = ?
+unfolding part
+names-of-requires c κs = let q = passed-book (c .before .before .before .before .before .before .before .before .before .before .pre) in marks-ready q _ _ (c .before .before .before .infer-rec .ensures _ (tabled q .0)) (c .before .before .if1 .left)
 
 hand-names-requires : tie.Need-hand-names-requires
 hand-names-requires c κs = search needs
@@ -45,7 +50,7 @@ same-length c = search needs
 
 returns-2 : tie.Need-returns-2
 unfolding part
-returns-2 c = ?
+returns-2 c = λ p. let q = passed-book p in answered-as (marks-given q _ _ (c .before .before .before .before .before .before .before .before .infer-rec .ensures _ (tabled q .0)) (c .before .before .before .before .before .before .before .if1 .left) (c .before .before .before .before .names-of .ensures .0)) record { answer = c .before .before .hand-names .ensures .0; left = c .before .before .hand-names .ensures .1 }
 
 pub marks-passed-spec : {M : Type 1} → statement M
 marks-passed-spec =
