@@ -1,5 +1,5 @@
--- A list is copied into a lent one. Assumes nothing.
-use mathlib.Core.Path.{_≡_, refl, ap, _∙_}
+-- An outcome is handed over into a lent list. Assumes nothing.
+use mathlib.Core.Path.{_≡_, refl, sym, ap, _∙_}
 use mathlib.Core.List.{List, _++_, append-assoc}
 use Prim.Native.Nat.{ℕ, suc, _+_, _≤_, _<_}
 use native.Mathlib.Numerals.{add-one}
@@ -7,32 +7,29 @@ use native.Mathlib.Omega.{arith}
 use borrow.Author.Tests.{le-leb, lt-leb}
 use lib.ListN.{length, take, drop, getD, set, length-append, length-drop}
 use lib.Seq.{length-take-le, take-length, take-suc, drop-cons, set-at}
+use Rattle.book.specs.declared.refusal.Refusal.{Refusal}
 use Rattle.book.specs.declared.refusal.Refusal.the-variants.{Short}
-use Rattle.listing.specs.Questions.{refused, given, fit}
+use Rattle.listing.specs.Questions.{Outcome, refused, given, fit}
+use Rattle.analysis.specs.declared.hand.Answer.{Answer}
 use Rattle.analysis.specs.declared.hand.Answer.the-variants.{Given, Refused}
-use Rattle.analysis.specs.Handed.{answerOf, leftIn}
+use Rattle.analysis.specs.Handed.{answerOf, leftIn, HandedAs}
 
--- ---- A list that fits, and one that does not
-module _ (l old : List ℕ) where
-  fit-short : length old < length l → fit (length old) (given l) ≡ refused (Short (length l))
-  unfolding fit
-  fit-short h = rw (lt-leb (length l) (length old) h)
+-- ---- An outcome that is refused, a list that does not fit, and one that does
+handed : {o o′ : Outcome (List ℕ)} {old new : List ℕ} {r : Answer} → fit (length old) o ≡ o′ → r ≡ answerOf o′ → new ≡ leftIn o′ old → HandedAs o old new r
+handed {old = old} e a u = record { answer = a ∙ ap answerOf (sym e); left = u ∙ ap (λ (o : Outcome (List ℕ)). leftIn o old) (sym e) }
 
-  fit-long : length l ≤ length old → fit (length old) (given l) ≡ given l
-  unfolding fit
-  fit-long h = rw (le-leb (length l) (length old) h)
+pub handed-refused : {o : Outcome (List ℕ)} {old new : List ℕ} {r : Refusal} → o ≡ refused r → new ≡ old → HandedAs o old new (Refused r)
+unfolding fit answerOf leftIn
+handed-refused {old = old} e u = handed (ap (fit (length old)) e) refl u
 
-  pub answer-short : length old < length l → Refused (Short (length l)) ≡ answerOf (fit (length old) (given l))
-  unfolding answerOf
-  answer-short h = rw (fit-short h)
+module _ (l : List ℕ) {old new : List ℕ} where
+  pub handed-short : length old < length l → new ≡ old → HandedAs (given l) old new (Refused (Short (length l)))
+  unfolding fit answerOf leftIn
+  handed-short h u = handed {o′ = refused (Short (length l))} (rw (lt-leb (length l) (length old) h)) refl u
 
-  pub left-short : length old < length l → old ≡ leftIn (fit (length old) (given l)) old
-  unfolding leftIn
-  left-short h = rw (fit-short h)
-
-  pub answer-long : length l ≤ length old → Given (length l) ≡ answerOf (fit (length old) (given l))
-  unfolding answerOf
-  answer-long h = rw (fit-long h)
+  pub handed-long : length l ≤ length old → new ≡ l ++ drop (length l) old → HandedAs (given l) old new (Given (length l))
+  unfolding fit answerOf leftIn
+  handed-long h u = handed {o′ = given l} (rw (le-leb (length l) (length old) h)) refl u
 
 -- ---- The loop: the first j entries are copied, and the rest is as it was
 pub record Copied (l old out : List ℕ) (j : ℕ) : Type 0 where
@@ -64,8 +61,7 @@ module _ {l old : List ℕ} where
           );
         }
 
-    pub copied-end : length l ≤ j → out ≡ leftIn (fit (length old) (given l)) old
-    unfolding leftIn
+    pub copied-end : length l ≤ j → HandedAs (given l) old out (Given (length l))
     copied-end h =
         let e : j ≡ length l = omega arith in
-        rw (fit-long l old (k .room)) (k .same ∙ rw (e, take-length l))
+        handed-long l (k .room) (k .same ∙ rw (e, take-length l))

@@ -11,8 +11,8 @@ use mathlib.Core.List.{List, [], _∷_, _++_, append-assoc}
 use Prim.Native.Nat.{ℕ, suc, _+_, _-_, _*_, _≤_, _<_}
 use native.Mathlib.Numerals.{add-one}
 use native.Mathlib.Omega.{arith}
-use borrow.Author.Tests.{eq-eqb, ne-eqb, lt-ltb, le-ltb, lt-leb, le-leb}
-use lib.Dec.{ltb, leb}
+use borrow.Author.Tests.{eq-eqb, ne-eqb, lt-ltb, le-ltb}
+use lib.Dec.{ltb}
 use lib.ListN.{length, getD, set, take, drop, length-set, length-append, length-drop}
 use lib.Seq.{slice, slice-empty, slice-cons, drop-cons, set-at}
 use Rattle.format.specs.Forest.{Forest, end, tree, beside}
@@ -24,7 +24,6 @@ use Rattle.format.specs.Whole.{Within}
 use Rattle.format.proofs.Trees.{beside-end, beside-assoc}
 use Rattle.format.proofs.Rows.{siblings-none, siblings-opens}
 use Rattle.book.specs.declared.refusal.Refusal.the-variants.{Absent, Short}
-use Rattle.book.specs.declared.refusal.Verdict.the-variants.{Passed, Refused}
 use Rattle.judgement.specs.Environment.{aliasEnd, methodsAt}
 use Rattle.judgement.specs.Actor.{belowClass}
 use Rattle.judgement.specs.Check.{member}
@@ -35,12 +34,15 @@ use Rattle.typing.proofs.Walk.{opened, ends-inside, one-at-least, row-within, m
 use Rattle.typing.proofs.Classes.{tree-kids}
 use Rattle.typing.proofs.NodeTrees.{node-trees, node-some}
 use Rattle.listing.specs.Project.{without, Projection, take′, projectFrom}
-use Rattle.listing.specs.Questions.{refused, given, projected, fit}
-use Rattle.analysis.specs.Projecting.{Asking, outcomeOf, LowestAs, placeAt, placeAll, Way, Come, comesTo, Projects, Room, MethodTaken, MethodsTaken, Services, ProjectedAs, AllProjected, ProjectAs, projection}
+use Rattle.listing.specs.Questions.{given, projected}
+use Rattle.analysis.specs.Projecting.{Asking, outcomeOf, LowestAs, placeAt, placeAll, Way, Come, comesTo, Projects, Room, MethodTaken, MethodsTaken, Services, ProjectedAs, AllProjected}
 use Rattle.analysis.specs.declared.interface.Interface.{Interface}
-use Rattle.analysis.specs.declared.project.Projected.{Projected}
+use Rattle.analysis.specs.declared.hand.Answer.{Answer}
+use Rattle.analysis.specs.declared.hand.Answer.the-variants.{Given, Refused}
+use Rattle.analysis.specs.Handed.{HandedAs}
 use Rattle.analysis.specs.Interfaces.{InterfaceAs}
 use Rattle.analysis.proofs.Asking.{member-none, member-some, asking-shrunk, same-counts, less-counts}
+use Rattle.analysis.proofs.Handed.{handed-refused, handed-short, handed-long}
 use Rattle.analysis.proofs.Interfaces.{no-table}
 
 -- ---- Places
@@ -344,38 +346,35 @@ module _ (f : Forest Node) (l : List ℕ) {left out left′ out′ : List ℕ} {
   unfolding projected
   found-is = low .is (found .left) (first .is far l a .asking) (found .taken)
 
-  pub project-absent : (r ≡ 65536 → ⊥) → ProjectAs (projection (length out) f l) out out′ (record { verdict = Refused (Absent r); taken = 0 })
-  unfolding fit
-  project-absent h =
-      let e : projected found ≡ refused (Absent r) = found-is ∙ rw (ne-eqb r 65536 h) in
-      rw e (record { verdict = refl; taken = refl; left = untouched })
+  pub project-absent : (r ≡ 65536 → ⊥) → HandedAs (projected found) out out′ (Refused (Absent r))
+  project-absent h = handed-refused (found-is ∙ rw (ne-eqb r 65536 h)) untouched
 
   module _ (none : r ≡ 65536) where
-    found-given : projected found ≡ given (found .taken)
+    abbrev positions : List ℕ
+    positions = found .taken
+
+    counts : taken ≡ length positions
+    counts = first .is far l a .counts
+
+    found-given : projected found ≡ given positions
     found-given = found-is ∙ rw (eq-eqb r 65536 none)
 
-    pub project-short : length out′ < taken → ProjectAs (projection (length out) f l) out out′ (record { verdict = Refused (Short taken); taken = 0 })
-    unfolding fit
-    project-short h =
-        let counts = first .is far l a .counts in
-        let e : leb (length (found .taken)) (length out) ≡ false = lt-leb (length (found .taken)) (length out) (omega (arith, first .held, counts)) in
-        rw (found-given, e, ← counts) (record { verdict = refl; taken = refl; left = untouched })
+    pub project-short : length out′ < taken → HandedAs (projected found) out out′ (Refused (Short taken))
+    project-short h = rw (found-given, counts) (handed-short positions (omega (arith, first .held, counts)) untouched)
 
     pub project-given : {places written : ℕ} {left″ out″ : List ℕ} → places ≡ length out′ → taken ≤ places → AllProjected places f left out′ left″ out″ written →
-        ProjectAs (projection (length out) f l) out out″ (record { verdict = Passed; taken = written })
-    unfolding fit
+        HandedAs (projected found) out out″ (Given written)
     project-given {places} p h second =
-        let counts = first .is far l a .counts in
         let s = second .is far l a in
-        let e : leb (length (found .taken)) (length out) ≡ true = le-leb (length (found .taken)) (length out) (omega (arith, first .held, counts)) in
-        let w = s .written ∙ place-enough places (found .taken) out′ (omega (arith, counts)) (omega arith) ∙ ap (λ (q : List ℕ). found .taken ++ drop (length (found .taken)) q) untouched in
-        rw (found-given, e) (record { verdict = refl; taken = s .counts; left = w })
+        let fits : length positions ≤ length out = omega (arith, first .held, counts) in
+        let w = s .written ∙ place-enough places positions out′ (omega (arith, counts)) (omega arith) ∙ ap (λ (q : List ℕ). positions ++ drop (length positions) q) untouched in
+        rw (found-given, s .counts) (handed-long positions fits w)
 
 -- ---- For callers: the services of an interface
 pub interface-services : {ns : List ℕ} {names count : ℕ} {ds : List Definition} {t : Forest Node} {r : Interface} → AllTrees ns names count → InterfaceAs ns count ds t r → Services ns (r .services) (r .count)
 interface-services {names = names} {count = count} all i =
     record { names = names; nodes = count; all = all; few = i .few; held = omega (arith, i .few, i .held); service = i .service }
 
-pub interface-projects : {ns : List ℕ} {count : ℕ} {ds : List Definition} {t : Forest Node} {i : Interface} → InterfaceAs ns count ds t i → (l : List ℕ) {out out′ : List ℕ} {r : Projected} →
-    ProjectAs (projection (length out) (methodsIn ns (take (i .count) (i .services))) l) out out′ r → ProjectAs (projection (length out) (methodsAt (aliasEnd ds (belowClass t))) l) out out′ r
-interface-projects x l {out} {out′} {r} p = subst (λ (f : Forest Node). ProjectAs (projection (length out) f l) out out′ r) (x .methods) p
+pub interface-projects : {ns : List ℕ} {count : ℕ} {ds : List Definition} {t : Forest Node} {i : Interface} → InterfaceAs ns count ds t i → (l : List ℕ) {out out′ : List ℕ} {r : Answer} →
+    HandedAs (projected (projectFrom 0 (methodsIn ns (take (i .count) (i .services))) l)) out out′ r → HandedAs (projected (projectFrom 0 (methodsAt (aliasEnd ds (belowClass t))) l)) out out′ r
+interface-projects x l {out} {out′} {r} p = subst (λ (f : Forest Node). HandedAs (projected (projectFrom 0 f l)) out out′ r) (x .methods) p

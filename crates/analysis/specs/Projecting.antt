@@ -1,21 +1,18 @@
 -- The asked names of a projection, and the positions that are written, as the code has them. Definitions; assumes nothing.
 use mathlib.Core.Path.{_≡_}
 use mathlib.Core.Bool.{cond}
-use mathlib.Core.List.{List, [], _∷_, _++_}
+use mathlib.Core.List.{List, [], _∷_}
 use Prim.Native.Nat.{ℕ, suc, _+_, _≤_, _<_, min}
 use lib.Dec.{eqb, ltb}
-use lib.ListN.{length, getD, set, drop}
+use lib.ListN.{length, getD, set}
 use Rattle.format.specs.Forest.{Forest, end, beside}
 use Rattle.format.specs.Node.{Node}
 use Rattle.book.specs.declared.refusal.Refusal as refusal
-use Rattle.book.specs.declared.refusal.Verdict.{Verdict}
-use Rattle.book.specs.declared.refusal.Verdict.the-variants.{Passed, Refused}
 use Rattle.judgement.specs.Check.{member}
 use Rattle.typing.specs.Actors.{AllTrees, IsService}
 use Rattle.listing.specs.Offers.{times}
 use Rattle.listing.specs.Project.{without, Projection, projectFrom}
-use Rattle.listing.specs.Questions.{Outcome, refused, given, leftOver, projected, fit}
-use Rattle.analysis.specs.declared.project.Projected.{Projected}
+use Rattle.listing.specs.Questions.{Outcome, refused, given, leftOver}
 
 -- ---- The names still asked for
 
@@ -121,24 +118,3 @@ pub record AllProjected (places : ℕ) (f : Forest Node) (left out left′ out�
   pub kept : length left′ ≡ 1024
   pub held : length out′ ≡ length out
   pub is : (far : ℕ) (l : List ℕ) → Asking left far l → ProjectedAs places f far l out left′ out′ taken
-
--- ---- The question: what is answered, and what the lent list has then
-abbrev pub verdictOf : Outcome (List ℕ) → Verdict
-verdictOf (refused r) = Refused r
-verdictOf (given l) = Passed
-
-abbrev pub takenOf : Outcome (List ℕ) → ℕ
-takenOf (refused r) = 0
-takenOf (given l) = length l
-
-abbrev pub leftBy : Outcome (List ℕ) → List ℕ → List ℕ
-leftBy (refused r) old = old
-leftBy (given l) old = l ++ drop (length l) old
-
-pub record ProjectAs (o : Outcome (List ℕ)) (out out′ : List ℕ) (r : Projected) : Type 0 where
-  pub verdict : r .verdict ≡ verdictOf o
-  pub taken : r .taken ≡ takenOf o
-  pub left : out′ ≡ leftBy o out
-
-abbrev pub projection : ℕ → Forest Node → List ℕ → Outcome (List ℕ)
-projection places f l = fit places (projected (projectFrom 0 f l))

@@ -3,8 +3,8 @@ ghost use mathlib.Core.Path.{_≡_};
 ghost use Prim.Native.Nat.{_≤_, _<_};
 ghost use lib.ListN.{length, take};
 ghost use Rattle.environment.specs.Flags.{flagged};
-ghost use Rattle.listing.specs.Questions.{given, fit};
-ghost use Rattle.analysis.specs.Handed.{noNames, answerOf, leftIn};
+ghost use Rattle.listing.specs.Questions.{given};
+ghost use Rattle.analysis.specs.Handed.{noNames, HandedAs};
 use book::refusal::Refusal;
 
 // What a question answers: how many entries stand at the front of the lent list, or why there are none.
@@ -16,8 +16,7 @@ pub enum Answer {
 // Hands a list over into a lent one; 16 where that is shorter.
 pub fn hand(list: &[u16], out: &mut [u16]) -> Answer
     requires { ⌜ length (now list) < 4294967296 ⌝ }
-    ensures answer { λ r. ⌜ r ≡ answerOf (fit (length (now (out .entry))) (given (now (list .entry)))) ⌝ }
-    ensures left { λ _. ⌜ now (out .exit) ≡ leftIn (fit (length (now (out .entry))) (given (now (list .entry)))) (now (out .entry)) ⌝ }
+    ensures { λ r. ⌜ HandedAs (given (now (list .entry))) (now (out .entry)) (now (out .exit)) r ⌝ }
 {
     let n = list.len();
     if out.len() < n {
@@ -69,8 +68,7 @@ pub fn names_of(flags: &[u8], names: usize) -> Names
 // Hands names over into a lent list; 16 where that is shorter.
 pub fn hand_names(names: Names, out: &mut [u16]) -> Answer
     requires { ⌜ names .len ≤ 1024 ⌝ }
-    ensures answer { λ r. ⌜ r ≡ answerOf (fit (length (now (out .entry))) (given (take (names .len) (names .list)))) ⌝ }
-    ensures left { λ _. ⌜ now (out .exit) ≡ leftIn (fit (length (now (out .entry))) (given (take (names .len) (names .list)))) (now (out .entry)) ⌝ }
+    ensures { λ r. ⌜ HandedAs (given (take (names .len) (names .list))) (now (out .entry)) (now (out .exit)) r ⌝ }
 {
     let list = names.list;
     let n = names.len;

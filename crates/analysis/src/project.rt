@@ -11,11 +11,14 @@ ghost use Rattle.judgement.specs.Actor.{belowClass};
 ghost use Rattle.environment.specs.Flags.{noFlags};
 ghost use Rattle.typing.specs.Walk.{Methods};
 ghost use Rattle.typing.specs.Actors.{methodsIn, actorTree};
+ghost use Rattle.listing.specs.Project.{projectFrom};
+ghost use Rattle.listing.specs.Questions.{projected};
+ghost use Rattle.analysis.specs.Handed.{HandedAs};
 ghost use Rattle.analysis.specs.Interfaces.{Offering};
-ghost use Rattle.analysis.specs.Projecting.{Asking, countOne, lowerFar, LowestAs, placeAt, Room, MethodTaken, MethodsTaken, Services, AllProjected, ProjectAs, projection};
+ghost use Rattle.analysis.specs.Projecting.{Asking, countOne, lowerFar, LowestAs, placeAt, Room, MethodTaken, MethodsTaken, Services, AllProjected};
+use crate::hand::Answer;
 use book::read::Node;
 use book::refusal::Refusal;
-use book::refusal::Verdict;
 use typing::actor::Actor;
 
 // How often each of the 1,024 names is asked for.
@@ -181,23 +184,11 @@ pub fn project_methods(
     w.taken
 }
 
-// What the question answers: a refusal, or how many positions stand at the front of the lent list.
-pub struct Projected {
-    pub verdict: Verdict,
-    pub taken: usize,
-}
-
 // The positions of the methods of the first `count` services that take the asked names. 15: the lowest name left over; 16: the lent list is
 // too short. A refusal leaves the lent list as it is: positions are counted before they are written.
-pub fn project(
-    rows: &[u8],
-    services: &[u16],
-    count: usize,
-    list: &[u16],
-    out: &mut [u16],
-) -> Projected
+pub fn project(rows: &[u8], services: &[u16], count: usize, list: &[u16], out: &mut [u16]) -> Answer
     requires { ⌜ Services (now rows) (now services) count ⌝ }
-    ensures { λ r. ⌜ ProjectAs (projection (length (now (out .entry))) (methodsIn (now (rows .entry)) (take count (now (services .entry)))) (now (list .entry)))
+    ensures { λ r. ⌜ HandedAs (projected (projectFrom 0 (methodsIn (now (rows .entry)) (take count (now (services .entry)))) (now (list .entry))))
         (now (out .entry)) (now (out .exit)) r ⌝ }
 {
     let a = count_asked(list);
@@ -205,24 +196,15 @@ pub fn project(
     let taken = project_methods(rows, services, count, &mut left, 0, out);
     let absent = lowest_left(&left, a.far);
     if absent != Asked::NONE {
-        return Projected {
-            verdict: Verdict::Refused(Refusal::Absent(absent as u16)),
-            taken: 0,
-        };
+        return Answer::Refused(Refusal::Absent(absent as u16));
     }
     let places = out.len();
     if places < taken {
-        return Projected {
-            verdict: Verdict::Refused(Refusal::Short(taken as u32)),
-            taken: 0,
-        };
+        return Answer::Refused(Refusal::Short(taken as u32));
     }
     let mut again = a.left;
     let written = project_methods(rows, services, count, &mut again, places, out);
-    Projected {
-        verdict: Verdict::Passed,
-        taken: written,
-    }
+    Answer::Given(written)
 }
 
 // The positions of an actor's methods.
@@ -232,10 +214,10 @@ pub fn project_actor(
     actor: Actor,
     list: &[u16],
     out: &mut [u16],
-) -> Projected
+) -> Answer
     requires { ⌜ ((names count : ℕ) × (ds : List Definition) × Offering (now rows) (now ends) actor names count ds) ⌝ }
     ensures { λ r. ⌜ ((names count : ℕ) (ds : List Definition) → Offering (now (rows .entry)) (now (ends .entry)) actor names count ds →
-        ProjectAs (projection (length (now (out .entry))) (methodsAt (aliasEnd ds (belowClass (actorTree (now (rows .entry)) actor)))) (now (list .entry)))
+        HandedAs (projected (projectFrom 0 (methodsAt (aliasEnd ds (belowClass (actorTree (now (rows .entry)) actor)))) (now (list .entry))))
         (now (out .entry)) (now (out .exit)) r) ⌝ }
 {
     let i = crate::interface::interface_of(rows, ends, actor);

@@ -33,16 +33,17 @@ use Rattle.typing.specs.declared.actor.Actor.{Actor}
 use Rattle.typing.specs.Books.{Admitted}
 use Rattle.typing.specs.Actors.{ActorStored, actorTree, mergedOf, methodsIn}
 use Rattle.typing.proofs.Opened.{refused-is}
+use Rattle.listing.specs.Uses.{Use}
 use Rattle.listing.specs.Questions.{Outcome, refused, given, after, actorVerdict, fit, onLayout}
 use Rattle.analysis.specs.declared.hand.Answer.{Answer}
 use Rattle.analysis.specs.declared.hand.Answer.the-variants.{Refused as RefusedAnswer}
-use Rattle.analysis.specs.Handed.{answerOf, leftIn}
-use Rattle.questions.specs.Answers.{AnsweredAs}
+use Rattle.analysis.specs.Handed.{answerOf, HandedAs}
+use Rattle.analysis.proofs.Handed.{handed-refused}
+use Rattle.questions.specs.Uses.{usesIn, UsesAs}
 
 -- ---- Refusals
-pub answered-refused : {o : Outcome (List ℕ)} {r : Refusal} (old : List ℕ) → o ≡ refused r → AnsweredAs o old old (RefusedAnswer r)
-unfolding answerOf leftIn fit
-answered-refused {o} {r} old e = rw e record { answer = refl; left = refl }
+pub answered-refused : {o : Outcome (List ℕ)} {r : Refusal} (old : List ℕ) → o ≡ refused r → HandedAs o old old (RefusedAnswer r)
+answered-refused old e = handed-refused e refl
 
 -- ---- From bytes to a book
 outcome-refused : {A : Type 0} (l : Layout) (question : Book → Outcome A) {r : Refusal} → Refused r ≡ judged.onLayout (λ b. Passed) l → onLayout question l ≡ refused r
@@ -116,12 +117,25 @@ module _ {ns roots ends′ : List ℕ} {a : Actor} (s : ActorStored ns roots end
 
 -- ---- A question on bytes
 pub bytes-refused : (bs : List ℕ) (question : Book → Outcome (List ℕ)) {r : Refusal} (old : List ℕ) → RefusedBook r ≡ admission bs →
-    AnsweredAs (onLayout question (layout bs)) old old (RefusedAnswer r)
+    HandedAs (onLayout question (layout bs)) old old (RefusedAnswer r)
 bytes-refused bs question old e = answered-refused old (not-admitted bs question e)
 
 pub bytes-answered : {bs : List ℕ} {c : Contents} (a : Admitted bs c) (question : Book → Outcome (List ℕ)) {old new : List ℕ} {r : Answer} →
-    AnsweredAs (question (a .book)) old new r → AnsweredAs (onLayout question (layout bs)) old new r
-bytes-answered a question {old} {new} {r} x = subst (λ o. AnsweredAs o old new r) (on-book a question) x
+    HandedAs (question (a .book)) old new r → HandedAs (onLayout question (layout bs)) old new r
+bytes-answered a question {old} {new} {r} x = subst (λ o. HandedAs o old new r) (on-book a question) x
 
-pub answered-as : {o p : Outcome (List ℕ)} {old new : List ℕ} {r : Answer} → o ≡ p → AnsweredAs p old new r → AnsweredAs o old new r
-answered-as {old = old} {new = new} {r = r} e x = subst (λ q. AnsweredAs q old new r) (sym e) x
+pub answered-as : {o p : Outcome (List ℕ)} {old new : List ℕ} {r : Answer} → o ≡ p → HandedAs p old new r → HandedAs o old new r
+answered-as {old = old} {new = new} {r = r} e x = subst (λ q. HandedAs q old new r) (sym e) x
+
+-- ---- The question of uses on bytes
+pub uses-refused : {o : Outcome (List Use)} {r : Refusal} (old : List ℕ) → o ≡ refused r → UsesAs o old old (RefusedAnswer r)
+unfolding fit answerOf usesIn
+uses-refused old e = record { answer = rw e; left = rw e }
+
+pub uses-bytes-refused : (bs : List ℕ) (question : Book → Outcome (List Use)) {r : Refusal} (old : List ℕ) → RefusedBook r ≡ admission bs →
+    UsesAs (onLayout question (layout bs)) old old (RefusedAnswer r)
+uses-bytes-refused bs question old e = uses-refused old (not-admitted bs question e)
+
+pub uses-bytes-answered : {bs : List ℕ} {c : Contents} (a : Admitted bs c) (question : Book → Outcome (List Use)) {old new : List ℕ} {r : Answer} →
+    UsesAs (question (a .book)) old new r → UsesAs (onLayout question (layout bs)) old new r
+uses-bytes-answered a question {old} {new} {r} x = subst (λ o. UsesAs o old new r) (on-book a question) x

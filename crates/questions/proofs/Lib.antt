@@ -3,3 +3,4 @@ pub mod Asking
 pub mod Passed
 pub mod Lists
 pub mod Drafting
+pub mod Usage

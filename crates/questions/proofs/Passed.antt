@@ -15,6 +15,7 @@ use Rattle.format.specs.Node.{Node}
 use Rattle.format.specs.Book.{Definition, Book, trees}
 use Rattle.format.specs.Fits.{Fits}
 use Rattle.format.specs.Layout.{part, nodesPart, definitionsPart}
+use Rattle.format.proofs.Admitted.{nodes-long}
 use Rattle.format.proofs.Theorems.{found}
 use Rattle.book.specs.declared.kinds.Contents.{Contents}
 use Rattle.book.specs.declared.refusal.Refusal.the-variants.{NoActor}
@@ -36,6 +37,8 @@ use Rattle.typing.proofs.Parts.{all-trees}
 use Rattle.listing.specs.Questions.{Outcome, refused, after, actorVerdict}
 use Rattle.analysis.specs.Book.{Rooted}
 use Rattle.analysis.specs.Walking.{Counted, ActorIn}
+use Rattle.analysis.specs.Reaching.{Defining}
+use Rattle.analysis.proofs.ReachOwners.{admitted-defining}
 use Rattle.questions.specs.Passing.{Passing, PassedBook}
 use Rattle.questions.proofs.Asking.{actor-lacks, actor-has, tree-none, tree-merged, tree-written}
 
@@ -49,6 +52,7 @@ passing {bs} {c} a {r} x e =
       passed = sym (x .verdict) ∙ e;
       fits = found bs (a .book) .0 (a .laid) .0;
       all = all-trees (parts-of a);
+      exact = rw (nodes-here a, nodes-count a) (omega (arith, nodes-long bs (a .laid)));
       entered = rw (definitions-here a, names-count a, nodes-count a) (entries-known bs (a .laid) 0 (r .main) (omega arith) (p .within));
       few = omega (arith, p .within, few);
       names-are = names-count a;
@@ -58,6 +62,12 @@ passing {bs} {c} a {r} x e =
 pub passed-book : {bs : List ℕ} {c : Contents} {r : Checked} (p : PassedBook bs c r) →
     Passing (part (c .«nodes_at») (c .«definitions_at») bs) (part (c .«definitions_at») (c .«files_at») bs) (c .names) (c .nodes) (p .admitted .book) r
 passed-book p = passing (p .admitted) (p .checked) (p .passed)
+
+pub defining : {bs : List ℕ} {c : Contents} {r : Checked} (p : PassedBook bs c r) →
+    Defining (part (c .«nodes_at») (c .«definitions_at») bs) (part (c .«definitions_at») (c .«files_at») bs) (c .names) (c .nodes) (r .main)
+defining {bs} {r = r} p =
+    let a = p .admitted in
+    rw (nodes-here a, definitions-here a, names-count a, nodes-count a) (admitted-defining bs (a .laid) (r .main) (p .checked .passed (p .passed) .within))
 
 module _ {rows entries : List ℕ} {names nodes : ℕ} {b : Book} {r : Checked} (p : Passing rows entries names nodes b r) where
   pub tabled : Tabled rows (r .roots) (r .main) (mainDefinitions b)

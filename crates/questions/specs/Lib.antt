@@ -2,3 +2,4 @@
 pub mod Answers
 pub mod Drafts
 pub mod Passing
+pub mod Uses

@@ -1,7 +1,7 @@
 -- A book that passed the check, with what the check hands on. Definitions; assumes nothing.
 use mathlib.Core.Path.{_≡_}
 use mathlib.Core.List.{List}
-use Prim.Native.Nat.{ℕ, _≤_}
+use Prim.Native.Nat.{ℕ, _*_, _≤_}
 use lib.ListN.{length}
 use Rattle.format.specs.Forest.{count}
 use Rattle.format.specs.Book.{Book, trees}
@@ -21,6 +21,7 @@ pub record Passing (rows entries : List ℕ) (names nodes : ℕ) (b : Book) (r :
   pub passed : check b ≡ Passed
   pub fits : Fits b
   pub all : AllTrees rows names nodes
+  pub exact : length rows ≤ nodes * 12
   pub entered : Entries entries names nodes 0 (r .main)
   pub few : r .main ≤ 512
   pub names-are : names ≡ length (b .names)

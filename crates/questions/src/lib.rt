@@ -6,17 +6,23 @@ ghost use mathlib.Core.Bool.{_||_, not, false};
 ghost use mathlib.Core.List.{List};
 ghost use Prim.Native.Nat.{ℕ, _≤_};
 ghost use lib.Dec.{eqb};
+ghost use lib.ListN.{length};
 ghost use Rattle.format.specs.Layout.{layout};
 ghost use Rattle.book.specs.Reading.{EntryWithin};
 ghost use Rattle.typing.specs.Books.{Admitted};
-ghost use Rattle.listing.specs.Questions.{Outcome, list, initList, marksOver, emptiness, draftList, onLayout};
-ghost use Rattle.questions.specs.Answers.{AnsweredAs, WalkSays};
+ghost use Rattle.listing.specs.Questions.{Outcome, list, initList, marksOver, uses, project, emptiness, draftList, onLayout};
+ghost use Rattle.analysis.specs.Handed.{HandedAs};
+ghost use Rattle.analysis.specs.Entries.{Offered};
+ghost use Rattle.questions.specs.Answers.{WalkSays};
 ghost use Rattle.questions.specs.Drafts.{DraftOf, OwnAs};
 ghost use Rattle.questions.specs.Passing.{PassedBook};
+ghost use Rattle.questions.specs.Uses.{UsesAs, UsesHanded};
 use analysis::chase::Walk;
 use analysis::hand::Answer;
+use analysis::interface::Interface;
 use book::Admission;
 use book::kinds::Contents;
+use book::kinds::Limits;
 use book::read::Entry;
 use book::read::Node;
 use book::refusal::Refusal;
@@ -38,7 +44,7 @@ fn has_actor(actor: Actor) -> bool
 // Hands over what a walk has listed.
 fn hand_walk(w: Walk, out: &mut [u16]) -> Answer
     requires { ⌜ (w .stopped ≡ false → w .len ≤ 512) ⌝ }
-    ensures { λ r. ⌜ ((o : Outcome (List ℕ)) → WalkSays o w → AnsweredAs o (now (out .entry)) (now (out .exit)) r) ⌝ }
+    ensures { λ r. ⌜ ((o : Outcome (List ℕ)) → WalkSays o w → HandedAs o (now (out .entry)) (now (out .exit)) r) ⌝ }
 {
     if w.stopped {
         return Answer::Refused(Refusal::Unbound(w.bad));
@@ -52,7 +58,7 @@ fn hand_walk(w: Walk, out: &mut [u16]) -> Answer
 // Of a book that passed: `chase_actor`.
 fn list_passed(book: &[u8], c: Contents, checked: Checked, out: &mut [u16]) -> Answer
     requires { ⌜ PassedBook (now book) c checked ⌝ }
-    ensures { λ r. ⌜ ((p : PassedBook (now (book .entry)) c checked) → AnsweredAs (list (p .admitted .book)) (now (out .entry)) (now (out .exit)) r) ⌝ }
+    ensures { λ r. ⌜ ((p : PassedBook (now (book .entry)) c checked) → HandedAs (list (p .admitted .book)) (now (out .entry)) (now (out .exit)) r) ⌝ }
 {
     let actor = checked.actor;
     if !has_actor(actor) {
@@ -73,7 +79,7 @@ fn list_passed(book: &[u8], c: Contents, checked: Checked, out: &mut [u16]) -> A
 // Of an admitted book.
 pub fn list_book(book: &[u8], c: Contents, out: &mut [u16]) -> Answer
     requires { ⌜ Admitted (now book) c ⌝ }
-    ensures { λ r. ⌜ ((a : Admitted (now (book .entry)) c) → AnsweredAs (list (a .book)) (now (out .entry)) (now (out .exit)) r) ⌝ }
+    ensures { λ r. ⌜ ((a : Admitted (now (book .entry)) c) → HandedAs (list (a .book)) (now (out .entry)) (now (out .exit)) r) ⌝ }
 {
     let checked = typing::check::check_book(book, c);
     let v = checked.verdict;
@@ -85,7 +91,7 @@ pub fn list_book(book: &[u8], c: Contents, out: &mut [u16]) -> Answer
 
 // The definitions that the actor leads to, left to right, each after those first met inside it: 1 to 10, 12 to 14, 17 and 16.
 pub fn list(book: &[u8], out: &mut [u16]) -> Answer
-    ensures { λ r. ⌜ AnsweredAs (onLayout list (layout (now (book .entry)))) (now (out .entry)) (now (out .exit)) r ⌝ }
+    ensures { λ r. ⌜ HandedAs (onLayout list (layout (now (book .entry)))) (now (out .entry)) (now (out .exit)) r ⌝ }
 {
     match book::admit(book) {
         Admission::Refused(why) => Answer::Refused(why),
@@ -123,7 +129,7 @@ fn draft_parts(
 ) -> Answer
     requires { ⌜ DraftOf (now rows) (now entries) (now files) «name_count» nodes definitions ⌝ }
     ensures { λ r. ⌜ ((d : DraftOf (now (rows .entry)) (now (entries .entry)) (now (files .entry)) «name_count» nodes definitions) →
-        AnsweredAs (draftList (d .parts .book)) (now (out .entry)) (now (out .exit)) r) ⌝ }
+        HandedAs (draftList (d .parts .book)) (now (out .entry)) (now (out .exit)) r) ⌝ }
 {
     let main = Entry::at(files, 0);
     if main.root == Entry::NO_ROOT {
@@ -145,7 +151,7 @@ fn draft_parts(
 // Of an admitted book.
 pub fn draft_list_book(book: &[u8], c: Contents, out: &mut [u16]) -> Answer
     requires { ⌜ Admitted (now book) c ⌝ }
-    ensures { λ r. ⌜ ((a : Admitted (now (book .entry)) c) → AnsweredAs (draftList (a .book)) (now (out .entry)) (now (out .exit)) r) ⌝ }
+    ensures { λ r. ⌜ ((a : Admitted (now (book .entry)) c) → HandedAs (draftList (a .book)) (now (out .entry)) (now (out .exit)) r) ⌝ }
 {
     let nodes_at = c.nodes_at;
     let definitions_at = c.definitions_at;
@@ -163,7 +169,7 @@ pub fn draft_list_book(book: &[u8], c: Contents, out: &mut [u16]) -> Answer
 
 // The same list of a draft: main's own definitions and main's tree as written, unchecked: 1, 17, 2, 3 and 16.
 pub fn draft_list(book: &[u8], out: &mut [u16]) -> Answer
-    ensures { λ r. ⌜ AnsweredAs (onLayout draftList (layout (now (book .entry)))) (now (out .entry)) (now (out .exit)) r ⌝ }
+    ensures { λ r. ⌜ HandedAs (onLayout draftList (layout (now (book .entry)))) (now (out .entry)) (now (out .exit)) r ⌝ }
 {
     match book::admit(book) {
         Admission::Refused(why) => Answer::Refused(why),
@@ -176,7 +182,7 @@ pub fn draft_list(book: &[u8], out: &mut [u16]) -> Answer
 // Of an admitted book: `chase_types`.
 pub fn init_list_book(book: &[u8], c: Contents, out: &mut [u16]) -> Answer
     requires { ⌜ Admitted (now book) c ⌝ }
-    ensures { λ r. ⌜ ((a : Admitted (now (book .entry)) c) → AnsweredAs (initList (a .book)) (now (out .entry)) (now (out .exit)) r) ⌝ }
+    ensures { λ r. ⌜ ((a : Admitted (now (book .entry)) c) → HandedAs (initList (a .book)) (now (out .entry)) (now (out .exit)) r) ⌝ }
 {
     let found = typing::check::init_check_book(book, c);
     let v = found.verdict;
@@ -199,7 +205,7 @@ pub fn init_list_book(book: &[u8], c: Contents, out: &mut [u16]) -> Answer
 // The definitions that the init arguments lead to, main's and their own: the refusals of the init check, and 16. Nothing is listed where
 // there is no init file.
 pub fn init_list(book: &[u8], out: &mut [u16]) -> Answer
-    ensures { λ r. ⌜ AnsweredAs (onLayout initList (layout (now (book .entry)))) (now (out .entry)) (now (out .exit)) r ⌝ }
+    ensures { λ r. ⌜ HandedAs (onLayout initList (layout (now (book .entry)))) (now (out .entry)) (now (out .exit)) r ⌝ }
 {
     match book::admit(book) {
         Admission::Refused(why) => Answer::Refused(why),
@@ -212,7 +218,7 @@ pub fn init_list(book: &[u8], out: &mut [u16]) -> Answer
 // Of a book that passed: `infer_rec`.
 fn marks_passed(book: &[u8], c: Contents, checked: Checked, list: &[u16], out: &mut [u16]) -> Answer
     requires { ⌜ PassedBook (now book) c checked ⌝ }
-    ensures { λ r. ⌜ ((p : PassedBook (now (book .entry)) c checked) → AnsweredAs (marksOver (p .admitted .book) (now (list .entry))) (now (out .entry)) (now (out .exit)) r) ⌝ }
+    ensures { λ r. ⌜ ((p : PassedBook (now (book .entry)) c checked) → HandedAs (marksOver (p .admitted .book) (now (list .entry))) (now (out .entry)) (now (out .exit)) r) ⌝ }
 {
     let nodes_at = c.nodes_at;
     let definitions_at = c.definitions_at;
@@ -229,7 +235,7 @@ fn marks_passed(book: &[u8], c: Contents, checked: Checked, list: &[u16], out: &
 // Of an admitted book.
 pub fn marks_book(book: &[u8], c: Contents, list: &[u16], out: &mut [u16]) -> Answer
     requires { ⌜ Admitted (now book) c ⌝ }
-    ensures { λ r. ⌜ ((a : Admitted (now (book .entry)) c) → AnsweredAs (marksOver (a .book) (now (list .entry))) (now (out .entry)) (now (out .exit)) r) ⌝ }
+    ensures { λ r. ⌜ ((a : Admitted (now (book .entry)) c) → HandedAs (marksOver (a .book) (now (list .entry))) (now (out .entry)) (now (out .exit)) r) ⌝ }
 {
     let checked = typing::check::check_book(book, c);
     let v = checked.verdict;
@@ -242,11 +248,151 @@ pub fn marks_book(book: &[u8], c: Contents, list: &[u16], out: &mut [u16]) -> An
 // The names that have to be boxed where these definitions are laid out in this order, ascending: 1 to 10, 12 to 14, 3 for the first listed
 // name that has no definition, and 16. No actor is needed.
 pub fn marks(book: &[u8], list: &[u16], out: &mut [u16]) -> Answer
-    ensures { λ r. ⌜ AnsweredAs (onLayout (λ b. marksOver b (now (list .entry))) (layout (now (book .entry)))) (now (out .entry)) (now (out .exit)) r ⌝ }
+    ensures { λ r. ⌜ HandedAs (onLayout (λ b. marksOver b (now (list .entry))) (layout (now (book .entry)))) (now (out .entry)) (now (out .exit)) r ⌝ }
 {
     match book::admit(book) {
         Admission::Refused(why) => Answer::Refused(why),
         Admission::Admitted(c) => marks_book(book, c, list, out),
+    }
+}
+
+// ---- Uses
+
+// The entries of an interface: counted first, and written where there are places for all.
+fn hand_uses(rows: &[u8], ends: &[u16], near: &[u16], offer: Interface, out: &mut [u16]) -> Answer
+    requires { ⌜ Offered (now rows) (now ends) (offer .from) (offer .until) (offer .services) (offer .count) × (length (now near) ≡ 4097) ⌝ }
+    ensures { λ r. ⌜ ((x : Offered (now (rows .entry)) (now (ends .entry)) (offer .from) (offer .until) (offer .services) (offer .count)) →
+        UsesHanded (now (rows .entry)) (now (ends .entry)) (now (near .entry)) offer (x .names) (x .nodes) (now (out .entry)) (now (out .exit)) r) ⌝ }
+{
+    let services = offer.services;
+    let needed = analysis::def_use::put_uses(
+        rows,
+        ends,
+        near,
+        offer.from,
+        offer.until,
+        services,
+        offer.count,
+        0,
+        out,
+    );
+    let places = out.len() / 3;
+    if places < needed {
+        return Answer::Refused(Refusal::Short(needed as u32));
+    }
+    let written = analysis::def_use::put_uses(
+        rows,
+        ends,
+        near,
+        offer.from,
+        offer.until,
+        services,
+        offer.count,
+        places,
+        out,
+    );
+    Answer::Given(written)
+}
+
+// Of a book that passed: a row of `chase_def_use`. A number outside the table is used nowhere.
+fn uses_passed(book: &[u8], c: Contents, checked: Checked, name: u16, out: &mut [u16]) -> Answer
+    requires { ⌜ PassedBook (now book) c checked ⌝ }
+    ensures { λ r. ⌜ ((p : PassedBook (now (book .entry)) c checked) → UsesAs (uses (p .admitted .book) name) (now (out .entry)) (now (out .exit)) r) ⌝ }
+{
+    let actor = checked.actor;
+    if !has_actor(actor) {
+        return Answer::Refused(Refusal::NoActor);
+    }
+    let wanted = name as usize;
+    if Limits::NAMES <= wanted {
+        return Answer::Given(0);
+    }
+    let nodes_at = c.nodes_at;
+    let definitions_at = c.definitions_at;
+    let files_at = c.files_at;
+    let rows = &book[nodes_at..definitions_at];
+    let flags = analysis::reaching::reaching(
+        &book[definitions_at..files_at],
+        rows,
+        c.names,
+        c.nodes,
+        checked.main,
+        wanted,
+    );
+    let near = analysis::reaching::nearest(rows, c.nodes, &flags);
+    let ends = checked.ends;
+    let offer = analysis::interface::interface_of(rows, &ends, actor);
+    hand_uses(rows, &ends, &near, offer, out)
+}
+
+// Of an admitted book.
+pub fn uses_book(book: &[u8], c: Contents, name: u16, out: &mut [u16]) -> Answer
+    requires { ⌜ Admitted (now book) c ⌝ }
+    ensures { λ r. ⌜ ((a : Admitted (now (book .entry)) c) → UsesAs (uses (a .book) name) (now (out .entry)) (now (out .exit)) r) ⌝ }
+{
+    let checked = typing::check::check_book(book, c);
+    let v = checked.verdict;
+    match v {
+        Verdict::Refused(why) => Answer::Refused(why),
+        Verdict::Passed => uses_passed(book, c, checked, name, out),
+    }
+}
+
+// The arguments and results from which a name is reached, an entry of three numbers for each: a method's position, or 65,535 for an argument
+// of the actor's class; 0 for an argument and 1 for a result; an index. 1 to 10, 12 to 14, 17, and 16, which counts entries.
+pub fn uses(book: &[u8], name: u16, out: &mut [u16]) -> Answer
+    ensures { λ r. ⌜ UsesAs (onLayout (λ b. uses b name) (layout (now (book .entry)))) (now (out .entry)) (now (out .exit)) r ⌝ }
+{
+    match book::admit(book) {
+        Admission::Refused(why) => Answer::Refused(why),
+        Admission::Admitted(c) => uses_book(book, c, name, out),
+    }
+}
+
+// ---- Projection
+
+// Of a book that passed: `project_methods`.
+fn project_passed(
+    book: &[u8],
+    c: Contents,
+    checked: Checked,
+    asked: &[u16],
+    out: &mut [u16],
+) -> Answer
+    requires { ⌜ PassedBook (now book) c checked ⌝ }
+    ensures { λ r. ⌜ ((p : PassedBook (now (book .entry)) c checked) → HandedAs (project (p .admitted .book) (now (asked .entry))) (now (out .entry)) (now (out .exit)) r) ⌝ }
+{
+    let actor = checked.actor;
+    if !has_actor(actor) {
+        return Answer::Refused(Refusal::NoActor);
+    }
+    let nodes_at = c.nodes_at;
+    let definitions_at = c.definitions_at;
+    let ends = checked.ends;
+    analysis::project::project_actor(&book[nodes_at..definitions_at], &ends, actor, asked, out)
+}
+
+// Of an admitted book.
+pub fn project_book(book: &[u8], c: Contents, asked: &[u16], out: &mut [u16]) -> Answer
+    requires { ⌜ Admitted (now book) c ⌝ }
+    ensures { λ r. ⌜ ((a : Admitted (now (book .entry)) c) → HandedAs (project (a .book) (now (asked .entry))) (now (out .entry)) (now (out .exit)) r) ⌝ }
+{
+    let checked = typing::check::check_book(book, c);
+    let v = checked.verdict;
+    match v {
+        Verdict::Refused(why) => Answer::Refused(why),
+        Verdict::Passed => project_passed(book, c, checked, asked, out),
+    }
+}
+
+// The positions of the methods that take the asked names, ascending; a name that is asked twice needs two methods: 1 to 10, 12 to 14, 17, 15
+// for the lowest name left over, and 16.
+pub fn project(book: &[u8], asked: &[u16], out: &mut [u16]) -> Answer
+    ensures { λ r. ⌜ HandedAs (onLayout (λ b. project b (now (asked .entry))) (layout (now (book .entry)))) (now (out .entry)) (now (out .exit)) r ⌝ }
+{
+    match book::admit(book) {
+        Admission::Refused(why) => Answer::Refused(why),
+        Admission::Admitted(c) => project_book(book, c, asked, out),
     }
 }
 
@@ -255,7 +401,7 @@ pub fn marks(book: &[u8], list: &[u16], out: &mut [u16]) -> Answer
 // Of a book that passed: `replace_empty`.
 fn emptiness_passed(book: &[u8], c: Contents, checked: Checked, out: &mut [u16]) -> Answer
     requires { ⌜ PassedBook (now book) c checked ⌝ }
-    ensures { λ r. ⌜ ((p : PassedBook (now (book .entry)) c checked) → AnsweredAs (emptiness (p .admitted .book)) (now (out .entry)) (now (out .exit)) r) ⌝ }
+    ensures { λ r. ⌜ ((p : PassedBook (now (book .entry)) c checked) → HandedAs (emptiness (p .admitted .book)) (now (out .entry)) (now (out .exit)) r) ⌝ }
 {
     let nodes_at = c.nodes_at;
     let definitions_at = c.definitions_at;
@@ -268,7 +414,7 @@ fn emptiness_passed(book: &[u8], c: Contents, checked: Checked, out: &mut [u16])
 // Of an admitted book.
 pub fn emptiness_book(book: &[u8], c: Contents, out: &mut [u16]) -> Answer
     requires { ⌜ Admitted (now book) c ⌝ }
-    ensures { λ r. ⌜ ((a : Admitted (now (book .entry)) c) → AnsweredAs (emptiness (a .book)) (now (out .entry)) (now (out .exit)) r) ⌝ }
+    ensures { λ r. ⌜ ((a : Admitted (now (book .entry)) c) → HandedAs (emptiness (a .book)) (now (out .entry)) (now (out .exit)) r) ⌝ }
 {
     let checked = typing::check::check_book(book, c);
     let v = checked.verdict;
@@ -280,7 +426,7 @@ pub fn emptiness_book(book: &[u8], c: Contents, out: &mut [u16]) -> Answer
 
 // The names that become empty, ascending: 1 to 10, 12 to 14 and 16. No actor is needed.
 pub fn emptiness(book: &[u8], out: &mut [u16]) -> Answer
-    ensures { λ r. ⌜ AnsweredAs (onLayout emptiness (layout (now (book .entry)))) (now (out .entry)) (now (out .exit)) r ⌝ }
+    ensures { λ r. ⌜ HandedAs (onLayout emptiness (layout (now (book .entry)))) (now (out .entry)) (now (out .exit)) r ⌝ }
 {
     match book::admit(book) {
         Admission::Refused(why) => Answer::Refused(why),

@@ -45,7 +45,7 @@ same-length c = search needs
 
 returns : tie.Need-returns
 unfolding part
-returns c = λ p. answered-as (empty-given (passed-book p) (c .before .before .before .before .before .before .replace-empty .ensures) (c .before .before .before .before .names-of .ensures .0)) record { answer = c .before .before .hand-names .ensures .0; left = c .before .before .hand-names .ensures .1 }
+returns c = λ p. answered-as (empty-given (passed-book p) (c .before .before .before .before .before .before .replace-empty .ensures) (c .before .before .before .before .names-of .ensures .0)) (c .before .before .hand-names .ensures)
 
 pub emptiness-passed-spec : {M : Type 1} → statement M
 emptiness-passed-spec =

@@ -33,7 +33,7 @@ same-length : tie.Need-same-length
 same-length c = search needs
 
 returns-2 : tie.Need-returns-2
-returns-2 c = λ o x. answered-as (x .ends (c .before .before .before .before .before .before .if1 .left)) record { answer = c .before .before .hand .ensures .0; left = c .before .before .hand .ensures .1 }
+returns-2 c = λ o x. answered-as (x .ends (c .before .before .before .before .before .before .if1 .left)) (c .before .before .hand .ensures)
 
 pub hand-walk-spec : {M : Type 1} → statement M
 hand-walk-spec =

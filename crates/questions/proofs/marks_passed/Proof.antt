@@ -50,7 +50,7 @@ same-length c = search needs
 
 returns-2 : tie.Need-returns-2
 unfolding part
-returns-2 c = λ p. let q = passed-book p in answered-as (marks-given q _ _ (c .before .before .before .before .before .before .before .before .infer-rec .ensures _ (tabled q .0)) (c .before .before .before .before .before .before .before .if1 .left) (c .before .before .before .before .names-of .ensures .0)) record { answer = c .before .before .hand-names .ensures .0; left = c .before .before .hand-names .ensures .1 }
+returns-2 c = λ p. let q = passed-book p in answered-as (marks-given q _ _ (c .before .before .before .before .before .before .before .before .infer-rec .ensures _ (tabled q .0)) (c .before .before .before .before .before .before .before .if1 .left) (c .before .before .before .before .names-of .ensures .0)) (c .before .before .hand-names .ensures)
 
 pub marks-passed-spec : {M : Type 1} → statement M
 marks-passed-spec =

@@ -1,7 +1,8 @@
 -- `hand` meets its contract: the list is copied from the front. Assumes nothing.
+use mathlib.Core.Path.{refl}
 use Prim.Native.Nat.{_-_}
 use native.Mathlib.Omega.{arith}
-use Rattle.analysis.proofs.Handed.{answer-short, left-short, answer-long, Copied, copied-start, copied-length, copied-on, copied-end}
+use Rattle.analysis.proofs.Handed.{handed-short, Copied, copied-start, copied-length, copied-on, copied-end}
 use Rattle.analysis.proofs.hand.hand.Statement.{statement}
 use Rattle.analysis.proofs.hand.hand.Tie as tie
 
@@ -15,9 +16,7 @@ cast-t7 : tie.Need-cast-t7 Inv-loop μ-loop
 cast-t7 c = omega (arith, c .before .pre)
 
 returns : tie.Need-returns Inv-loop μ-loop
-returns c =
-    let a = c .before .args in
-    (answer-short (a .list .now) (a .out .now) (c .if1 .taken), left-short (a .list .now) (a .out .now) (c .if1 .taken))
+returns c = handed-short (c .before .args .list .now) (c .if1 .taken) refl
 
 loop-holds : tie.Need-loop-holds Inv-loop μ-loop
 loop-holds c = copied-start (c .if1 .left)
@@ -47,9 +46,7 @@ same-length : tie.Need-same-length Inv-loop μ-loop
 same-length c = copied-length (c .before .loop .inv)
 
 returns-2 : tie.Need-returns-2 Inv-loop μ-loop
-returns-2 c =
-    let a = c .before .before .before .args in
-    (answer-long (a .list .now) (a .out .now) (c .before .before .if1 .left), copied-end (c .before .loop .inv) (c .loop-test .left))
+returns-2 c = copied-end (c .before .loop .inv) (c .loop-test .left)
 
 pub hand-spec : {M : Type 1} → statement M
 hand-spec =

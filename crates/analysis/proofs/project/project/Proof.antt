@@ -30,8 +30,8 @@ same-length c = search needs
 returns : tie.Need-returns
 returns c = project-absent _ _ (c .before .before .before .before .before .before .before .before .before .before .count-asked .ensures .1) (c .before .before .before .before .before .before .project-methods .ensures) (c .before .lowest-left .ensures) (c .if1 .taken)
 
-cast-t23 : tie.Need-cast-t23
-cast-t23 c = search needs
+cast-t22 : tie.Need-cast-t22
+cast-t22 c = search needs
 
 same-length-2 : tie.Need-same-length-2
 same-length-2 c = search needs
@@ -63,7 +63,7 @@ project-spec =
     cast-t20
     same-length
     returns
-    cast-t23
+    cast-t22
     same-length-2
     returns-2
     slice-aggregate-project-methods-2
