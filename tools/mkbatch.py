@@ -10,9 +10,15 @@ and EXPECTED its lines, by the source's first lines and the counts in the book's
     NAME refused NUMBER "NAMED"                           // refused NUMBER NAMED: WHAT IT SHOWS
     NAME refused NUMBER -                                 // refused NUMBER -: WHAT IT SHOWS
     NAME init ..                                          // init ..: WHAT IT SHOWS
-The first two are of the layout (tests/layout), with the words of tools/layout.py for the rules that are broken; the others
-are of the check (tests/check), with document 01's number and the name that the refusal gives, a NAME of tools/mkbook.py.
-The last is of the init check: a second line of a source whose book has an init file and passes the check.
+    NAME QUESTION OUTCOME ..                              // answers: WHAT IT SHOWS
+The first two are of the layout (tests/layout), with the words of tools/layout.py for the rules that are broken; the next
+are of the check (tests/check), with document 01's number and the name that the refusal gives, a NAME of tools/mkbook.py;
+the one with init is of the init check: a second line of a source whose book has an init file and passes the check.
+The last is of the questions (tests/list): the lines of tools/answers.py. Such a source states some of them by hand,
+each in a line after the first, and they must agree:
+    // QUESTION: ENTRY ..        QUESTION is list, marks, init, draft, empty, or uses, project or twice and a TEXT
+    // QUESTION: none            an ENTRY is a TEXT, a number or METHOD.KIND.INDEX, with repeat and nest as in a source
+    // QUESTION: refused NUMBER TEXT, or - for TEXT
 """
 
 import os
@@ -20,6 +26,7 @@ import re
 import struct
 import sys
 
+import answers
 import layout
 import mkbook
 
@@ -27,6 +34,11 @@ FIRST_LINE = re.compile(r"// (?:fine|broken (?P<rules>[a-z]+(?: [a-z]+)*)): \S.*
 OUTCOME = r"(?:passes|refused (?P<number>[0-9]+) (?P<named>-|\w+|\".*?\"(?: \* [0-9]+)?)): \S.*\n"
 CHECK_LINE = re.compile("// " + OUTCOME)
 INIT_LINE = re.compile(r"//.*\n// init " + OUTCOME)
+ANSWERS_LINE = re.compile(r"// answers: \S.*\n")
+TEXT = r'"(?:[^"\\]|\\.)*"'
+QUESTION = rf"(?P<question>list|marks|init|draft|empty|(?:uses|project|twice) (?P<asked>{TEXT}))"
+STATED_LINE = re.compile(f"// {QUESTION}: " + r"(?P<outcome>\S.*)")
+REFUSED = re.compile(rf"refused (?P<number>[0-9]+) (?P<named>-|{TEXT})")
 
 
 def sources(folder):
@@ -88,6 +100,60 @@ def checked(name, text):
     return f"{name} {said(verdict(text))}\n{name} init {said(init_verdict(text))}\n"
 
 
+def is_of_questions(text):
+    """Whether a source's first line is of the questions."""
+    return bool(ANSWERS_LINE.match(text))
+
+
+def entries(text):
+    """Stated entries as they are printed."""
+    source, found = mkbook.Source(mkbook.tokens(text)), []
+    while source.peek():
+        if source.peek()[0] == '"':
+            found.append(layout.quoted(source.text()))
+        else:
+            found.append(source.next())
+            while source.take("."):
+                found[-1] += "." + source.next()
+    return found
+
+
+def stated(text):
+    """The outcomes that a source of the questions states, as they are printed."""
+    if not is_of_questions(text):
+        raise mkbook.SourceError("the first line does not say `// answers: ..`")
+    found = {}
+    for line in text.splitlines()[1:]:
+        if not line.startswith("//"):
+            break
+        match = STATED_LINE.fullmatch(line)
+        if not match:
+            raise mkbook.SourceError(f"not a question and its outcome: {line}")
+        question, said, refused = match["question"], match["outcome"], REFUSED.fullmatch(match["outcome"])
+        if match["asked"]:
+            question = f"{question.split()[0]} {layout.quoted(mkbook.name(match['asked']))}"
+        if question in found:
+            raise mkbook.SourceError(f"{question} is stated twice")
+        if refused:
+            named = "-" if refused["named"] == "-" else layout.quoted(mkbook.name(refused["named"]))
+            found[question] = f"refused {refused['number']} {named}"
+        else:
+            listed = [] if said == "none" else entries(said)
+            found[question] = " ".join([f"given {len(listed)}", *listed])
+    if not found:
+        raise mkbook.SourceError("no outcome is stated")
+    return found
+
+
+def answered(name, text, book):
+    """The lines of a source in tests/list."""
+    found = answers.outcomes(book)
+    for question, outcome in stated(text).items():
+        if found.get(question) != outcome:
+            raise mkbook.SourceError(f"{question}: {outcome} is stated, {found.get(question)} is found")
+    return "".join(f"{name} {question} {outcome}\n" for question, outcome in found.items())
+
+
 def record(name, book):
     return bytes([len(name.encode())]) + name.encode() + struct.pack("<I", len(book)) + book
 
@@ -95,6 +161,8 @@ def record(name, book):
 def expected(name, text, book):
     if is_of_check(text):
         return checked(name, text)
+    if is_of_questions(text):
+        return answered(name, text, book)
     if broken_rules(text):
         return f"{name} refused 1 -\n"
     return " ".join([name, "whole", *map(str, struct.unpack("<8I", book[:32])[1::2])]) + "\n"

@@ -4,15 +4,18 @@
     crates/show_book/stdin, stdout        P1 and its table
     crates/layout_batch/stdin, stdout     the batch of all sources in tests/layout, with a line for each
     crates/check_batch/stdin, stdout      the batch of all sources in tests/check, with a line for each
+    crates/answer_batch/stdin, stdout     the batch of all sources in tests/list, with the outcome of every question
+    crates/list/stdin, stdout             P1 and its list
 
 Books come from the sources by tools/mkbook.py. What the programs must write comes from the sources' first lines and
-from tools/layout.py, which reads the bytes by the paper alone, and never from the programs. With --check nothing is
-written: the files that are not current are named, and the exit status is 1 if there are any.
+from tools/layout.py and tools/answers.py, which read the bytes by the paper alone, and never from the programs. With
+--check nothing is written: the files that are not current are named, and the exit status is 1 if there are any.
 """
 
 import os
 import sys
 
+import answers
 import layout
 import mkbatch
 import mkbook
@@ -20,6 +23,7 @@ import mkbook
 ROOT = os.path.join(os.path.dirname(os.path.abspath(__file__)), "..")
 SOURCES = os.path.join(ROOT, "tests", "layout")
 CHECK_SOURCES = os.path.join(ROOT, "tests", "check")
+LIST_SOURCES = os.path.join(ROOT, "tests", "list")
 
 
 def table(book):
@@ -60,12 +64,23 @@ def check_batch():
     return records, lines
 
 
+def answer_batch():
+    """The records and lines of all sources of the questions."""
+    records, lines = b"", ""
+    for name, text in mkbatch.sources(LIST_SOURCES):
+        book = mkbook.book(text)
+        records += mkbatch.record(name, book)
+        lines += mkbatch.answered(name, text, book)
+    return records, lines
+
+
 def files():
     """Each file with its contents."""
     with open(os.path.join(SOURCES, "p01.did"), encoding="utf-8") as file:
         p1 = mkbook.book(file.read())
     records, lines = batch()
     check_records, check_lines = check_batch()
+    answer_records, answer_lines = answer_batch()
     return {
         "crates/show_book/stdin": bytes(p1),
         "crates/show_book/stdout": table(p1).encode(),
@@ -73,6 +88,10 @@ def files():
         "crates/layout_batch/stdout": lines.encode(),
         "crates/check_batch/stdin": check_records,
         "crates/check_batch/stdout": check_lines.encode(),
+        "crates/answer_batch/stdin": answer_records,
+        "crates/answer_batch/stdout": answer_lines.encode(),
+        "crates/list/stdin": bytes(p1),
+        "crates/list/stdout": answers.listing(p1).encode(),
     }
 
 

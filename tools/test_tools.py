@@ -1,5 +1,5 @@
 #!/usr/bin/env python3
-"""Tests the tools and the sources in tests/layout and tests/check:  python3 tools/test_tools.py"""
+"""Tests the tools and the sources in tests/layout, tests/check and tests/list:  python3 tools/test_tools.py"""
 
 import os
 import struct
@@ -8,6 +8,7 @@ import sys
 import tempfile
 import unittest
 
+import answers
 import antt_bytes
 import layout
 import mkbatch
@@ -23,6 +24,9 @@ BROKEN = [name for name in SOURCES if name not in FINE]
 CHECK_FOLDER = os.path.join(HERE, "..", "tests", "check")
 CHECK_SOURCES = dict(mkbatch.sources(CHECK_FOLDER))
 CHECK_BOOKS = {name: mkbook.book(text) for name, text in CHECK_SOURCES.items()}
+LIST_FOLDER = os.path.join(HERE, "..", "tests", "list")
+LIST_SOURCES = dict(mkbatch.sources(LIST_FOLDER))
+LIST_BOOKS = {name: mkbook.book(text) for name, text in LIST_SOURCES.items()}
 NAMED = {2, 3, 7, 9, 12, 13, 14}  # the check's refusals that name something
 NAMELESS = {4, 5, 6, 8, 10}
 
@@ -218,6 +222,185 @@ class CheckSources(unittest.TestCase):
         self.assertEqual(mkbatch.checked("a", '// refused 3 "\\"\\ff": x\n'), 'a refused 3 "\\22\\ff"\na init refused 3 "\\22\\ff"\n')
 
 
+def asked(question, book, *lent):
+    """An outcome: the entries, or a refusal's number and name number."""
+    try:
+        return question(book, *lent)
+    except answers.Refused as refusal:
+        return refusal.number, refusal.name
+
+
+class Answers(unittest.TestCase):
+    """The second reading of the check and the questions."""
+
+    def test_check(self):
+        """Its check and init check say what the sources in tests/check say of themselves."""
+        for name, text in CHECK_SOURCES.items():
+            book = answers.Book(CHECK_BOOKS[name])
+
+            def verdict(question):
+                try:
+                    question(book)
+                    return None, None
+                except answers.Refused as refusal:
+                    return refusal.number, None if refusal.name is None else book.names[refusal.name]
+
+            self.assertEqual(verdict(answers.check), mkbatch.verdict(text), name)
+            self.assertEqual(verdict(answers.init_check), mkbatch.init_verdict(text), name)
+
+    def test_p1(self):
+        self.assertEqual(answers.listing(BOOKS["p01"]), 'list 2 marked 1\n1 - "pair"\n2 r "tree"\n')
+        self.assertEqual(answers.listing(BOOKS["p03"]), 'refused 7 "a"\n')
+        self.assertEqual(answers.listing(BOOKS["p04"]), "refused 17 -\n")
+        self.assertEqual(answers.listing(BOOKS["p01"][:31]), "refused 1 -\n")
+
+    def test_marks_over_any_list(self):
+        """A name is marked exactly if a place of the list has it in its body and no place before lists it."""
+        book = answers.Book(BOOKS["p01"])
+        pair, spare, tree = (book.names.index(name) for name in (b"pair", b"spare", b"tree"))
+        for lent, marked in {
+            (): [], (pair, tree): [tree], (tree, pair): [pair], (pair,): [tree], (tree,): [pair], (spare,): [],
+            (pair, pair): [tree], (tree, pair, tree): [pair], (spare, pair, tree, spare): [tree],
+        }.items():
+            self.assertEqual(answers.marks(book, lent), marked, lent)
+        put, outside = book.names.index(b"put"), len(book.names)
+        self.assertEqual(asked(answers.marks, book, [pair, put, outside]), (3, put))
+        self.assertEqual(asked(answers.marks, book, [outside, put]), (3, outside))
+        self.assertEqual(asked(answers.marks, book, [65535]), (3, 65535))
+        self.assertEqual(asked(answers.marks, answers.Book(BOOKS["p03"]), [65535]), (7, 1))
+
+    def test_projection_of_any_list(self):
+        book = answers.Book(LIST_BOOKS["project-repeated"])  # m n m m; the empty name has number 0
+        for names, outcome in {
+            (): [], (1,): [0], (2,): [1], (1, 1, 1): [0, 2, 3], (2, 1): [0, 1], (1, 2, 1): [0, 1, 2],
+            (1, 1, 1, 1): (15, 1), (2, 2, 0): (15, 0), (2, 1, 2, 1, 1, 1): (15, 1), (65535,): (15, 65535), (65535, 3): (15, 3),
+        }.items():
+            self.assertEqual(asked(answers.project, book, names), outcome, names)
+        self.assertEqual(answers.uses(book, 65535), [])
+
+    def test_references(self):
+        """Document 01, References: listed is what is reachable; each circle has a marked one and each marked one a circle."""
+        passed = 0
+        for data in [*CHECK_BOOKS.values(), *LIST_BOOKS.values()]:
+            book = None if layout.faults(data) else answers.Book(data)
+            if book is None or isinstance(asked(answers.definition_list, book), tuple):
+                continue
+            passed += 1
+            env, actor = answers.check(book)
+            refers = {name: references(tree) for name, tree in env.items()}
+            listed = answers.definition_list(book)
+            self.assertEqual(len(listed), len(set(listed)))
+            self.assertEqual(set(listed), reached(refers, references(actor)))
+            marked = set(answers.marks(book, listed))
+            for name in marked:
+                self.assertIn(name, reached(refers, refers[name]))
+            left = {name: refers[name] - marked for name in set(listed) - marked}
+            for name in left:
+                self.assertNotIn(name, reached(left, left[name]))
+            places = {name: place for place, name in enumerate(listed)}
+            for name in listed:  # a definition comes after those it refers to, but for circles
+                for other in refers[name]:
+                    self.assertTrue(places[other] < places[name] or name in reached(refers, {other}))
+            self.assertLessEqual(set(answers.chase_def_use(book)), set(listed))
+        self.assertGreater(passed, 150)
+
+    def test_emptiness(self):
+        """By `is_empty` of type_env.rs, arm by arm."""
+        for data in [*CHECK_BOOKS.values(), *LIST_BOOKS.values()]:
+            book = None if layout.faults(data) else answers.Book(data)
+            found = book and asked(answers.emptiness, book)
+            if not isinstance(found, list):
+                continue
+            env, judged = answers.check(book)[0], {}
+
+            def is_empty(name):
+                if name not in judged:
+                    judged[name], tree = None, env[name]
+                    fields = tree.kids if tree.kind == answers.RECORD else [tree]
+                    judged[name] = any(is_empty(field.value) for field in fields if field.kind == answers.NAME)
+                elif judged[name] is None:
+                    judged[name] = True
+                return judged[name]
+
+            self.assertEqual(found, [name for name in sorted(env) if is_empty(name)])
+
+
+def references(tree):
+    return {node.value for node in answers.nodes(tree) if node.kind == answers.NAME}
+
+
+def reached(refers, start):
+    """The names that can be reached from some."""
+    found, left = set(), list(start)
+    while left:
+        name = left.pop()
+        if name not in found:
+            found.add(name)
+            left += refers[name]
+    return found
+
+
+class ListSources(unittest.TestCase):
+
+    def test_stated(self):
+        """What a source states is what the second reading finds; each question and each refusal is stated somewhere."""
+        questions, refusals = set(), set()
+        for name, text in LIST_SOURCES.items():
+            found = answers.outcomes(LIST_BOOKS[name])
+            for question, outcome in mkbatch.stated(text).items():
+                self.assertEqual(found.get(question), outcome, f"{name}: {question}")
+                questions.add(question.split()[0])
+                if outcome.startswith("refused"):
+                    refusals.add(int(outcome.split()[1]))
+        self.assertEqual(questions, {"list", "marks", "init", "draft", "empty", "uses", "project", "twice"})
+        self.assertEqual(refusals, set(range(1, 18)))
+
+    def test_books_differ(self):
+        self.assertEqual(len(LIST_BOOKS), len(set(LIST_BOOKS.values())))
+
+    def test_examples(self):
+        for name in SOURCES:
+            if name.startswith("p"):
+                self.assertEqual(LIST_BOOKS[name], BOOKS[name], name)
+
+    def test_limits(self):
+        """The largest: 512 definitions, 16 files, 1,024 names, 4,096 nodes, 4,000 of them each inside the one before."""
+        books = {name: layout.Reader(book).book for name, book in LIST_BOOKS.items() if name.startswith("large-")}
+        for part, most in (("names", 1024), ("nodes", 4096), ("definitions", 512), ("files", 16)):
+            self.assertEqual(max(len(getattr(book, part)) for book in books.values()), most)
+        for name, book in books.items():
+            if name.startswith("large-nested-"):
+                self.assertGreaterEqual(len(book.nodes), 4001, name)
+        uses = answers.Book(LIST_BOOKS["large-uses-most"])
+        function = uses.definitions[1].type
+        self.assertEqual(len(uses.files[0].type.kids) * len(function.kids), 4_186_116)
+
+    def test_stated_lines(self):
+        head = "// answers: x\n"
+        for lines, found in {
+            '// list: "b" "a"\n': {"list": 'given 2 "b" "a"'},
+            '// list: none\ntype a = nat;\n// marks: "a"\n': {"list": "given 0"},
+            '// uses "\\"\\\\\\ff": 0.1.0 65535.0.12\n': {'uses "\\22\\5c\\ff"': "given 2 0.1.0 65535.0.12"},
+            '// project "m: n": 0\n// twice "m": refused 15 "m"\n': {'project "m: n"': "given 1 0", 'twice "m"': 'refused 15 "m"'},
+            '// draft: refused 17 -\n': {"draft": "refused 17 -"},
+            '// empty: nest 2 { | "a#" } {} "n" * 3 + "m"\n': {"empty": 'given 3 "a1" "a0" "nnnm"'},
+            '// uses "a": repeat 2 { #.0.0 #.1.1 }\n': {'uses "a"': "given 4 0.0.0 0.1.1 1.0.0 1.1.1"},
+        }.items():
+            self.assertEqual(mkbatch.stated(head + lines), found, lines)
+        for text in (head, head + "type a = nat;\n", head + "// list:\n", head + "// lists: none\n", "// list: none\n",
+                     head + "// list: none\n// list: none\n", head + "// uses: none\n", head + "// a remark\n// list: none\n"):
+            with self.assertRaises(mkbook.SourceError, msg=text):
+                mkbatch.stated(text)
+        with self.assertRaises(mkbook.SourceError):
+            mkbatch.answered("a", head + '// list: "b"\n', LIST_BOOKS["p01"])
+
+    def test_lines(self):
+        self.assertEqual(mkbatch.answered("a", "// answers: x\n// list: none\n", LIST_BOOKS["p10"]), "".join("a " + line for line in (
+            "list given 0\n", "marks given 0\n", "init given 0\n", "draft given 0\n", "empty given 0\n",
+            'uses "" given 0\n', 'project "" refused 15 ""\n', 'twice "" refused 15 ""\n',
+            'uses "m" given 0\n', 'project "m" given 1 0\n', 'twice "m" refused 15 "m"\n')))
+
+
 class Batch(unittest.TestCase):
 
     def batch(self, folder):
@@ -246,6 +429,15 @@ class Batch(unittest.TestCase):
         self.assertIn("p04 passed", lines)
         self.assertIn("row-04-definition refused 4 -", lines)
         self.assertEqual("\n".join(lines) + "\n", mkgate.check_batch()[1])
+
+    def test_answer_batch(self):
+        records, lines = self.batch(LIST_FOLDER)
+        self.assertEqual(dict(records), LIST_BOOKS)
+        self.assertEqual([name for name, _ in records], sorted(LIST_SOURCES))
+        self.assertIn('p01 list given 2 "pair" "tree"', lines)
+        self.assertIn("p11-empty empty given 3 \"r\" \"s\" \"t\"", lines)
+        self.assertLess(sum(len(line) + 1 for line in lines), 1 << 20)
+        self.assertEqual("\n".join(lines) + "\n", mkgate.answer_batch()[1])
 
     def test_batch(self):
         records, lines = self.batch(FOLDER)

@@ -1,8 +1,10 @@
 -- The walk of `replace_empty` over stored nodes, with its marks as bytes. Assumes nothing.
+--     root-small, root-read, root-inside                                               a name's root
 --     visit-none, visit-empty, visit-circle, visit-other, visit-missing, visit-type    the visit of a name, by its mark and its root
---     head-not, head-named, only-head, FieldsLeft, fields-start, ..                    the type at its root
+--     names-start, names-on, name-found, names-end                                     the next type that is a name
+--     FieldsLeft, fields-start, fields-skip, fields-end, fields-stop, fields-on        the type at its root
 --     key-missing, key-visited, KeysLeft, keys-start, ..                               all names
-use mathlib.Core.Path.{_≡_, refl, sym, ap, ap₂, _∙_}
+use mathlib.Core.Path.{_≡_, refl, sym, ap, ap₂, subst, _∙_}
 use mathlib.Core.Bool.{Bool, true, false, cond, true≢false}
 use mathlib.Core.List.{List, [], _∷_, map}
 use Prim.Native.Nat.{ℕ, zero, suc, _+_, _-_, _≤_, _<_}
@@ -14,7 +16,7 @@ use borrow.Author.Tests.{ne-eqb}
 use lib.Dec.{eqb}
 use lib.ListN.{length, getD, set, take, drop, replicate, length-replicate, List·getD-map}
 use lib.Seq.{set-set, take-set-lt, getD-take, drop-cons}
-use Rattle.format.specs.Forest.{Forest, tree}
+use Rattle.format.specs.Forest.{Forest, end}
 use Rattle.format.specs.Node.{Kind, PrimT, VarT, OptT, VecT, RecordT, VariantT, FuncT, ServT, ClassT, InitT, Node}
 use Rattle.format.specs.Book.{Definition}
 use Rattle.format.specs.Encode.{Row}
@@ -22,13 +24,13 @@ use Rattle.format.specs.Layout.{rowAt, kinds, kindOf, nodeOf, siblings}
 use Rattle.format.specs.Whole.{Within, Whole, WholeAt, treeAt}
 use Rattle.format.proofs.References.{kind-alone}
 use Rattle.format.proofs.Rows.{opens, kids-whole, node-within, siblings-none, siblings-opens}
-use Rattle.format.proofs.Stored.{tree-opens}
+use Rattle.format.proofs.Stored.{tree-whole, tree-opens}
 use Rattle.judgement.specs.Environment.{Found, missing, body, findType, isMissing, Head, named, other, headKind, head}
-use Rattle.judgement.specs.Empty.{Mark, unvisited, visiting, answered, Visit, visitField, visitFields, visitType, visitFound, store, visitMarked, isEmpty, keysFrom, visitAll, isEmptyMark, emptyFrom, replaceEmpty}
+use Rattle.judgement.specs.Empty.{Mark, unvisited, visiting, answered, Visit, notEmpty, visitField, visitFields, visitType, visitFound, store, visitMarked, isEmpty, keysFrom, visitAll, isEmptyMark, emptyFrom, replaceEmpty}
 use Rattle.environment.specs.Tables.{foundAt, Binds}
 use Rattle.environment.specs.Flags.{noFlags, flagged}
-use Rattle.environment.specs.Emptying.{Environment, TypeIn, markOf, answerByte, marksOf, Visited, visitHead, visitKey, EmptiedAs}
-use Rattle.environment.proofs.Links.{head-var, head-other, found-none, found-some}
+use Rattle.environment.specs.Emptying.{Environment, markOf, marksOf, Visited, namesFrom, PassedOver, NextName, visitKey, EmptiedAs}
+use Rattle.environment.proofs.Links.{head-var, head-other, found-none, found-some, in-table}
 
 -- ---- marks and their bytes
 map-set : {A B : Type 0} (f : A → B) (l : List A) (i : ℕ) (a : A) → map f (set l i a) ≡ set (map f l) i (f a)
@@ -49,10 +51,24 @@ mark-other : (b : ℕ) → (b ≡ 0 → ⊥) → (b ≡ 1 → ⊥) → (b ≡ 2 
 unfolding markOf
 mark-other b i j k = rw (ne-eqb b 0 i, ne-eqb b 1 j, ne-eqb b 2 k)
 
-mark-answer : (e : Bool) → markOf (answerByte e) ≡ answered e
-unfolding markOf answerByte
-mark-answer true = refl
-mark-answer false = refl
+pub mark-empty : {e : Bool} → e ≡ true → markOf 1 ≡ answered e
+unfolding markOf
+mark-empty y = ap answered (sym y)
+
+pub mark-not-empty : {e : Bool} → e ≡ false → markOf 3 ≡ answered e
+unfolding markOf
+mark-not-empty n = ap answered (sym n)
+
+-- ---- a name's root, as the table is read
+module _ {ns roots : List ℕ} {names : ℕ} (x : Environment ns roots names) {n : ℕ} (h : n < names) where
+  pub root-small : n < 1024
+  root-small = omega (arith, x .nodes .fewNames)
+
+  pub root-read : getD roots n 0 ≡ getD roots n 65535
+  root-read = in-table {n = n} (x .table) root-small
+
+  pub root-inside : (getD roots n 0 ≡ 65535 → ⊥) → getD roots n 0 < x .count
+  root-inside some = subst (λ (r : ℕ). r < x .count) (sym root-read) (x .table .node n (λ e. some (root-read ∙ e)))
 
 -- ---- one visit
 deeper : (ds : List Definition) (depth n : ℕ) → (depth ≡ 0 → ⊥) → (marks : List Mark) →
@@ -108,13 +124,13 @@ module _ (ns roots : List ℕ) (names depth n : ℕ) (bytes : List ℕ) where
 
       pub visit-type : (root : ℕ) → root ≡ getD roots n 65535 → (root ≡ 65535 → ⊥) → (e : Bool) (after : List ℕ) →
           Visited ns roots names (λ ds. visitFound (isEmpty ds (depth - 1)) (body (treeAt ns root))) (set bytes n 2) e after →
-          (byte : ℕ) → byte ≡ answerByte e → Visited ns roots names (λ ds. isEmpty ds depth n) bytes e (set after n byte)
+          (byte : ℕ) → markOf byte ≡ answered e → Visited ns roots names (λ ds. isEmpty ds depth n) bytes e (set after n byte)
       unfolding store
       visit-type root at some e after v byte is =
           record {
             is = λ ds b.
                 ap (λ (ms : List Mark). record { empty = e; marks = ms })
-                (mark-set names n h after byte ∙ ap (set (marksOf names after) n) (ap markOf is ∙ mark-answer e))
+                (mark-set names n h after byte ∙ ap (set (marksOf names after) n) is)
                 ∙ ap (store n) (v .is ds b)
                 ∙ sym (by-root (body (treeAt ns root)) (ap (foundAt ns) (sym at) ∙ found-some ns root some) ds b);
           }
@@ -136,26 +152,33 @@ record-kind : (k v : ℕ) → isRecord (kindOf k v) ≡ cond (eqb k 21) true fal
 unfolding kinds
 record-kind k v = kind-alone isRecord false true 21 v (omega arith) refl refl k
 
+-- any other type is visited as a field that is the last
 module _ (visit : ℕ → List Mark → Visit) where
-  kind-head : (κ : Kind) (kids : Forest Node) (marks : List Mark) → isRecord κ ≡ false → visitType visit κ kids marks ≡ visitHead visit (headKind κ) marks
-  unfolding visitType visitHead headKind
-  kind-head (PrimT p) kids marks e = refl
-  kind-head (VarT m) kids marks e = refl
-  kind-head OptT kids marks e = refl
-  kind-head VecT kids marks e = refl
-  kind-head RecordT kids marks e = absurd (true≢false e)
-  kind-head VariantT kids marks e = refl
-  kind-head (FuncT a ms) kids marks e = refl
-  kind-head ServT kids marks e = refl
-  kind-head ClassT kids marks e = refl
-  kind-head InitT kids marks e = refl
+  last-field : (e : Bool) (marks : List Mark) → cond e (record { empty = e; marks = marks }) (notEmpty marks) ≡ record { empty = e; marks = marks }
+  last-field true marks = refl
+  last-field false marks = refl
 
-  -- a field ends the walk just where its head does
-  field-head : (h : Head) (rest : List Mark → Visit) (marks : List Mark) →
-      visitField visit h rest marks ≡ (let v = visitHead visit h marks in cond (v .empty) v (rest (v .marks)))
-  unfolding visitField visitHead
-  field-head other rest marks = refl
-  field-head (named m) rest marks = refl
+  kind-field : (κ : Kind) (kids : Forest Node) (marks : List Mark) → isRecord κ ≡ false → visitField visit (headKind κ) (visitFields visit end) marks ≡ visitType visit κ kids marks
+  unfolding visitType visitField visitFields headKind
+  kind-field (PrimT p) kids marks e = refl
+  kind-field (VarT m) kids marks e = last-field (visit m marks .empty) (visit m marks .marks)
+  kind-field OptT kids marks e = refl
+  kind-field VecT kids marks e = refl
+  kind-field RecordT kids marks e = absurd (true≢false e)
+  kind-field VariantT kids marks e = refl
+  kind-field (FuncT a ms) kids marks e = refl
+  kind-field ServT kids marks e = refl
+  kind-field ClassT kids marks e = refl
+  kind-field InitT kids marks e = refl
+
+module _ (ns : List ℕ) (node : ℕ) (r : Row) (is : r ≡ rowAt ns node) where
+  pub from-fields : r .kind ≡ 21 → node + 1 ≡ namesFrom (rowAt ns node .kind) node
+  unfolding namesFrom
+  from-fields k = rw (← is, k)
+
+  pub from-itself : (r .kind ≡ 21 → ⊥) → node ≡ namesFrom (rowAt ns node .kind) node
+  unfolding namesFrom
+  from-itself k = rw (← is, ne-eqb (r .kind) 21 k)
 
 module _ {ns : List ℕ} {node : ℕ} (w : WholeAt ns node) where
   head-at : head (treeAt ns node) ≡ headKind (nodeOf (rowAt ns node) .kind)
@@ -167,113 +190,164 @@ module _ {ns : List ℕ} {node : ℕ} (w : WholeAt ns node) where
   unfolding visitFound
   type-at visit marks = ap (λ (t : Forest Node). visitFound visit (body t) marks) (tree-opens w)
 
-module _ {ns roots : List ℕ} {names node : ℕ} (x : TypeIn ns roots names node) where
+  record-fields : rowAt ns node .kind ≡ 21 → (visit : ℕ → List Mark → Visit) (marks : List Mark) →
+      visitFields visit (siblings ns (node + 1) (node + rowAt ns node .size)) marks ≡ visitFound visit (body (treeAt ns node)) marks
+  unfolding visitType nodeOf kindOf kinds
+  record-fields k visit marks =
+      let one : nodeOf (rowAt ns node) .kind ≡ RecordT = rw k in
+      sym (type-at visit marks ∙ ap (λ (κ : Kind). visitType visit κ (siblings ns (node + 1) (node + rowAt ns node .size)) marks) one)
+
+  itself : (rowAt ns node .kind ≡ 21 → ⊥) → (visit : ℕ → List Mark → Visit) (marks : List Mark) →
+      visitFields visit (treeAt ns node) marks ≡ visitFound visit (body (treeAt ns node)) marks
+  unfolding visitFields nodeOf
+  itself k visit marks =
+      let no : isRecord (nodeOf (rowAt ns node) .kind) ≡ false = rw (record-kind (rowAt ns node .kind) (rowAt ns node .value), ne-eqb (rowAt ns node .kind) 21 k) in
+      ap (λ (t : Forest Node). visitFields visit t marks) (tree-opens w)
+      ∙ kind-field visit (nodeOf (rowAt ns node) .kind) (siblings ns (node + 1) (node + rowAt ns node .size)) marks no
+      ∙ sym (type-at visit marks)
+
+  -- the types from `from` on: they are whole trees, and they are visited as the type is
+  record Names (from : ℕ) : Type 0 where
+    whole : Whole ns from (node + rowAt ns node .size)
+    visited : (visit : ℕ → List Mark → Visit) (marks : List Mark) →
+        visitFields visit (siblings ns from (node + rowAt ns node .size)) marks ≡ visitFound visit (body (treeAt ns node)) marks
+
+  names-of : Names (namesFrom (rowAt ns node .kind) node)
+  names-of = go (ℕ-discrete (rowAt ns node .kind) 21)
+    where
+      go : Dec (rowAt ns node .kind ≡ 21) → Names (namesFrom (rowAt ns node .kind) node)
+      go (yes e) = subst Names (from-fields ns node _ refl e) (record { whole = kids-whole w; visited = record-fields e })
+      go (no k) = subst Names (from-itself ns node _ refl k) (record { whole = tree-whole w; visited = itself k })
+
+module _ {ns roots : List ℕ} {names : ℕ} (x : Environment ns roots names) {node : ℕ} (inside : node < x .count) where
   whole-here : WholeAt ns node
-  whole-here = x .env .nodes .tree node (x .inside) .whole
+  whole-here = x .nodes .tree node inside .whole
 
   pub type-within : Within ns (node + 1)
   type-within = node-within whole-here
 
-  module _ (r : Row) (is : r ≡ rowAt ns node) where
-    pub type-size : (1 ≤ r .size) × (node + r .size ≤ x .env .count)
-    type-size = rw is (whole-here .one, x .env .nodes .tree node (x .inside) .ends)
+  pub type-ends : (r : Row) → r ≡ rowAt ns node → node + r .size ≤ x .count
+  type-ends r is = rw is (x .nodes .tree node inside .ends)
 
-    pub named-small : r .kind ≡ 18 → r .value < names
-    named-small k = rw is (x .env .nodes .row node (x .inside) .name (ap (λ (q : Row). q .kind) (sym is) ∙ k))
+-- ---- the next type that is a name
+pub names-start : {ns : List ℕ} {from until : ℕ} → Whole ns from until → PassedOver ns from until from
+names-start w = record { later = omega arith; whole = w; same = λ visit marks. refl }
 
-    module _ (depth : ℕ) (before : List ℕ) where
-      -- a type that is no name
-      pub head-not : (r .kind ≡ 18 → ⊥) → Visited ns roots names (λ ds. visitHead (isEmpty ds depth) (head (treeAt ns node))) before false before
-      unfolding visitHead
-      head-not k = record { is = λ ds b. sym (ap (λ (h : Head). visitHead (isEmpty ds depth) h (marksOf names before)) (head-other whole-here r is k)) }
+module _ {ns : List ℕ} {from until i : ℕ} (p : PassedOver ns from until i) where
+  pub names-end : until ≤ i → NextName ns from until i
+  names-end h = record { passed = p; named = λ l. absurd (omega arith) }
 
-      pub head-named : r .kind ≡ 18 → {e : Bool} {after : List ℕ} → Visited ns roots names (λ ds. isEmpty ds depth (r .value)) before e after →
-          Visited ns roots names (λ ds. visitHead (isEmpty ds depth) (head (treeAt ns node))) before e after
-      unfolding visitHead
-      head-named k v =
-          record { is = λ ds b. v .is ds b ∙ sym (ap (λ (h : Head). visitHead (isEmpty ds depth) h (marksOf names before)) (head-var whole-here r is k)) }
+  module _ (h : i < until) where
+    pub name-within : Within ns (i + 1)
+    name-within = node-within (opens (p .whole) h .here)
 
-      -- a type that is no record
-      pub only-head : (r .kind ≡ 21 → ⊥) → {e : Bool} {after : List ℕ} → Visited ns roots names (λ ds. visitHead (isEmpty ds depth) (head (treeAt ns node))) before e after →
-          Visited ns roots names (λ ds. visitFound (isEmpty ds depth) (body (treeAt ns node))) before e after
-      unfolding nodeOf
-      only-head k v =
-          let no : isRecord (nodeOf (rowAt ns node) .kind) ≡ false = rw (← is, record-kind (r .kind) (r .value), ne-eqb (r .kind) 21 k) in
+    module _ (r : Row) (is : r ≡ rowAt ns i) where
+      pub name-found : r .kind ≡ 18 → NextName ns from until i
+      name-found k = record { passed = p; named = λ l. ap (λ (q : Row). q .kind) (sym is) ∙ k }
+
+      pub name-size : (1 ≤ r .size) × (i + r .size ≤ until)
+      name-size = let o = opens (p .whole) h in rw is (o .here .one, o .rest .ordered)
+
+      pub names-on : (r .kind ≡ 18 → ⊥) → PassedOver ns from until (i + r .size)
+      unfolding visitFields visitField
+      names-on k =
+          let o = opens (p .whole) h in
+          let head : headKind (nodeOf (rowAt ns i) .kind) ≡ other = sym (head-at (o .here)) ∙ head-other (o .here) r is k in
           record {
-            is = λ ds b.
-                v .is ds b
-                ∙ ap (λ (h : Head). visitHead (isEmpty ds depth) h (marksOf names before)) (head-at whole-here)
-                ∙ sym (type-at whole-here (isEmpty ds depth) (marksOf names before) ∙ kind-head (isEmpty ds depth) (nodeOf (rowAt ns node) .kind) _ (marksOf names before) no);
+            later = omega (arith, p .later);
+            whole = rw is (o .rest);
+            same = λ visit marks.
+                rw is
+                (sym
+                (ap (λ (f : Forest Node). visitFields visit f marks) (siblings-opens o)
+                ∙ ap (λ (q : Head). visitField visit q (visitFields visit (siblings ns (i + rowAt ns i .size) until)) marks) head)
+                ∙ p .same visit marks);
           }
 
--- ---- the fields of a record, from node i up to node `until`: what is left of the walk answers as all of it does
+-- ---- the types by which the type at a node is visited, from node i up to node `until`: what is left of the walk answers as all of it does
 pub record FieldsLeft (ns roots : List ℕ) (names depth node : ℕ) (before : List ℕ) (until i : ℕ) (bytes : List ℕ) : Type 0 where
   pub env : Environment ns roots names
   pub inside : until ≤ env .count
   pub whole : Whole ns i until
-  pub long : length bytes ≡ 1024
   pub rest : (ds : List Definition) → Binds ns roots ds →
       visitFields (isEmpty ds depth) (siblings ns i until) (marksOf names bytes) ≡ visitFound (isEmpty ds depth) (body (treeAt ns node)) (marksOf names before)
 
-pub fields-start : {ns roots : List ℕ} {names node : ℕ} (x : TypeIn ns roots names node) (r : Row) → r ≡ rowAt ns node → r .kind ≡ 21 → (depth : ℕ) (before : List ℕ) → length before ≡ 1024 →
-    FieldsLeft ns roots names depth node before (node + r .size) (node + 1) before
-unfolding visitType nodeOf kindOf kinds
-fields-start {ns} {roots} {names} {node} x r is k depth before l =
-    let w = whole-here x in
-    let one : nodeOf (rowAt ns node) .kind ≡ RecordT = rw (← is, k) in
+pub fields-start : {ns roots : List ℕ} {names : ℕ} (x : Environment ns roots names) {node : ℕ} → node < x .count → (r : Row) → r ≡ rowAt ns node →
+    {from : ℕ} → from ≡ namesFrom (rowAt ns node .kind) node → (depth : ℕ) (before : List ℕ) →
+    FieldsLeft ns roots names depth node before (node + r .size) from before
+fields-start {ns} {roots} {names} x {node} inside r is {from} at depth before =
+    let t : Names (whole-here x inside) from = subst (Names (whole-here x inside)) (sym at) (names-of (whole-here x inside)) in
     record {
-      env = x .env;
-      inside = type-size x r is .1;
-      whole = rw is (kids-whole w);
-      long = l;
-      rest = λ ds b.
-          rw is
-          (sym (type-at w (isEmpty ds depth) (marksOf names before) ∙ ap (λ (κ : Kind). visitType (isEmpty ds depth) κ (siblings ns (node + 1) (node + rowAt ns node .size)) (marksOf names before)) one));
+      env = x;
+      inside = type-ends x inside r is;
+      whole = rw is (t .whole);
+      rest = λ ds b. rw is (t .visited (isEmpty ds depth) (marksOf names before));
     }
 
 module _ {ns roots : List ℕ} {names depth node : ℕ} {before : List ℕ} {until i : ℕ} {bytes : List ℕ} (l : FieldsLeft ns roots names depth node before until i bytes) where
-  pub fields-end : until ≤ i → Visited ns roots names (λ ds. visitFound (isEmpty ds depth) (body (treeAt ns node))) before false bytes
+  pub fields-skip : {j : ℕ} → NextName ns i until j → FieldsLeft ns roots names depth node before until j bytes
+  fields-skip q =
+      record {
+        env = l .env;
+        inside = l .inside;
+        whole = q .passed .whole;
+        rest = λ ds b. q .passed .same (isEmpty ds depth) (marksOf names bytes) ∙ l .rest ds b;
+      }
+
+  pub fields-end : until ≤ i → {e : Bool} → e ≡ false → Visited ns roots names (λ ds. visitFound (isEmpty ds depth) (body (treeAt ns node))) before e bytes
   unfolding visitFields
-  fields-end h = record { is = λ ds b. sym (ap (λ (f : Forest Node). visitFields (isEmpty ds depth) f (marksOf names bytes)) (siblings-none ns i until h)) ∙ l .rest ds b }
+  fields-end h n =
+      record {
+        is = λ ds b.
+            ap (λ (q : Bool). record { empty = q; marks = marksOf names bytes }) n
+            ∙ sym (ap (λ (f : Forest Node). visitFields (isEmpty ds depth) f (marksOf names bytes)) (siblings-none ns i until h))
+            ∙ l .rest ds b;
+      }
 
-  module _ (h : i < until) where
-    pub field-in : TypeIn ns roots names i
-    field-in = record { env = l .env; inside = omega (arith, l .inside) }
+  module _ (h : i < until) (r : Row) (is : r ≡ rowAt ns i) (k : rowAt ns i .kind ≡ 18) where
+    here-var : r .kind ≡ 18
+    here-var = ap (λ (q : Row). q .kind) is ∙ k
 
-    pub field-size : (r : Row) → r ≡ rowAt ns i → (1 ≤ r .size) × (i + r .size ≤ until)
-    field-size r is = let o = opens (l .whole) h in rw is (o .here .one, o .rest .ordered)
+    pub field-small : r .value < names
+    field-small = rw is (l .env .nodes .row i (omega (arith, l .inside)) .name k)
 
-    -- the first field, and those after it
-    field-first : (ds : List Definition) → (e : Bool) (marks : List Mark) →
-        record { empty = e; marks = marks } ≡ visitHead (isEmpty ds depth) (head (treeAt ns i)) (marksOf names bytes) →
-        visitFields (isEmpty ds depth) (siblings ns i until) (marksOf names bytes)
-        ≡ cond e (record { empty = e; marks = marks }) (visitFields (isEmpty ds depth) (siblings ns (i + rowAt ns i .size) until) marks)
-    unfolding visitFields
-    field-first ds e marks q =
-        let o = opens (l .whole) h in
-        let next : List Mark → Visit = visitFields (isEmpty ds depth) (siblings ns (i + rowAt ns i .size) until) in
-        ap (λ (f : Forest Node). visitFields (isEmpty ds depth) f (marksOf names bytes)) (siblings-opens o)
-        ∙ field-head (isEmpty ds depth) (headKind (nodeOf (rowAt ns i) .kind)) next (marksOf names bytes)
-        ∙ ap (λ (v : Visit). cond (v .empty) v (next (v .marks)))
-        (ap (λ (k : Head). visitHead (isEmpty ds depth) k (marksOf names bytes)) (sym (head-at (o .here))) ∙ sym q)
+    module _ {e : Bool} {after : List ℕ} (v : Visited ns roots names (λ ds. isEmpty ds depth (r .value)) bytes e after) where
+      -- the first field, and those after it
+      field-first : (ds : List Definition) → Binds ns roots ds →
+          visitFields (isEmpty ds depth) (siblings ns i until) (marksOf names bytes)
+          ≡ cond e (record { empty = e; marks = marksOf names after }) (visitFields (isEmpty ds depth) (siblings ns (i + rowAt ns i .size) until) (marksOf names after))
+      unfolding visitFields visitField
+      field-first ds b =
+          let o = opens (l .whole) h in
+          let next : List Mark → Visit = visitFields (isEmpty ds depth) (siblings ns (i + rowAt ns i .size) until) in
+          ap (λ (f : Forest Node). visitFields (isEmpty ds depth) f (marksOf names bytes)) (siblings-opens o)
+          ∙ ap (λ (q : Head). visitField (isEmpty ds depth) q next (marksOf names bytes)) (sym (head-at (o .here)) ∙ head-var (o .here) r is here-var)
+          ∙ ap (λ (u : Visit). cond (u .empty) u (next (u .marks))) (sym (v .is ds b))
 
-    module _ {e : Bool} {after : List ℕ} (v : Visited ns roots names (λ ds. visitHead (isEmpty ds depth) (head (treeAt ns i))) bytes e after) where
-      pub fields-stop : e ≡ true → Visited ns roots names (λ ds. visitFound (isEmpty ds depth) (body (treeAt ns node))) before true after
+      pub fields-stop : e ≡ true → Visited ns roots names (λ ds. visitFound (isEmpty ds depth) (body (treeAt ns node))) before e after
       fields-stop y =
           record {
-            is = λ ds b. sym (field-first ds true (marksOf names after) (ap (λ (q : Bool). record { empty = q; marks = marksOf names after }) (sym y) ∙ v .is ds b)) ∙ l .rest ds b;
+            is = λ ds b.
+                sym
+                (field-first ds b
+                ∙ ap
+                (λ (q : Bool). cond q (record { empty = e; marks = marksOf names after }) (visitFields (isEmpty ds depth) (siblings ns (i + rowAt ns i .size) until) (marksOf names after))) y)
+                ∙ l .rest ds b;
           }
 
-      pub fields-on : e ≡ false → length after ≡ 1024 → (r : Row) → r ≡ rowAt ns i → FieldsLeft ns roots names depth node before until (i + r .size) after
-      fields-on y long r is =
+      pub fields-on : e ≡ false → FieldsLeft ns roots names depth node before until (i + r .size) after
+      fields-on n =
           record {
             env = l .env;
             inside = l .inside;
             whole = rw is (opens (l .whole) h .rest);
-            long = long;
             rest = λ ds b.
                 rw is
-                (sym (field-first ds false (marksOf names after) (ap (λ (q : Bool). record { empty = q; marks = marksOf names after }) (sym y) ∙ v .is ds b)) ∙ l .rest ds b);
+                (sym
+                (field-first ds b
+                ∙ ap
+                (λ (q : Bool). cond q (record { empty = e; marks = marksOf names after }) (visitFields (isEmpty ds depth) (siblings ns (i + rowAt ns i .size) until) (marksOf names after))) n)
+                ∙ l .rest ds b);
           }
 
 -- ---- all names

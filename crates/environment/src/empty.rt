@@ -1,16 +1,17 @@
-// The names that become empty: `is_empty` and `replace_empty` of type_env.rs. The marks of the walk are lent, so that a level takes little
-// of the stack. Functions ask of their caller what an admitted book gives (specs/Emptying.antt).
+// The names that become empty: `is_empty` and `replace_empty` of type_env.rs. The marks of a walk go by value and come back with the answer.
+// One function alone goes down, and it reads no marks but its own, so that a level takes the stack of two lists of marks. Functions ask of
+// their caller what an admitted book gives (specs/Emptying.antt).
 ghost use mathlib.Core.Path.{_≡_};
 ghost use mathlib.Core.List.{List};
-ghost use Prim.Native.Nat.{suc, _<_};
-ghost use lib.ListN.{length};
+ghost use Prim.Native.Nat.{suc, _+_, _<_};
 ghost use Rattle.format.specs.Book.{Definition};
-ghost use Rattle.format.specs.Whole.{treeAt};
-ghost use Rattle.judgement.specs.Environment.{body, head, findType};
-ghost use Rattle.judgement.specs.Empty.{visitFound, isEmpty};
+ghost use Rattle.format.specs.Layout.{rowAt};
+ghost use Rattle.format.specs.Whole.{Within, Whole};
+ghost use Rattle.judgement.specs.Environment.{findType};
+ghost use Rattle.judgement.specs.Empty.{isEmpty};
 ghost use Rattle.environment.specs.Tables.{Binds};
 ghost use Rattle.environment.specs.Flags.{noFlags};
-ghost use Rattle.environment.specs.Emptying.{Environment, TypeIn, answerByte, marksOf, Visited, visitHead, visitKey, EmptiedAs};
+ghost use Rattle.environment.specs.Emptying.{Environment, marksOf, namesFrom, NextName, Visited, visitKey, EmptiedAs};
 use crate::Table;
 use book::kinds::Kind;
 use book::read::Node;
@@ -38,114 +39,105 @@ impl Mark {
     const VISITING: u8 = 2;
 
     const NOT_EMPTY: u8 = 3;
-
-    // The mark of a name that is answered.
-    fn answered(empty: bool) -> u8
-        ensures { λ r. ⌜ r ≡ answerByte empty ⌝ }
-    {
-        if empty {
-            return Mark::EMPTY;
-        }
-        Mark::NOT_EMPTY
-    }
 }
 
-// `is_empty`: whether a name is empty, at most `depth` names deep. The answers of all names that are visited are left in the marks.
-fn is_empty(
-    rows: &[u8],
-    roots: &[u16],
-    marks: &mut [u8],
-    names: usize,
-    depth: usize,
-    n: usize,
-) -> bool
-    requires { ⌜ Environment (now rows) (now roots) names × (length (now marks) ≡ 1024) × (n < names) ⌝ }
-    ensures { λ r. ⌜ Visited (now (rows .entry)) (now (roots .entry)) names (λ ds. isEmpty ds depth n) (now (marks .entry)) r (now (marks .exit)) ⌝ }
-{
-    if depth == 0 {
-        return false;
-    }
-    let mark = marks[n];
-    if mark == Mark::EMPTY {
-        return true;
-    }
-    if mark == Mark::VISITING {
-        marks[n] = Mark::EMPTY;
-        return true;
-    }
-    if mark != Mark::UNVISITED {
-        return false;
-    }
-    let root = roots[n];
-    if root == Table::NONE {
-        marks[n] = Mark::NOT_EMPTY;
-        return false;
-    }
-    marks[n] = Mark::VISITING;
-    let empty = visit_type(rows, roots, marks, names, depth - 1, root as usize);
-    marks[n] = Mark::answered(empty);
-    empty
+// What a visit answers, and the marks after it.
+struct Visit {
+    pub empty: bool,
+    pub marks: [u8; 1024],
 }
 
-// Whether the type at a node is empty: a record of which a field is, or a name that is.
-fn visit_type(
-    rows: &[u8],
-    roots: &[u16],
-    marks: &mut [u8],
-    names: usize,
-    depth: usize,
-    node: usize,
-) -> bool
-    requires { ⌜ TypeIn (now rows) (now roots) names node × (length (now marks) ≡ 1024) ⌝ }
-    ensures { λ r. ⌜ Visited (now (rows .entry)) (now (roots .entry)) names (λ ds. visitFound (isEmpty ds depth) (body (treeAt (now (rows .entry)) node)))
-        (now (marks .entry)) r (now (marks .exit)) ⌝ }
+// Where the types stand that the type at a node is visited by: a record's fields; else the type itself.
+fn names_from(rows: &[u8], node: usize) -> usize
+    requires { ⌜ Within (now rows) (node + 1) ⌝ }
+    ensures { λ r. ⌜ r ≡ namesFrom (rowAt (now (rows .entry)) node .kind) node ⌝ }
 {
     let t = Node::at(rows, node);
     if t.kind != Kind::RECORD {
-        return visit_head(rows, roots, marks, names, depth, node);
+        return node;
     }
-    let until = node + t.size;
-    let mut i = node + 1;
-    while i < until {
-        if visit_head(rows, roots, marks, names, depth, i) {
-            return true;
-        }
-        let f = Node::at(rows, i);
-        i += f.size;
-    }
-    false
+    node + 1
 }
 
-// Whether the type at a node is a name that is empty.
-fn visit_head(
-    rows: &[u8],
-    roots: &[u16],
-    marks: &mut [u8],
-    names: usize,
-    depth: usize,
-    node: usize,
-) -> bool
-    requires { ⌜ TypeIn (now rows) (now roots) names node × (length (now marks) ≡ 1024) ⌝ }
-    ensures { λ r. ⌜ Visited (now (rows .entry)) (now (roots .entry)) names (λ ds. visitHead (isEmpty ds depth) (head (treeAt (now (rows .entry)) node)))
-        (now (marks .entry)) r (now (marks .exit)) ⌝ }
+// The first type that is a name, among those side by side from node `from` up to node `until`; `until` where none is.
+fn next_name(rows: &[u8], from: usize, until: usize) -> usize
+    requires { ⌜ Whole (now rows) from until ⌝ }
+    ensures { λ r. ⌜ NextName (now (rows .entry)) from until r ⌝ }
 {
-    let t = Node::at(rows, node);
-    if t.kind != Kind::VAR {
-        return false;
+    let mut i = from;
+    while i < until {
+        let t = Node::at(rows, i);
+        if t.kind == Kind::VAR {
+            return i;
+        }
+        i += t.size;
     }
-    is_empty(rows, roots, marks, names, depth, t.value as usize)
+    i
+}
+
+// `is_empty`: whether a name is empty, at most `depth` names deep. The answers of all names that are visited are left in the marks.
+fn is_empty(rows: &[u8], roots: &[u16], names: usize, depth: usize, n: usize, marks: Flags) -> Visit
+    requires { ⌜ Environment (now rows) (now roots) names × (n < names) ⌝ }
+    ensures { λ r. ⌜ Visited (now (rows .entry)) (now (roots .entry)) names (λ ds. isEmpty ds depth n) marks (r .empty) (r .marks) ⌝ }
+{
+    let mut v = Visit {
+        empty: false,
+        marks,
+    };
+    if depth == 0 {
+        return v;
+    }
+    let mark = v.marks[n];
+    if mark == Mark::EMPTY {
+        v.empty = true;
+        return v;
+    }
+    if mark == Mark::VISITING {
+        v.empty = true;
+        v.marks[n] = Mark::EMPTY;
+        return v;
+    }
+    if mark != Mark::UNVISITED {
+        return v;
+    }
+    let root = roots[n];
+    if root == Table::NONE {
+        v.marks[n] = Mark::NOT_EMPTY;
+        return v;
+    }
+    v.marks[n] = Mark::VISITING;
+    let node = root as usize;
+    let t = Node::at(rows, node);
+    let until = node + t.size;
+    let mut from = names_from(rows, node);
+    loop {
+        let i = next_name(rows, from, until);
+        if i >= until {
+            v.marks[n] = Mark::NOT_EMPTY;
+            return v;
+        }
+        let f = Node::at(rows, i);
+        let marked = v.marks;
+        v = is_empty(rows, roots, names, depth - 1, f.value as usize, marked);
+        if v.empty {
+            v.marks[n] = Mark::EMPTY;
+            return v;
+        }
+        from = i + f.size;
+    }
 }
 
 // A name is visited if it has a definition.
-fn visit_key(rows: &[u8], roots: &[u16], marks: &mut [u8], names: usize, n: usize)
-    requires { ⌜ Environment (now rows) (now roots) names × (length (now marks) ≡ 1024) × (n < names) ⌝ }
-    ensures { λ _. ⌜ ((ds : List Definition) → Binds (now (rows .entry)) (now (roots .entry)) ds →
-        marksOf names (now (marks .exit)) ≡ visitKey (isEmpty ds (suc names)) n (findType ds n) (marksOf names (now (marks .entry)))) ⌝ }
+fn visit_key(rows: &[u8], roots: &[u16], names: usize, n: usize, marks: Flags) -> Flags
+    requires { ⌜ Environment (now rows) (now roots) names × (n < names) ⌝ }
+    ensures { λ r. ⌜ ((ds : List Definition) → Binds (now (rows .entry)) (now (roots .entry)) ds →
+        marksOf names r ≡ visitKey (isEmpty ds (suc names)) n (findType ds n) (marksOf names marks)) ⌝ }
 {
     if roots[n] == Table::NONE {
-        return;
+        return marks;
     }
-    is_empty(rows, roots, marks, names, names + 1, n);
+    let v = is_empty(rows, roots, names, names + 1, n, marks);
+    v.marks
 }
 
 // `replace_empty`: the names that become empty.
@@ -156,7 +148,8 @@ pub fn replace_empty(rows: &[u8], roots: &[u16], names: usize) -> Flags
     let mut marks = no_flags();
     let mut n = 0;
     while n < names {
-        visit_key(rows, roots, &mut marks, names, n);
+        let after = visit_key(rows, roots, names, n, marks);
+        marks = after;
         n += 1;
     }
     marks

@@ -3,17 +3,17 @@
 --     Answers, demand-3               a book that passed and has an actor
 --     DraftAnswers, demand-3-draft    a draft
 --     asked, sent, sent-draft         the same of the bytes that a supplier sends
---     p1-answers, p1-draft            document 01's P1
+--     p1-answers, p1-draft            document 01's P1; ring-answers, lost-draft: a ring, a draft that is unbound
 use mathlib.Core.Path.{_≡_, refl, sym, subst, _∙_}
 use mathlib.Core.Logic.{_↔_, _⊎_, inl, inr, ite, if-pos, if-neg, ⊎-elim, ⊎-map}
 use mathlib.Core.Bool.{Bool, true, false, cond}
 use mathlib.Core.List.{List, [], _∷_, map, List·Memᴰ, List·Memᴰ·head, List·Memᴰ·tail, List·Memᴰ·cases-cons, List·Memᴰ·not-nil, List·Memᴰ·eq-of-singleton, Memᴰ·cast}
-use Prim.Native.Nat.{ℕ, suc, _≤_, _<_}
+use Prim.Native.Nat.{ℕ, suc, _+_, _≤_, _<_}
 use native.Mathlib.Decide.{ℕ-discrete}
 use native.Mathlib.Omega.{arith}
 use lib.Dec.{leb, le→leb}
 use lib.ListN.{length}
-use Rattle.format.specs.Forest.{Forest, end}
+use Rattle.format.specs.Forest.{Forest, end, breadth}
 use Rattle.format.specs.Node.{Node}
 use Rattle.format.specs.Book.{Definition, Book}
 use Rattle.format.specs.Fits.{Fits}
@@ -31,17 +31,17 @@ use Rattle.judgement.specs.Empty.{Ascends}
 use Rattle.listing.specs.Uses.{Use, usesOf}
 use Rattle.listing.specs.References.{Refers, Reachable, direct, Way, last, step, Circle, Chases}
 use Rattle.listing.specs.Questions.{Outcome, refused, given, list, marksOver, uses, draftDefinitions, draftList, fit, onLayout}
-use Rattle.listing.specs.Offers.{Interface, UsesGiven}
+use Rattle.listing.specs.Offers.{Interface, argumentsAndResults, UsesGiven}
 use Rattle.listing.proofs.Places.{place}
 use Rattle.listing.proofs.Listed.{Reaches, Listed, Lost, Misses}
 use Rattle.listing.proofs.Chased.{misses-lost}
 use Rattle.listing.proofs.Walked.{chases-unique}
 use Rattle.listing.proofs.Answered.{list-answered, draft-says, draft-stops, draft-lost, draft-either}
-use Rattle.listing.proofs.Examples.{p1, p1-list, p1-fits, p1-passes, p1-actor, p1-main, p1-once}
+use Rattle.listing.proofs.Examples.{p1, p1-list, p1-fits, p1-passes, p1-actor, p1-main, p1-once, ring, ring-fits, ring-passes, ring-actor, importing, import-fits, import-main, import-once, import-draft}
 use Rattle.listing.proofs.Marks.{MarkedIn, MarksIn}
 use Rattle.listing.proofs.Marked.{closed, way-comes, marks-listed}
 use Rattle.listing.proofs.Interface.{passed-interface, passed-once}
-use Rattle.listing.proofs.Used.{uses-answered, uses-given, uses-unreachable}
+use Rattle.listing.proofs.Used.{uses-answered, uses-given, uses-unreachable, uses-room}
 
 -- ---- The demand
 
@@ -90,6 +90,11 @@ pub record Answers (b : Book) : Type 0 where
   pub listGiven : Gives (list b) listed
   pub marksGiven : Gives (marksOver b listed) marked
   pub usesGiven : (n : ℕ) → Gives (uses b n) (row n)
+  -- lengths that are always enough: 512 for the list and for its marks; for uses, arguments and results together
+  pub listEnough : length listed ≤ 512
+  pub marksEnough : length marked ≤ 512
+  pub usesEnough : {arguments methods : Forest Node} → Interface (mainDefinitions b) (resolveActor b) arguments methods → (n : ℕ) →
+      length (row n) ≤ breadth arguments + argumentsAndResults (mainDefinitions b) methods
   -- "The uses are the rows that document 01 states.": of the class arguments and methods that the actor offers; a name not listed has none
   pub offers : (arguments : Forest Node) × (methods : Forest Node) × Interface (mainDefinitions b) (resolveActor b) arguments methods
   pub rows : {arguments methods : Forest Node} → Interface (mainDefinitions b) (resolveActor b) arguments methods → (n : ℕ) →
@@ -108,7 +113,7 @@ pub record DraftAnswers (b : Book) : Type 0 where
   pub told : (n : ℕ) → draftList b ≡ refused (Unbound n) → Lost (draftDefinitions b) (mainActor b) n
   pub firstMet : (n : ℕ) → (draftList b ≡ refused (Unbound n)) ↔ Misses (draftDefinitions b) (references (mainActor b)) [] [] n
   -- if none lacks one, it is answered
-  pub answered : ((n : ℕ) → Lost (draftDefinitions b) (mainActor b) n → ⊥) → (l : List ℕ) × Gives (draftList b) l
+  pub answered : ((n : ℕ) → Lost (draftDefinitions b) (mainActor b) n → ⊥) → (l : List ℕ) × Gives (draftList b) l × (length l ≤ 512)
   -- "an answered one lists what is reachable in the same way."
   pub lists : (places : ℕ) (l : List ℕ) → fit places (draftList b) ≡ given l → Lists (draftDefinitions b) (mainActor b) l
 
@@ -215,6 +220,9 @@ demand-3 b fits passed some =
       listGiven = gives (list b) (a .answer);
       marksGiven = gives (marksOver b (a .names)) (m .1);
       usesGiven = λ n. gives (uses b n) (answered n);
+      listEnough = a .short;
+      marksEnough = m .3;
+      usesEnough = uses-room b fits passed some;
       offers = (classArguments (resolveActor b), offered .0, offered .1);
       rows = uses-given b fits passed some;
       unlisted = λ n h.
@@ -234,7 +242,7 @@ demand-3-draft b fits some once =
       );
       told = λ n e. misses-lost (draftDefinitions b) (mainActor b) (stops n .0 e) (λ m i. direct i);
       firstMet = stops;
-      answered = λ all. ⊎-elim (λ x. absurd (all (x .0) (x .2))) (λ a. (a .names, gives (draftList b) (a .answer))) (draft-either b fits some once);
+      answered = λ all. ⊎-elim (λ x. absurd (all (x .0) (x .2))) (λ a. (a .names, gives (draftList b) (a .answer), a .short)) (draft-either b fits some once);
       lists = λ places l e. lists-all (draft-says b fits some once l .0 (fit-given places (draftList b) e) .1) once;
     }
 
@@ -259,3 +267,10 @@ p1-listed = let e = sym (p1-answers .listGiven .0) ∙ p1-list in cc
 
 pub p1-draft : DraftAnswers p1
 p1-draft = demand-3-draft p1 p1-fits p1-main p1-once
+
+-- ---- A book with a method ring is such a book too; and a draft whose import has the definition that it lacks is refused
+pub ring-answers : Answers ring
+ring-answers = demand-3 ring ring-fits ring-passes ring-actor
+
+pub lost-draft : DraftAnswers importing × (draftList importing ≡ refused (Unbound 3))
+lost-draft = (demand-3-draft importing import-fits import-main import-once, import-draft)

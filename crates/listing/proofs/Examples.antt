@@ -139,12 +139,27 @@ pub circle-list : list (book (type 0 1 (plain OptT (name 2)) ∷ (type 0 2 (plai
 unfolding listed
 circle-list = refl
 
-pub ring-list : list (book (type 0 1 (plain (FuncT 1 []) (plain ServT (field (Named 0) (VarT 1) end))) ∷ []) (service 0 (name 1))) ≡ given (1 ∷ [])
+abbrev pub ring : Book
+ring = book (type 0 1 (plain (FuncT 1 []) (plain ServT (field (Named 0) (VarT 1) end))) ∷ []) (service 0 (name 1))
+
+pub ring-list : list ring ≡ given (1 ∷ [])
 unfolding listed
 ring-list = refl
 
+pub ring-fits : Fits ring
+unfolding fitting
+ring-fits = tt
+
+pub ring-passes : check ring ≡ Passed
+unfolding checked
+ring-passes = refl
+
+pub ring-actor : resolveActor ring ≡ end → ⊥
+unfolding checked
+ring-actor e = let z : _≡_ {A = ℕ} 0 1 = cc in omega arith
+
 -- ---- Drafts: type a = opt z in main, and z = nat in the import
-abbrev importing : Book
+abbrev pub importing : Book
 importing = book (type 0 1 (plain OptT (name 3)) ∷ (type 1 3 (plain (PrimT Nat) end) ∷ [])) (service 0 (name 1))
 
 pub import-list : list importing ≡ given (3 ∷ 1 ∷ [])
@@ -155,6 +170,18 @@ import-list = refl
 pub import-draft : draftList importing ≡ refused (Unbound 3)
 unfolding drafted
 import-draft = refl
+
+pub import-fits : Fits importing
+unfolding fitting
+import-fits = tt
+
+pub import-main : mainActor importing ≡ end → ⊥
+unfolding drafted
+import-main e = let z : _≡_ {A = ℕ} 0 1 = cc in omega arith
+
+pub import-once : Distinct (map nameOf (draftDefinitions importing))
+unfolding drafted
+import-once = once-says (draftDefinitions importing) .0 refl
 
 -- type a = opt b; type b = nat
 pub draft-list : draftList (book (type 0 1 (plain OptT (name 2)) ∷ (type 0 2 (plain (PrimT Nat) end) ∷ [])) (service 0 (name 1))) ≡ given (2 ∷ 1 ∷ [])

@@ -573,10 +573,10 @@ module _ (b : Book) (fits : Fits b) (passed : check b ≡ Passed) where
 
   -- Over what a walk listed.
   pub marks-listed : {start : Forest Node} {seen out : List ℕ} → Listed ds start seen out →
-      (m : List ℕ) × (marksOver b out ≡ given m) × MarksIn ds out m
+      (m : List ℕ) × (marksOver b out ≡ given m) × MarksIn ds out m × (length m ≤ 512)
   marks-listed {out = out} walked =
       let g = marks-given out (λ n i. walked .defined n (walked .sound n i)) in
-      (g .0, g .1, marks-in walked (g .0) (g .2))
+      (g .0, g .1, marks-in walked (g .0) (g .2), omega (arith, few-marks out (g .0) (g .2), few-definitions))
 
 -- ---- P1 of document 01: of what is listed, pair and tree, tree alone is marked
 

@@ -1,6 +1,6 @@
 -- `replace_empty` meets its contract: what is left of the names leaves the marks that all of them do. Assumes nothing.
 use Prim.Native.Nat.{ℕ, _-_}
-use mathlib.Core.Path.{sym, subst, _∙_}
+use mathlib.Core.Path.{sym, subst}
 use mathlib.Core.List.{List}
 use native.Mathlib.Omega.{arith}
 use Rattle.environment.proofs.Emptied.{KeysLeft, keys-start, keys-on, keys-end}
@@ -18,27 +18,34 @@ no-flags-requires c κs = tt
 
 loop-holds : tie.Need-loop-holds Inv-loop μ-loop
 loop-holds c =
-    let s = c .before .before .before in
-    let a = s .args in
-    subst (λ (l : List ℕ). KeysLeft (a .rows .now) (a .roots .now) (a .names) l 0) (sym (c .no-flags .ensures)) (keys-start _ _ _ (s .pre .nodes .fewNames))
-
-slice-aggregate-visit-key : tie.Need-slice-aggregate-visit-key Inv-loop μ-loop
-slice-aggregate-visit-key c = sym (c .before .before .loop .inv .long)
+    let a = c .before .before .before .args in
+    subst (λ (l : List ℕ). KeysLeft (a .rows .now) (a .roots .now) (a .names) l 0) (sym (c .no-flags .ensures)) (keys-start _ _ _ (c .before .before .before .pre .nodes .fewNames))
 
 visit-key-requires : tie.Need-visit-key-requires Inv-loop μ-loop
-visit-key-requires c κs = (c .before .before .before .before .before .before .pre, c .before .before .loop .inv .long, c .before .loop-test .taken)
+visit-key-requires c κs = (c .before .before .before .before .before .pre, c .loop-test .taken)
 
 add-n : tie.Need-add-n Inv-loop μ-loop
-add-n c = omega (arith, c .before .before .before .loop-test .taken, c .before .before .before .before .before .before .before .before .pre .nodes .fewNames)
+add-n c = omega (arith, c .before .loop-test .taken, c .before .before .before .before .before .before .pre .nodes .fewNames)
 
 loop-less : tie.Need-loop-less Inv-loop μ-loop
-loop-less c = omega (arith, c .before .before .before .loop-test .taken)
+loop-less c = omega (arith, c .before .loop-test .taken)
 
 loop-again : tie.Need-loop-again Inv-loop μ-loop
-loop-again c = keys-on (c .before .before .before .before .loop .inv) (c .before .before .before .loop-test .taken) (c .before .visit-key .kept .1 .1 .0 ∙ c .before .before .before .before .loop .inv .long) (c .before .visit-key .ensures)
+loop-again c = keys-on (c .before .before .loop .inv) (c .before .loop-test .taken) (c .visit-key .ok .1 .0 .1) (c .visit-key .ensures)
 
 returns : tie.Need-returns Inv-loop μ-loop
 returns c = keys-end (c .before .before .before .before .before .pre .nodes .fewNames) (c .before .loop .inv) (c .loop-test .left)
 
 pub replace-empty-spec : {M : Type 1} → statement M
-replace-empty-spec = tie.close (tie.spec Inv-loop μ-loop no-flags-requires loop-holds slice-aggregate-visit-key visit-key-requires add-n loop-less loop-again returns)
+replace-empty-spec =
+    tie.close
+    (tie.spec
+    Inv-loop
+    μ-loop
+    no-flags-requires
+    loop-holds
+    visit-key-requires
+    add-n
+    loop-less
+    loop-again
+    returns)

@@ -1,0 +1,418 @@
+#!/usr/bin/env python3
+r"""Answers document 01's questions on a book, by the paper alone:  python3 tools/answers.py BOOK-OR-SOURCE.did
+
+This is a second reading of document 01 and of the Rust functions that it names, for the tests; tools/layout.py reads the
+bytes. It prints, one line each, what the program answer_batch prints of the book after its name:
+
+    list OUTCOME            the definition list
+    marks OUTCOME           the marks over that list, over no names where it is refused
+    init OUTCOME            the init list
+    draft OUTCOME           the draft list
+    empty OUTCOME           the names that are empty
+    uses "NAME" OUTCOME     for each name of the table: its uses, METHOD.KIND.INDEX,
+    project "NAME" OUTCOME  the positions of the methods projected when it is asked for once
+    twice "NAME" OUTCOME    and twice
+
+OUTCOME is `given`, the number of entries and these, or `refused`, the number and the name or `-`.
+"""
+
+import functools
+import sys
+from collections import namedtuple
+
+import layout
+import mkbook
+
+sys.setrecursionlimit(1 << 16)
+
+NAME, OPT, VEC, RECORD, VARIANT, FUNC, SERVICE, CLASS, ARGS = range(18, 27)
+MAIN, TYPE_IMPORT, SERVICE_IMPORT, INIT = range(4)
+ONEWAY = 1
+OF_CLASS = 65535  # stands for the method in a use by an argument of the actor's class
+MOST_USES = 4096  # entries in the list that answer_batch lends for uses; its other lists are long enough for all
+
+Tree = namedtuple("Tree", "kind label_kind label value kids")
+Definition = namedtuple("Definition", "name file type")
+File = namedtuple("File", "name role type")  # type is None without a root
+
+
+class Refused(Exception):
+    """A refusal: document 01's number, and a name number where its row has one."""
+
+    def __init__(self, number, name=None):
+        self.number, self.name = number, name
+
+
+class Book:
+    """Names as bytes; definitions and files with their trees. 1 if the layout is broken."""
+
+    def __init__(self, data):
+        reader = layout.Reader(data)
+        if reader.faults:
+            raise Refused(1)
+        rows, trees = reader.book, {layout.NO_ROOT: None}
+        for at in reversed(range(len(rows.nodes))):  # children come after their parent
+            node, kids, child = rows.nodes[at], [], at + 1
+            while child < at + node.size:
+                kids.append(trees[child])
+                child += rows.nodes[child].size
+            trees[at] = Tree(node.kind, node.label_kind, node.label, node.value, kids)
+        self.names = rows.names
+        self.definitions = [Definition(row.name, row.file, trees[row.root]) for row in rows.definitions]
+        self.files = [File(row.name, row.role, trees[row.root]) for row in rows.files]
+
+    def definitions_of(self, *roles):
+        return [row for row in self.definitions if self.files[row.file].role in roles]
+
+
+# Trees
+
+def nodes(tree):
+    """A tree's nodes in preorder."""
+    found, left = [], [tree]
+    while left:
+        found.append(left.pop())
+        left += reversed(found[-1].kids)
+    return found
+
+
+def arguments_of(function):
+    return function.kids[:function.value % 65536]
+
+
+def results_of(function):
+    return function.kids[function.value % 65536:]
+
+
+def modes_of(function):
+    return [digit for digit in layout.digits_of(function) if digit]
+
+
+def below_class(actor):
+    """The service of a class, or the actor itself."""
+    return actor.kids[-1] if actor.kind == CLASS else actor
+
+
+def alias_end(env, tree):
+    """The type that a chain of names ends in, None where it runs into a circle."""
+    crossed = set()
+    while tree.kind == NAME:
+        if tree.value in crossed:
+            return None
+        crossed.add(tree.value)
+        tree = env[tree.value]
+    return tree
+
+
+# The check
+
+def once(definitions):
+    """2: the definitions by name."""
+    env = {}
+    for row in definitions:
+        if row.name in env:
+            raise Refused(2, row.name)
+        env[row.name] = row.type
+    return env
+
+
+def check_type(env, tree, methods):
+    """3, 4, 5, 6 and, if methods are tested, 9: children first, left to right."""
+    if tree.kind == NAME and tree.value not in env:
+        raise Refused(3, tree.value)
+    if tree.kind == CLASS:
+        raise Refused(4)
+    for kid in tree.kids:
+        check_type(env, kid, methods)
+        if methods and tree.kind == SERVICE and alias_end(env, kid).kind != FUNC:
+            raise Refused(9, kid.label)
+    if tree.kind == FUNC:
+        if len(modes_of(tree)) > 1:
+            raise Refused(5)
+        if modes_of(tree) == [ONEWAY] and results_of(tree):
+            raise Refused(6)
+
+
+def check_decs(definitions):
+    """2 to 8."""
+    env = once(definitions)
+    for row in definitions:
+        check_type(env, row.type, False)
+    for name in sorted(env):
+        if alias_end(env, env[name]) is None:
+            raise Refused(7, name)
+    for row in definitions:
+        for node in nodes(row.type):
+            if node.kind == SERVICE and any(alias_end(env, method).kind != FUNC for method in node.kids):
+                raise Refused(8)
+    return env
+
+
+def chase_service(env, tree, refusal):
+    """The methods of a service, names followed; 3, or the refusal if it is none."""
+    while tree.kind == NAME:
+        if tree.value not in env:
+            raise Refused(3, tree.value)
+        tree = env[tree.value]
+    if tree.kind != SERVICE:
+        raise refusal
+    return tree.kids
+
+
+def resolve_actor(book, env):
+    """The actor, None where there is none. With service imports: main's methods, then theirs."""
+    actor = book.files[0].type
+    imports = [file for file in book.files if file.role == SERVICE_IMPORT]
+    if not imports:
+        return actor
+    methods = [] if actor is None else list(chase_service(env, below_class(actor), Refused(10)))
+    for file in imports:
+        methods += chase_service(env, file.type, Refused(13, file.name))
+    hashes = set()
+    for method in methods:
+        number = layout.label_number(book.names[method.label])
+        if number in hashes:
+            raise Refused(14, method.label)
+        hashes.add(number)
+    service = Tree(SERVICE, 0, 0, 0, methods)
+    if actor is not None and actor.kind == CLASS:
+        return Tree(CLASS, 0, 0, 0, actor.kids[:-1] + [service])
+    return service
+
+
+def check_actor(env, actor):
+    """3, 4, 5, 6, 9, and then 10."""
+    for tree in actor.kids if actor.kind == CLASS else [actor]:
+        check_type(env, tree, True)
+    if alias_end(env, below_class(actor)).kind != SERVICE:
+        raise Refused(10)
+
+
+def examine(book):
+    for file in book.files:
+        if file.role == SERVICE_IMPORT and file.type is None:
+            raise Refused(12, file.name)
+    env = check_decs(book.definitions_of(MAIN, TYPE_IMPORT, SERVICE_IMPORT))
+    actor = resolve_actor(book, env)
+    if actor is not None:
+        check_actor(env, actor)
+    return env, actor
+
+
+@functools.cache
+def examined(book):
+    try:
+        return examine(book)
+    except Refused as refusal:
+        return refusal
+
+
+def check(book):
+    """The definitions of roles 0 to 2 by name, and the actor or None, of a book that passes."""
+    found = examined(book)
+    if isinstance(found, Refused):
+        raise Refused(found.number, found.name)
+    return found
+
+
+def merging(names, tree):
+    """What a merge compares: a node's children are told by their labels, fields by label number, methods by name."""
+    def label(parent, kid):
+        by_number = parent.kind != SERVICE and kid.label_kind == 2
+        return layout.label_number(names[kid.label]) if by_number else kid.label
+
+    return [(node.kind, node.value, [label(node, kid) for kid in node.kids]) for node in nodes(tree)]
+
+
+def init_check(book):
+    """The merged definitions and the init arguments."""
+    env, _ = check(book)
+    if book.files[-1].role != INIT:
+        return env, []
+    own, arguments = check_decs(book.definitions_of(INIT)), book.files[-1].type.kids
+    for name in sorted(own):
+        if name in env and merging(book.names, own[name]) != merging(book.names, env[name]):
+            raise Refused(11, name)
+    merged = {**env, **own}
+    for argument in arguments:
+        check_type(merged, argument, True)
+    return merged, arguments
+
+
+# The questions
+
+def chase_types(env, trees):
+    """The names met, each after those first met inside its definition; 3."""
+    seen, found = set(), []
+
+    def walk(tree):
+        if tree.kind == NAME and tree.value not in seen:
+            seen.add(tree.value)
+            if tree.value not in env:
+                raise Refused(3, tree.value)
+            walk(env[tree.value])
+            found.append(tree.value)
+        for kid in tree.kids:
+            walk(kid)
+
+    for tree in trees:
+        walk(tree)
+    return found
+
+
+def with_actor(book):
+    """The check, then 17."""
+    env, actor = check(book)
+    if actor is None:
+        raise Refused(17)
+    return env, actor
+
+
+def definition_list(book):
+    env, actor = with_actor(book)
+    return chase_types(env, [actor])
+
+
+def init_list(book):
+    return chase_types(*init_check(book))
+
+
+def draft_list(book):
+    """The main file alone, unchecked: 17, 2, 3."""
+    actor = book.files[0].type
+    if actor is None:
+        raise Refused(17)
+    return chase_types(once(book.definitions_of(MAIN)), [actor])
+
+
+def marks(book, listed):
+    """`infer_rec`: the names met in a listed definition before they are listed, ascending; 3."""
+    env, _ = check(book)
+    seen, marked = set(), set()
+    for name in listed:
+        if name not in env:
+            raise Refused(3, name)
+        marked |= {node.value for node in nodes(env[name]) if node.kind == NAME} - seen
+        seen.add(name)
+    return sorted(marked)
+
+
+@functools.cache
+def chase_def_use(book):
+    """The uses of each name that has any; of those too many for the list lent, one more than it holds."""
+    env, actor = with_actor(book)
+    actor, rows, reached = alias_end(env, actor), {}, {}
+
+    def used(method, kind, trees):
+        for index, tree in enumerate(trees):
+            if id(tree) not in reached:  # a function may be that of many methods
+                reached[id(tree)] = chase_types(env, [tree])
+            for name in reached[id(tree)]:
+                row = rows.setdefault(name, [])
+                if len(row) <= MOST_USES:
+                    row.append((method, kind, index))
+
+    if actor.kind == CLASS:
+        used(OF_CLASS, 0, actor.kids[:-1])
+    for position, method in enumerate(alias_end(env, below_class(actor)).kids):
+        function = alias_end(env, method)
+        used(position, 0, arguments_of(function))
+        used(position, 1, results_of(function))
+    return rows
+
+
+def uses(book, name):
+    found = chase_def_use(book).get(name, [])
+    if len(found) > MOST_USES:
+        raise Refused(16)
+    return found
+
+
+def project(book, asked):
+    """Methods in order take an asked name of theirs while one is left; 15."""
+    env, actor = with_actor(book)
+    left, taken = list(asked), []
+    for position, method in enumerate(alias_end(env, below_class(actor)).kids):
+        if method.label in left:
+            left.remove(method.label)
+            taken.append(position)
+    if left:
+        raise Refused(15, min(left))
+    return taken
+
+
+def emptiness(book):
+    """The names from which aliases and record fields that are names lead to a circle: those that remain when a name
+    that leads to none of the others is taken away again and again."""
+    env, _ = check(book)
+    steps = {name: {node.value for node in [tree, *(tree.kids if tree.kind == RECORD else [])] if node.kind == NAME}
+             for name, tree in env.items()}
+    left = set(steps)
+    while True:
+        ending = {name for name in left if not steps[name] & left}
+        if not ending:
+            return sorted(left)
+        left -= ending
+
+
+# Lines
+
+def outcomes(data):
+    """Each question of answer_batch on a book, with its entries or its refusal as they are printed."""
+    try:
+        book = Book(data)
+    except Refused:
+        return {question: "refused 1 -" for question in ("list", "marks", "init", "draft", "empty")}
+
+    def name(number):
+        return layout.quoted(book.names[number])
+
+    def outcome(spelled, question, *asked):
+        try:
+            entries = question(book, *asked)
+        except Refused as refusal:
+            return f"refused {refusal.number} {'-' if refusal.name is None else name(refusal.name)}"
+        return " ".join([f"given {len(entries)}", *map(spelled, entries)])
+
+    def listed():
+        try:
+            return definition_list(book)
+        except Refused:
+            return []
+
+    found = {"list": outcome(name, definition_list), "marks": outcome(name, marks, listed()),
+             "init": outcome(name, init_list), "draft": outcome(name, draft_list), "empty": outcome(name, emptiness)}
+    for number in range(len(book.names)):
+        found[f"uses {name(number)}"] = outcome(lambda use: ".".join(map(str, use)), uses, number)
+        found[f"project {name(number)}"] = outcome(str, project, [number])
+        found[f"twice {name(number)}"] = outcome(str, project, [number, number])
+    return found
+
+
+def listing(data):
+    """What the program `list` prints of a book."""
+    try:
+        book = Book(data)
+        listed = definition_list(book)
+        marked = marks(book, listed)
+    except Refused as refusal:
+        return f"refused {refusal.number} {'-' if refusal.name is None else layout.quoted(book.names[refusal.name])}\n"
+    lines = [f"list {len(listed)} marked {len(marked)}"]
+    lines += [f"{place} {'r' if name in marked else '-'} {layout.quoted(book.names[name])}"
+              for place, name in enumerate(listed, 1)]
+    return "\n".join(lines) + "\n"
+
+
+def main():
+    if len(sys.argv) != 2:
+        sys.exit("usage: python3 tools/answers.py BOOK-OR-SOURCE.did")
+    with open(sys.argv[1], "rb") as file:
+        data = file.read()
+    if sys.argv[1].endswith(".did"):
+        data = mkbook.book(data.decode())
+    for question, outcome in outcomes(data).items():
+        print(question, outcome)
+
+
+if __name__ == "__main__":
+    main()
