@@ -16,27 +16,15 @@ use borrow.Author.Tests.{eq-eqb, ne-eqb, lt-ltb, le-ltb}
 use lib.Dec.{T, ltb}
 use lib.ListN.{length, getD, set, drop, length-set, length-replicate, getD-replicate, List·getD-eq-default, drop-of-length-le}
 use lib.Seq.{drop-cons, getD-set-same, getD-set-other}
-use Rattle.labels.specs.declared.Label.the-variants.{Named}
-use Rattle.format.specs.Forest.{Forest, end, tree}
-use Rattle.format.specs.Node.{ServT, labelled, Node, labelValue}
 use Rattle.judgement.specs.Check.{member}
-use Rattle.judgement.specs.WellFormed.{methodNames}
 use Rattle.environment.specs.Flags.{noFlags}
 use Rattle.listing.specs.Offers.{one, times}
-use Rattle.listing.specs.Project.{without, take′, projectFrom, lowest}
+use Rattle.listing.specs.Project.{without, lowest}
 use Rattle.listing.specs.Questions.{leftOver}
-use Rattle.listing.proofs.Projected.{member-times, listed-times, lowest-least, lowest-listed, projection-left}
+use Rattle.listing.proofs.Projected.{one-same, one-other, member-times, without-times, shrink, shrink-times, listed-times, lowest-least, lowest-listed}
 use Rattle.analysis.specs.Projecting.{Asking, countOne, lowerFar, outcomeOf, LowestAs}
 
 -- ---- How often a name stands in a list
-one-same : (n m : ℕ) → n ≡ m → one n m ≡ 1
-unfolding one
-one-same n m e = rw (eq-eqb n m e)
-
-one-other : (n m : ℕ) → (n ≡ m → ⊥) → one n m ≡ 0
-unfolding one
-one-other n m h = rw (ne-eqb n m h)
-
 times-cons : (n m : ℕ) (l : List ℕ) → times n (m ∷ l) ≡ one n m + times n l
 unfolding times
 times-cons n m l = refl
@@ -49,16 +37,10 @@ unfolding times
 times-length n [] = omega arith
 times-length n (m ∷ l) = omega (arith, one-most n m, times-length n l)
 
--- Taking a name out of the list takes it once: a service of one method is projected to it.
+-- Taking a name out of the list takes it once.
 shrunk-times : (n : ℕ) (l : List ℕ) (k : ℕ) → times k (cond (member n l) (without n l) l) ≡ times k l - one k n
-unfolding projectFrom take′ methodNames labelValue times
-shrunk-times n l k =
-    let method : Forest Node = tree (record { kind = ServT; label = labelled (Named n) }) end end in
-    go (member n l) (cond (member n l) (without n l) l) (projection-left method l k)
-  where
-    go : (b : Bool) (left : List ℕ) → times k (take′ b 0 (record { taken = []; left = left }) .left) ≡ times k l - (one k n + 0) → times k left ≡ times k l - one k n
-    go true left e = omega (arith, e)
-    go false left e = omega (arith, e)
+unfolding shrink
+shrunk-times n l k = shrink-times without without-times n l k
 
 -- ---- Names that are asked for
 module _ {left : List ℕ} {far : ℕ} {l : List ℕ} (a : Asking left far l) {n : ℕ} (h : n < 1024) where

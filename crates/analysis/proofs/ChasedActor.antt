@@ -1,14 +1,13 @@
 -- The walk from a start, and over an actor as written and merged. Assumes nothing.
 use mathlib.Core.Path.{_≡_, refl, sym, ap, subst, _∙_}
 use mathlib.Core.Bool.{Bool, true, false, cond}
-use mathlib.Core.List.{List, [], _∷_, List·Memᴰ·not-nil}
+use mathlib.Core.List.{List, [], List·Memᴰ·not-nil}
 use Prim.Native.Nat.{ℕ, suc, _+_, _≤_, _<_}
-use native.Mathlib.Numerals.{add-one}
 use native.Mathlib.Omega.{arith}
 use borrow.Author.Tests.{ne-eqb}
 use lib.Dec.{eqb}
 use lib.ListN.{length, getD, take, replicate, length-replicate}
-use lib.Seq.{slice, slice-empty, slice-cons}
+use lib.Seq.{slice}
 use Rattle.format.specs.Forest.{Forest, end, tree, beside}
 use Rattle.format.specs.Node.{Node}
 use Rattle.format.specs.Book.{Definition}
@@ -24,12 +23,12 @@ use Rattle.judgement.specs.WellFormed.{none}
 use Rattle.environment.specs.Flags.{noFlags}
 use Rattle.typing.specs.declared.actor.Actor.{Actor}
 use Rattle.typing.specs.Actors.{Tabled, LastAs, methodsIn, mergedOf, actorTree, ActorStored}
-use Rattle.typing.proofs.Classes.{tree-class, tree-kids, arguments-are}
+use Rattle.typing.proofs.Classes.{tree-class, arguments-are}
 use Rattle.listing.specs.Chase.{Walk as State, going, arm, chase, visit, chaseTypes}
 use Rattle.analysis.specs.declared.chase.Walk.{Walk}
 use Rattle.analysis.specs.Book.{Rooted, Readable}
 use Rattle.analysis.specs.Walking.{Goes, Holds, Started, ChasedAs, Counted, noList, nothingMet, WalkedAs, RootIn, ActorIn}
-use Rattle.analysis.proofs.BookNodes.{here-whole, here-top, here-ends}
+use Rattle.analysis.proofs.BookNodes.{here-whole, here-top, here-ends, services-over, services-open}
 
 -- ---- a walk that has met nothing
 no-marks : (m n : ℕ) → eqb (getD (replicate m 0) n 0) 1 ≡ member n []
@@ -137,13 +136,6 @@ module _ {ns roots : List ℕ} {definitions root count : ℕ} {services : List �
         record { definitions = t .ds; binds = t .tabled .0; few = omega (arith, t .tabled .1, t .few); entered = 0; state = c .state; holds = c .holds }
 
     module _ (h : k < count) (long : count ≤ length services) (w : WholeAt ns (getD services k 0)) (q : Row) (is : q ≡ rowAt ns (getD services k 0)) where
-      opens-at : methodsIn ns (slice k count services) ≡ beside (siblings ns (getD services k 0 + 1) (getD services k 0 + q .size)) (methodsIn ns (slice (k + 1) count services))
-      unfolding methodsIn
-      opens-at =
-          let s : ℕ = getD services k 0 in
-          ap (methodsIn ns) (slice-cons k count services 0 h long ∙ ap (λ (j : ℕ). s ∷ slice j count services) (sym (add-one k)))
-          ∙ ap (λ (f : Forest Node). beside f (methodsIn ns (slice (k + 1) count services))) (tree-kids w ∙ ap (λ (r : Row). siblings ns (s + 1) (s + r .size)) (sym is))
-
       pub services-on : (x : Walk) → ChasedAs ns roots (getD services k 0 + 1) (getD services k 0 + q .size) (definitions + 1) v x → ServicesLeft ns roots definitions root count services x (k + 1)
       services-on x c = record { passed = omega arith; come = come }
         where
@@ -155,7 +147,7 @@ module _ {ns roots : List ℕ} {definitions root count : ℕ} {services : List �
               record {
                 state = chase f kids (y .state);
                 holds = c ds 0 (y .state) (b .0) (omega (arith, b .1, t .few)) (y .holds);
-                same = sym (ap (λ (g : Forest Node). chase f g (y .state)) opens-at ∙ chase-beside f kids (methodsIn ns (slice (k + 1) count services)) (y .state)) ∙ y .same;
+                same = sym (ap (λ (g : Forest Node). chase f g (y .state)) (services-open ns services h long w is) ∙ chase-beside f kids (methodsIn ns (slice (k + 1) count services)) (y .state)) ∙ y .same;
               }
 
 module _ {ns roots : List ℕ} {definitions : ℕ} (t : Counted ns roots definitions) (a : Actor) where
@@ -165,16 +157,15 @@ module _ {ns roots : List ℕ} {definitions : ℕ} (t : Counted ns roots definit
 
   pub actor-merged : a .merged ≡ true → {v : Walk} {k : ℕ} → ServicesLeft ns roots definitions (a .root) (a .count) (a .services) v k → a .count ≤ k →
       WalkedAs ns roots definitions (actorTree ns a) v
-  unfolding actorTree methodsIn chase chaseTypes
+  unfolding actorTree chase chaseTypes
   actor-merged m {v} {k} l h ds b =
       let c = l .come ds b in
       let d : definitions + 1 ≡ suc (length ds) = omega (arith, b .1) in
-      let z : k ≡ a .count = omega (arith, l .passed) in
       let f = visit (definitions + 1) ds in
       let main = actorAt ns (a .root) in
       let methods = methodsIn ns (take (a .count) (a .services)) in
       let over : c .state ≡ chase f methods (chaseTypes ds (classArguments main)) =
-      sym (ap (λ (j : ℕ). chase f (methodsIn ns (slice j (a .count) (a .services))) (c .state)) z ∙ ap (λ (q : List ℕ). chase f (methodsIn ns q) (c .state)) (slice-empty (a .count) (a .services))) ∙ c .same in
+      sym (ap (λ (g : Forest Node). chase f g (c .state)) (services-over ns (a .services) (l .passed) h)) ∙ c .same in
       let all : c .state ≡ chaseTypes ds (mergedOf main methods) =
       over ∙ ap (λ (j : ℕ). chase (visit j ds) methods (chaseTypes ds (classArguments main))) d ∙ sym (merged-chase (visit (suc (length ds)) ds) main methods (going [] [])) in
       rw m (subst (λ (s : State). Holds ds 0 s v) all (c .holds))

@@ -19,9 +19,9 @@ use Rattle.listing.proofs.Folds.{each}
 use Rattle.analysis.specs.declared.chase.Walk.{Walk}
 use Rattle.analysis.specs.Book.{Readable}
 use Rattle.analysis.specs.Walking.{Goes, Holds, Started, ChasedAs, isNew, Scanned, NextNew}
-use Rattle.analysis.proofs.BookNodes.{here-within, here-small, here-readable}
+use Rattle.analysis.proofs.BookNodes.{here-within, here-small, here-readable, rowNames}
 use Rattle.analysis.proofs.Scanning.{new-kind, new-unset}
-use Rattle.analysis.proofs.Chasing.{rowNames, chase-rows, each-stopped, each-zero, visit-missing, visit-body, rows-none, rows-name, rows-skip, marked, extended, holds-goes, holds-stopped, goes-enter, goes-room, goes-list}
+use Rattle.analysis.proofs.Chasing.{chase-rows, each-stopped, each-zero, visit-missing, visit-body, rows-none, rows-name, rows-skip, marked, extended, holds-goes, holds-stopped, goes-enter, goes-room, goes-list}
 
 -- A walk that has come to row i: what is left of the rows from here, at depth `suc k`, is what all of them are from the first state.
 pub record Come (ns : List ℕ) (ds : List Definition) (k entered from until i : ℕ) (s : State) (v : Walk) : Type 0 where

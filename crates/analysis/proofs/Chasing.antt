@@ -5,65 +5,40 @@
 --     goes-short                  there is room for all
 use mathlib.Core.Path.{_≡_, refl, sym, ap, subst, _∙_}
 use mathlib.Core.Logic.{⊎-elim}
-use mathlib.Core.Bool.{Bool, true, false, _||_}
+use mathlib.Core.Bool.{true, false}
 use mathlib.Core.List.{List, [], _∷_, _++_, map, List·Memᴰ·cases-cons}
 use Prim.Native.Nat.{ℕ, zero, suc, _+_, _-_, _≤_, _<_}
 use native.Mathlib.Decide.{decLt, ℕ-discrete}
 use native.Mathlib.Numerals.{add-one}
 use native.Mathlib.Omega.{arith}
-use borrow.Author.Tests.{eq-eqb, ne-eqb}
-use lib.Dec.{T, eqb}
-use lib.ListN.{length, getD, set, length-map, length-set}
-use lib.Seq.{getD-set-same, getD-set-other, take-suc-set}
+use lib.Dec.{T}
+use lib.ListN.{length, set, length-map, length-set}
+use lib.Seq.{take-suc-set}
 use Rattle.format.specs.Forest.{Forest}
 use Rattle.format.specs.Node.{Node}
 use Rattle.format.specs.Book.{Definition}
-use Rattle.format.specs.Layout.{rowAt, run, siblings}
-use Rattle.format.specs.Whole.{Whole, treeAt}
-use Rattle.format.proofs.References.{varsOf, references-siblings}
+use Rattle.format.specs.Layout.{rowAt, siblings}
+use Rattle.format.specs.Whole.{Whole}
+use Rattle.format.proofs.References.{references-siblings}
 use Rattle.format.proofs.Rows.{opens, siblings-opens, siblings-none}
 use Rattle.format.proofs.Stored.{tree-opens}
 use Rattle.judgement.specs.Environment.{missing, body, findType}
 use Rattle.judgement.specs.Check.{member}
 use Rattle.judgement.specs.WellFormed.{more, nameOf, Defined}
 use Rattle.judgement.proofs.Lookup.{pigeonhole, member-says}
+use Rattle.judgement.proofs.Steps.{clash}
 use Rattle.environment.specs.Tables.{Nodes}
 use Rattle.listing.specs.Chase.{Walk as State, going, unbound, push, chase, meetName, visit}
-use Rattle.listing.proofs.Folds.{each, Leafy, fits-leafy, chase-each}
+use Rattle.listing.proofs.Folds.{each, Leafy, chase-each}
 use Rattle.analysis.specs.declared.chase.Walk.{Walk}
 use Rattle.analysis.specs.Book.{Agrees, Rooted, Readable}
 use Rattle.analysis.specs.Walking.{Goes, Holds, isNew}
-use Rattle.analysis.proofs.BookNodes.{here-trees}
+use Rattle.analysis.proofs.BookNodes.{here-leafy, rowNames, names-none, names-name, names-other}
+use Rattle.analysis.proofs.Going.{agrees-set}
 use Rattle.analysis.proofs.Scanning.{old-set}
-
--- ---- The names of rows
-abbrev pub rowNames : List ℕ → ℕ → ℕ → List ℕ
-rowNames ns i e = varsOf (run (rowAt ns) i (e - i))
-
-module _ (ns : List ℕ) (i e : ℕ) where
-  names-none : e ≤ i → rowNames ns i e ≡ []
-  unfolding varsOf run
-  names-none h = let z : e - i ≡ 0 = omega arith in rw z
-
-  names-open : i < e → rowNames ns i e ≡ varsOf (rowAt ns i ∷ run (rowAt ns) (i + 1) (e - (i + 1)))
-  unfolding run
-  names-open h =
-      let z : e - i ≡ suc (e - (i + 1)) = omega arith in
-      ap (λ (k : ℕ). varsOf (run (rowAt ns) i k)) z ∙ ap (λ (m : ℕ). varsOf (rowAt ns i ∷ run (rowAt ns) m (e - (i + 1)))) (sym (add-one i))
-
-  names-name : i < e → rowAt ns i .kind ≡ 18 → rowNames ns i e ≡ rowAt ns i .value ∷ rowNames ns (i + 1) e
-  unfolding varsOf
-  names-name h k = names-open h ∙ rw (eq-eqb (rowAt ns i .kind) 18 k)
-
-  names-other : i < e → (rowAt ns i .kind ≡ 18 → ⊥) → rowNames ns i e ≡ rowNames ns (i + 1) e
-  unfolding varsOf
-  names-other h k = names-open h ∙ rw (ne-eqb (rowAt ns i .kind) 18 k)
 
 -- ---- A walk over the trees of a book is one over the names of their rows
 module _ {ns roots : List ℕ} (b : Rooted ns roots) where
-  tree-leafy : (n : ℕ) → n < b .count → Leafy (treeAt ns n)
-  tree-leafy n h = let t = here-trees b h in fits-leafy (t .walk .names) (t .place) (treeAt ns n) (t .fits)
-
   leafy-from : (k i until : ℕ) → until ≤ i + k → until ≤ b .count → Whole ns i until → Leafy (siblings ns i until)
   leafy-from zero i until h m w = subst Leafy (sym (siblings-none ns i until (omega arith))) tt
   leafy-from (suc k) i until h m w = go (decLt i until) (leafy-from k)
@@ -72,7 +47,7 @@ module _ {ns roots : List ℕ} (b : Rooted ns roots) where
       go (no x) below = subst Leafy (sym (siblings-none ns i until (omega arith))) tt
       go (yes x) below =
           let o = opens w x in
-          let here = subst Leafy (tree-opens (o .here)) (tree-leafy i (omega arith)) in
+          let here = subst Leafy (tree-opens (o .here)) (here-leafy b (omega arith)) in
           subst Leafy (sym (siblings-opens o)) (here .0, here .1, below (i + rowAt ns i .size) until (omega (arith, o .here .one)) m (o .rest))
 
 pub leafy-rows : {ns roots : List ℕ} {from until : ℕ} → Readable ns roots from until → Leafy (siblings ns from until)
@@ -170,16 +145,13 @@ pub record Stopped (s : State) (w : Walk) : Type 0 where
   pub is : s ≡ unbound name
   pub bad : w .bad ≡ name
 
-not-both : {A : Type 0} {b : Bool} → b ≡ true → b ≡ false → A
-not-both x y = let z : _≡_ {A = ℕ} 0 1 = cc in absurd (omega arith)
-
 module _ (ds : List Definition) (entered : ℕ) where
   pub holds-goes : (s : State) (w : Walk) → Holds ds entered s w → w .stopped ≡ false → Going ds entered s w
   holds-goes (going seen out) w h f = record { seen = seen; out = out; is = refl; goes = h }
-  holds-goes (unbound n) w h f = not-both (h .0) f
+  holds-goes (unbound n) w h f = let e = h .0 in clash cc
 
   pub holds-stopped : (s : State) (w : Walk) → Holds ds entered s w → w .stopped ≡ true → Stopped s w
-  holds-stopped (going seen out) w h f = not-both f (h .goes)
+  holds-stopped (going seen out) w h f = let e = h .goes in clash cc
   holds-stopped (unbound n) w h f = record { name = n; is = refl; bad = h .1 }
 
   module _ {seen out : List ℕ} {w : Walk} (g : Goes ds entered seen out w) where
@@ -187,21 +159,12 @@ module _ (ds : List Definition) (entered : ℕ) where
     pub goes-short : length seen ≤ length ds
     goes-short = rw (length-map ds nameOf) at (pigeonhole (g .once) (map nameOf ds) (g .defined))
 
--- a mark more
-agrees-more : (marks seen : List ℕ) (n : ℕ) → length marks ≡ 1024 → n < 1024 → Agrees marks seen → Agrees (set marks n 1) (n ∷ seen)
-unfolding member
-agrees-more marks seen n long h a m k = go (ℕ-discrete m n)
-  where
-    go : Dec (m ≡ n) → eqb (getD (set marks n 1) m 0) 1 ≡ (eqb m n || member m seen)
-    go (yes e) = rw (eq-eqb m n e) (eq-eqb (getD (set marks n 1) m 0) 1 (rw e (getD-set-same marks n 1 0 (omega arith))))
-    go (no x) = rw (ne-eqb m n x) (ap (λ (v : ℕ). eqb v 1) (getD-set-other marks n m 1 0 x) ∙ a m k)
-
 module _ {ds : List Definition} {entered : ℕ} {seen out : List ℕ} {w : Walk} (g : Goes ds entered seen out w) (n : ℕ) where
   pub goes-enter : n < 1024 → member n seen ≡ false → Defined ds n → Goes ds (entered + 1) (n ∷ seen) out (marked w n)
   goes-enter h new d =
       record {
         goes = g .goes;
-        marks = agrees-more (w .seen) seen n (g .long) h (g .marks);
+        marks = agrees-set (w .seen) seen (g .marks) n (omega (arith, g .long));
         long = length-set (w .seen) n 1 ∙ g .long;
         listed = g .listed;
         room = g .room;

@@ -2,7 +2,7 @@
 --     flags-ascending          flags that tell a set give its names, ascending
 --     FlagsLeft, flags-..      the loop that lists them
 use mathlib.Core.Path.{_≡_, refl, sym, ap, _∙_}
-use mathlib.Core.Bool.{true, false, cond}
+use mathlib.Core.Bool.{cond}
 use mathlib.Core.List.{List, [], _∷_, _++_, append-assoc, append-nil}
 use Prim.Native.Nat.{ℕ, zero, suc, _+_, _-_, _≤_, _<_}
 use native.Mathlib.Nat.{sub-zero}
@@ -15,10 +15,6 @@ use Rattle.environment.specs.Flags.{isSet, flagged}
 use Rattle.listing.specs.Recursive.{ascending}
 use Rattle.analysis.specs.Book.{Agrees}
 use Rattle.analysis.specs.Handed.{noNames}
-
--- a test has one outcome
-pub true-false : {A : Type 0} → true ≡ false → A
-true-false e = let z : _≡_ {A = ℕ} 0 1 = cc in absurd (omega arith)
 
 pub flags-ascending : (flags l : List ℕ) → Agrees flags l → (n k : ℕ) → n + k ≤ 1024 → flagged flags n k ≡ ascending l n k
 unfolding flagged ascending

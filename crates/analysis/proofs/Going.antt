@@ -3,9 +3,9 @@
 --     tree-each                    a tree is gone through by its references
 --     GoLeft, go-..                the loop
 use mathlib.Core.Path.{_≡_, refl, sym, ap, subst, _∙_}
-use mathlib.Core.Bool.{Bool, true, false, cond, _||_}
+use mathlib.Core.Bool.{Bool, true, false, _||_}
 use mathlib.Core.List.{List, [], _∷_}
-use Prim.Native.Nat.{ℕ, suc, _+_, _-_, _≤_, _<_}
+use Prim.Native.Nat.{ℕ, _+_, _-_, _≤_, _<_}
 use native.Mathlib.Decide.{ℕ-discrete}
 use native.Mathlib.Omega.{arith}
 use borrow.Author.Tests.{eq-eqb, ne-eqb}
@@ -13,24 +13,20 @@ use lib.Dec.{eqb}
 use lib.ListN.{length, getD, set, length-set, length-replicate}
 use lib.Seq.{getD-set-same, getD-set-other}
 use Rattle.format.specs.Encode.{Row}
-use Rattle.format.specs.Layout.{run, rowAt}
+use Rattle.format.specs.Layout.{rowAt}
 use Rattle.format.specs.References.{references}
 use Rattle.format.specs.Whole.{Within, treeAt}
-use Rattle.format.proofs.Lists.{run-none, run-cons}
-use Rattle.format.proofs.References.{everywhere, varsOf, references-siblings}
+use Rattle.format.proofs.References.{everywhere, references-siblings}
 use Rattle.judgement.specs.Check.{member}
 use Rattle.environment.specs.Flags.{noFlags, isSet}
-use Rattle.environment.specs.Tables.{blankTable, Roots}
-use Rattle.environment.proofs.Defines.{blank-length, blank-at}
-use Rattle.typing.specs.Walk.{Trees}
-use Rattle.typing.proofs.NodeTrees.{node-trees}
 use Rattle.listing.specs.Recursive.{marking, unbound, note, noteName, go}
 use Rattle.listing.specs.Recursive as listing
 use Rattle.listing.proofs.Folds.{each}
-use Rattle.listing.proofs.Marked.{go-fits}
+use Rattle.listing.proofs.Marked.{go-each}
 use Rattle.analysis.specs.declared.recursive.Marks.{Marks}
 use Rattle.analysis.specs.Book.{Agrees}
 use Rattle.analysis.specs.Marking.{MarksHold, GoneThrough, NodeIn}
+use Rattle.analysis.proofs.BookNodes.{untabled, here-within, here-leafy, rowNames, names-none, names-name, names-other}
 
 -- ---- Flags
 pub no-flags-length : length noFlags ≡ 1024
@@ -98,37 +94,14 @@ note-anew n v lt e (marking seen set′) h =
     })
 note-anew n v lt e (unbound m) h = record { stops = h .stops; at-name = h .at-name }
 
--- ---- The rows of a tree
-unfoldable pub noteRows : List Row → listing.Marks → listing.Marks
-noteRows [] s = s
-noteRows (r ∷ rs) s = noteRows rs (cond (eqb (r .kind) 18) (noteName (r .value) s) s)
-
-rows-each : (rs : List Row) (s : listing.Marks) → each noteName (varsOf rs) s ≡ noteRows rs s
-unfolding each varsOf noteRows
-rows-each [] s = refl
-rows-each (r ∷ rs) s = look (eqb (r .kind) 18) (rows-each rs)
-  where
-    look : (b : Bool) → ((s′ : listing.Marks) → each noteName (varsOf rs) s′ ≡ noteRows rs s′) →
-        each noteName (cond b (r .value ∷ varsOf rs) (varsOf rs)) s ≡ noteRows rs (cond b (noteName (r .value) s) s)
-    look true h = h (noteName (r .value) s)
-    look false h = h s
-
--- no table is asked of a tree that is only gone through
-no-roots : (count : ℕ) → Roots blankTable count
-no-roots count = record { long = blank-length; node = λ n h. absurd (h (blank-at n)) }
-
+-- ---- A tree and its rows
 module _ {ns : List ℕ} {n : ℕ} (i : NodeIn ns n) where
-  fitting : Trees ns blankTable blankTable n (n + rowAt ns n .size)
-  fitting = node-trees (i .all) (no-roots (i .count)) (no-roots (i .count)) (i .inside)
-
   pub tree-each : (s : listing.Marks) → go (treeAt ns n) s ≡ each noteName (references (treeAt ns n)) s
-  tree-each s = let t = fitting in go-fits (t .walk .names) (t .place) (treeAt ns n) (t .fits) s
+  tree-each = go-each (treeAt ns n) (here-leafy (untabled (i .all)) (i .inside))
 
-  tree-rows : (s : listing.Marks) (until : ℕ) → until ≡ n + rowAt ns n .size → go (treeAt ns n) s ≡ noteRows (run (rowAt ns) n (until - n)) s
+  tree-rows : (s : listing.Marks) (until : ℕ) → until ≡ n + rowAt ns n .size → go (treeAt ns n) s ≡ each noteName (rowNames ns n until) s
   tree-rows s until e =
-      tree-each s ∙ ap (λ (l : List ℕ). each noteName l s) (references-siblings ns n (n + rowAt ns n .size))
-      ∙ rows-each (run (rowAt ns) n ((n + rowAt ns n .size) - n)) s
-      ∙ ap (λ (u : ℕ). noteRows (run (rowAt ns) n (u - n)) s) (sym e)
+      tree-each s ∙ ap (λ (l : List ℕ). each noteName l s) (references-siblings ns n (n + rowAt ns n .size) ∙ ap (rowNames ns n) (sym e))
 
   pub ends-in : n + rowAt ns n .size ≤ i .count
   ends-in = i .all .nodes .tree n (i .inside) .ends
@@ -137,7 +110,7 @@ module _ {ns : List ℕ} {n : ℕ} (i : NodeIn ns n) where
   row-in k until e h = record { held = omega (arith, ends-in, i .all .nodes .within .held); few = i .all .nodes .within .few }
 
   pub root-in : Within ns (n + 1)
-  root-in = record { held = omega (arith, i .inside, i .all .nodes .within .held); few = i .all .nodes .within .few }
+  root-in = here-within (untabled (i .all)) (i .inside)
 
   pub small : (k until : ℕ) → until ≡ n + rowAt ns n .size → k < until → (r : Row) → r ≡ rowAt ns k → r .kind ≡ 18 → r .value < 1024
   small k until e h r is q =
@@ -148,7 +121,7 @@ module _ {ns : List ℕ} {n : ℕ} (i : NodeIn ns n) where
 pub record Noting (ns : List ℕ) (root until : ℕ) (v : Marks) (i : ℕ) (s : listing.Marks) : Type 0 where
   pub state : listing.Marks
   pub holds : MarksHold state v
-  pub rest : noteRows (run (rowAt ns) i (until - i)) state ≡ noteRows (run (rowAt ns) root (until - root)) s
+  pub rest : each noteName (rowNames ns i until) state ≡ each noteName (rowNames ns root until) s
 
 pub record GoLeft (ns : List ℕ) (root until : ℕ) (m v : Marks) (i : ℕ) : Type 0 where
   pub ends : until ≡ root + rowAt ns root .size
@@ -164,41 +137,38 @@ module _ {ns : List ℕ} {root until : ℕ} {m : Marks} where
 
   module _ {v : Marks} {i : ℕ} (l : GoLeft ns root until m v i) where
     pub go-end : NodeIn ns root → until ≤ i → GoneThrough (treeAt ns root) m v
-    unfolding noteRows
+    unfolding each
     go-end n h s k =
-        let z : until - i ≡ 0 = omega arith in
         let x = l .noting s k in
         subst (λ (t : listing.Marks). MarksHold t v)
-        (sym (ap (λ (j : ℕ). noteRows (run (rowAt ns) i j) (x .state)) z ∙ ap (λ (rs : List Row). noteRows rs (x .state)) (run-none (rowAt ns) i)) ∙ x .rest ∙ sym (tree-rows n s until (l .ends)))
+        (sym (ap (λ (q : List ℕ). each noteName q (x .state)) (names-none ns i until h)) ∙ x .rest ∙ sym (tree-rows n s until (l .ends)))
         (x .holds)
 
     module _ (h : i < until) (r : Row) (is : r ≡ rowAt ns i) where
-      opens : run (rowAt ns) i (until - i) ≡ r ∷ run (rowAt ns) (i + 1) (until - (i + 1))
-      opens = let z : until - i ≡ suc (until - (i + 1)) = omega arith in rw (z, is) (run-cons (rowAt ns) i (until - (i + 1)))
-
-      step : (s : listing.Marks) →
-          noteRows (run (rowAt ns) i (until - i)) s ≡ noteRows (run (rowAt ns) (i + 1) (until - (i + 1))) (cond (eqb (r .kind) 18) (noteName (r .value) s) s)
-      unfolding noteRows
-      step s = ap (λ (rs : List Row). noteRows rs s) opens
-
-      -- by whether the row is a name, and what is held after it
-      go-on : (b : Bool) → eqb (r .kind) 18 ≡ b → {w : Marks} → ((s : listing.Marks) → MarksHold s v → MarksHold (cond b (noteName (r .value) s) s) w) →
-          GoLeft ns root until m w (i + 1)
-      go-on b e f =
+      -- by what the row makes of the marks, and what is held then
+      go-on : (f : listing.Marks → listing.Marks) → ((s : listing.Marks) → each noteName (rowNames ns i until) s ≡ each noteName (rowNames ns (i + 1) until) (f s)) →
+          {w : Marks} → ((s : listing.Marks) → MarksHold s v → MarksHold (f s) w) → GoLeft ns root until m w (i + 1)
+      go-on f step held =
           record {
             ends = l .ends;
             began = omega arith;
             passed = omega arith;
             noting = λ s k.
                 let x = l .noting s k in
-                record { state = cond b (noteName (r .value) (x .state)) (x .state); holds = f (x .state) (x .holds); rest = sym (step (x .state) ∙ rw e) ∙ x .rest };
+                record { state = f (x .state); holds = held (x .state) (x .holds); rest = sym (step (x .state)) ∙ x .rest };
           }
 
       pub go-other : (r .kind ≡ 18 → ⊥) → GoLeft ns root until m v (i + 1)
-      go-other d = go-on false (ne-eqb (r .kind) 18 d) (λ s k. k)
+      go-other d = go-on (λ s. s) (λ s. ap (λ (q : List ℕ). each noteName q s) (names-other ns i until h (λ e. d (ap (λ (z : Row). z .kind) is ∙ e)))) (λ s k. k)
+
+      go-name : r .kind ≡ 18 → {w : Marks} → ((s : listing.Marks) → MarksHold s v → MarksHold (noteName (r .value) s) w) → GoLeft ns root until m w (i + 1)
+      unfolding each
+      go-name e =
+          go-on (noteName (r .value))
+          (λ s. ap (λ (q : List ℕ). each noteName q s) (names-name ns i until h (ap (λ (z : Row). z .kind) (sym is) ∙ e) ∙ ap (λ (z : Row). z .value ∷ rowNames ns (i + 1) until) (sym is)))
 
       pub go-again : r .kind ≡ 18 → r .value < 1024 → getD (v .seen) (r .value) 0 ≡ 1 → GoLeft ns root until m v (i + 1)
-      go-again e lt q = go-on true (eq-eqb (r .kind) 18 e) (note-again (r .value) v lt q)
+      go-again e lt q = go-name e (note-again (r .value) v lt q)
 
       pub go-anew : r .kind ≡ 18 → r .value < 1024 → (getD (v .seen) (r .value) 0 ≡ 1 → ⊥) → GoLeft ns root until m (noted (r .value) v) (i + 1)
-      go-anew e lt q = go-on true (eq-eqb (r .kind) 18 e) (note-anew (r .value) v lt q)
+      go-anew e lt q = go-name e (note-anew (r .value) v lt q)

@@ -18,6 +18,7 @@ use Rattle.format.specs.References.{references}
 use Rattle.format.specs.Whole.{treeAt}
 use Rattle.judgement.specs.Environment.{Found, missing, body, findType}
 use Rattle.judgement.specs.Check.{member}
+use Rattle.judgement.proofs.Steps.{clash}
 use Rattle.environment.specs.Flags.{noFlags, isSet}
 use Rattle.environment.specs.Tables.{foundAt, Binds}
 use Rattle.environment.proofs.Links.{found-none, found-some}
@@ -27,7 +28,6 @@ use Rattle.listing.proofs.Folds.{each}
 use Rattle.analysis.specs.declared.recursive.Marks.{Marks}
 use Rattle.analysis.specs.Book.{Rooted}
 use Rattle.analysis.specs.Marking.{Flagged, MarksHold, GoneThrough, NodeIn}
-use Rattle.analysis.proofs.Flagged.{true-false}
 use Rattle.analysis.proofs.Going.{no-flags-length, no-flags-at, agrees-set, agrees-again, tree-each}
 
 -- ---- Names that are seen
@@ -141,7 +141,7 @@ module _ {ns roots list : List ℕ} where
               set-now = [];
               holds = h;
               rest = refl;
-              gone = λ n q. true-false (sym q ∙ ap (λ (f : List ℕ). isSet f n) e ∙ no-flags-at n);
+              gone = λ n q. let z : true ≡ false = sym q ∙ ap (λ (f : List ℕ). isSet f n) e ∙ no-flags-at n in clash cc;
             };
       }
 

@@ -1,12 +1,10 @@
 -- What an actor offers, by its nodes. Assumes nothing.
---     other-end, named-end            where the chain from a node ends, by a table of alias ends
 --     followed                        where an actor's own alias is followed first, the same is offered
---     service-here, service-named     the service at the end of a chain
---     no-class, class-arguments       the arguments of a class
+--     service-end                     the service at the end of a chain
+--     no-arguments, class-arguments   the arguments of a class
 --     written-offers, merged-offers   all of it
 --     offering, passed-service        what `interface_of` asks, of an actor that is stored and a book that passes
 use mathlib.Core.Path.{_≡_, refl, sym, ap, subst, _∙_}
-use mathlib.Core.Logic.{inl, inr}
 use mathlib.Core.Bool.{Bool, true, false, cond}
 use mathlib.Core.List.{List}
 use Prim.Native.Nat.{ℕ, zero, suc, _+_, _*_, _≤_, _<_}
@@ -24,51 +22,24 @@ use Rattle.format.specs.Whole.{WholeAt, treeAt, actorAt}
 use Rattle.format.proofs.Trees.{beside-end}
 use Rattle.format.proofs.Rows.{nothing, siblings-none}
 use Rattle.format.proofs.Stored.{tree-opens, actor-none, actor-some}
-use Rattle.judgement.specs.Environment.{mainDefinitions, Found, missing, body, findType, Head, named, other, headKind, head, End, unbound, circle, ends, chain, aliasEnd, isServKind, rootPasses, asService, kidsOf, methodsAt}
+use Rattle.judgement.specs.Environment.{mainDefinitions, Head, named, other, headKind, head, End, unbound, circle, ends, aliasEnd, isServKind, rootPasses, asService, kidsOf, methodsAt}
 use Rattle.judgement.specs.Actor.{isClassKind, isClass, allButLast, classArguments, belowClass, serviceOf, classOf, resolveActor}
 use Rattle.book.specs.declared.refusal.Verdict.the-variants.{Passed}
 use Rattle.judgement.specs.Check.{check}
-use Rattle.judgement.proofs.Chains.{crosses, outcome, run-end, service-says}
+use Rattle.judgement.proofs.Chains.{service-says}
 use Rattle.judgement.proofs.Walks.{is-service}
-use Rattle.environment.specs.Tables.{Nodes, Roots, EndNodes, EndAt, Chains, nameEnd, blankTable}
-use Rattle.environment.proofs.Defines.{blank-length, blank-at}
-use Rattle.environment.proofs.Links.{chain-other, chain-unbound, head-var, head-other}
+use Rattle.environment.specs.Tables.{EndNodes, EndAt, Chains}
+use Rattle.environment.proofs.AsFunc.{stays}
 use Rattle.typing.specs.declared.actor.Actor.{Actor}
 use Rattle.typing.specs.Actors.{AllTrees, LastAs, Top, BelowAs, IsService, methodsIn, mergedOf, actorTree, ActorNodes, ActorStored}
 use Rattle.typing.proofs.Classes.{serv-kind, tree-class, last-beside, rest-beside, arguments-are}
-use Rattle.typing.proofs.NodeTrees.{node-trees, node-some, node-top}
 use Rattle.listing.specs.Uses.{typeOf}
 use Rattle.listing.proofs.Interface.{named-no-class, passed-stands, passed-once}
 use Rattle.analysis.specs.declared.interface.Interface.{Interface}
 use Rattle.analysis.specs.Interfaces.{Serving, ServiceEnd, Written, Offering, soleService, ArgumentsAs, InterfaceAs}
-
--- ---- Where a chain ends
-module _ (ds : List Definition) where
-  stays : (t : Forest Node) → head t ≡ other → aliasEnd ds t ≡ ends t
-  unfolding aliasEnd chain
-  stays t h = chain-other ds t (length ds) h
-
-  goes-on : (t u : Forest Node) (n : ℕ) → head t ≡ named n → findType ds n ≡ body u → (aliasEnd ds u ≡ circle → ⊥) → aliasEnd ds t ≡ aliasEnd ds u
-  unfolding aliasEnd chain
-  goes-on t u n h f c =
-      elim (outcome ds (length ds) u .either) [
-        | inl r ↦ run-end ds (crosses {u = u} (record { is-name = h; is-type = f }) r)
-        | inr p ↦ absurd (c (p .0))
-      ]
-
-  by-found : (ns : List ℕ) (e : ℕ) (t : Forest Node) (n : ℕ) → head t ≡ named n → (f : Found) → findType ds n ≡ f → EndAt ns e (nameEnd ds n f) → aliasEnd ds t ≡ nameEnd ds n f
-  unfolding nameEnd aliasEnd chain
-  by-found ns e t n h missing f q = chain-unbound ds t n h (length ds) f
-  by-found ns e t n h (body u) f q = goes-on t u n h f (λ c. subst (EndAt ns e) c q)
-
-module _ {ns : List ℕ} {names count : ℕ} (x : Nodes ns names count) (ds : List Definition) {n : ℕ} (h : n < count) where
-  pub other-end : (rowAt ns n .kind ≡ 18 → ⊥) → aliasEnd ds (treeAt ns n) ≡ ends (treeAt ns n)
-  other-end k = stays ds (treeAt ns n) (head-other (x .tree n h .whole) (rowAt ns n) refl k)
-
-  pub named-end : (ends′ : List ℕ) → Chains ns ends′ names ds → rowAt ns n .kind ≡ 18 → aliasEnd ds (treeAt ns n) ≡ nameEnd ds (rowAt ns n .value) (findType ds (rowAt ns n .value))
-  named-end ends′ c k =
-      let v = rowAt ns n .value in
-      by-found ds ns (getD ends′ v 65535) (treeAt ns n) v (head-var (x .tree n h .whole) (rowAt ns n) refl k) (findType ds v) refl (c v (x .row n h .name k))
+use Rattle.analysis.specs.Entries.{endNode}
+use Rattle.analysis.proofs.BookNodes.{untabled, here-top}
+use Rattle.analysis.proofs.ChainEnds.{end-at, end-inside, end-whole}
 
 -- ---- An actor's own alias followed first: one that is a name stands for a service, which is no class
 module _ (ds : List Definition) where
@@ -101,49 +72,26 @@ root-service {ns} {e} w s =
     let r = rowAt ns e in
     eqb-true (r .kind) 24 (sym (serv-kind (r .kind) (r .value)) ∙ (rw (tree-opens w) at s))
 
-module _ {ns ends′ : List ℕ} {n : ℕ} {ds : List Definition} (s : Serving ns ends′ n ds) (r : Row) (is : r ≡ rowAt ns n) where
-  kind-is : r .kind ≡ rowAt ns n .kind
-  kind-is = ap (λ (q : Row). q .kind) is
-
-  pub service-here : (r .kind ≡ 18 → ⊥) → ServiceEnd ns (s .ended .count) ds n n
-  unfolding asService
-  service-here k =
-      let x = s .ended in
-      let e = other-end (x .nodes) ds (x .inside) (λ q. k (kind-is ∙ q)) in
-      record { service = (x .inside, root-service (x .nodes .tree n (x .inside) .whole) (sym (ap (rootPasses isServKind) e) ∙ s .service)); is = e }
-
-  pub name-small : r .kind ≡ 18 → r .value < 1024
-  name-small k = rw is (omega (arith, s .ended .nodes .row n (s .ended .inside) .name (sym kind-is ∙ k), s .ended .nodes .fewNames))
-
-  pub service-named : r .kind ≡ 18 → {e : ℕ} → e ≡ getD ends′ (r .value) 65535 → ServiceEnd ns (s .ended .count) ds n e
-  unfolding asService rootPasses
-  service-named k {e} i =
-      let x = s .ended in
-      let v = rowAt ns n .value in
-      let a = sym kind-is ∙ k in
-      let q = named-end (x .nodes) ds (x .inside) ends′ (s .chains) a in
-      go (nameEnd ds v (findType ds v)) q (s .chains v (x .nodes .row n (x .inside) .name a)) (i ∙ ap (λ (q : Row). getD ends′ (q .value) 65535) is)
-    where
-      go : (f : End) → aliasEnd ds (treeAt ns n) ≡ f → EndAt ns (getD ends′ (rowAt ns n .value) 65535) f → e ≡ getD ends′ (rowAt ns n .value) 65535 → ServiceEnd ns (s .ended .count) ds n e
-      go (unbound m) q a i = absurd (subst T (sym (sym (ap (rootPasses isServKind) q) ∙ s .service)) tt)
-      go circle q a i = absurd a
-      go (ends t) q a i =
-          let w : t ≡ treeAt ns e = a .1 ∙ ap (treeAt ns) (sym i) in
-          let f = q ∙ ap ends w in
-          let l : e < s .ended .count = rw i (s .ended .table .node (rowAt ns n .value) (a .0)) in
-          record { service = (l, root-service (s .ended .nodes .tree e l .whole) (sym (ap (rootPasses isServKind) f) ∙ s .service)); is = f }
+pub service-end : {ns ends′ : List ℕ} {n : ℕ} {ds : List Definition} (s : Serving ns ends′ n ds) {e : ℕ} → e ≡ endNode ns ends′ n → ServiceEnd ns (s .ended .count) ds n e
+unfolding asService rootPasses
+service-end {ns} {ends′} {n} {ds} s {e} i =
+    go (aliasEnd ds (treeAt ns n)) refl (subst (λ (k : ℕ). EndAt ns k (aliasEnd ds (treeAt ns n))) (sym i) (end-at (s .ended) ds (s .chains)))
+  where
+    go : (f : End) → aliasEnd ds (treeAt ns n) ≡ f → EndAt ns e f → ServiceEnd ns (s .ended .count) ds n e
+    go (unbound m) q a = absurd (subst T (sym (sym (ap (rootPasses isServKind) q) ∙ s .service)) tt)
+    go circle q a = absurd a
+    go (ends t) q a =
+        let f = q ∙ ap ends (a .1) in
+        record { service = (end-inside (s .ended) i (a .0), root-service (end-whole (s .ended) i (a .0)) (sym (ap (rootPasses isServKind) f) ∙ s .service)); is = f }
 
 -- ---- The arguments of a class
-pub no-table : (count : ℕ) → Roots blankTable count
-no-table count = record { long = blank-length; node = λ n h. absurd (h (blank-at n)) }
-
 pub no-arguments : {ns : List ℕ} {names count : ℕ} → AllTrees ns names count → {t : Forest Node} → isClass t ≡ false → ArgumentsAs ns count t 0 0
 unfolding classArguments
 no-arguments {ns} a c = record { whole = nothing ns 0 0 refl (record { held = omega arith; few = a .nodes .within .few }); inside = omega arith; are = siblings-none ns 0 0 (omega arith) ∙ rw c }
 
 module _ {ns : List ℕ} {names count : ℕ} (a : AllTrees ns names count) {n : ℕ} (h : n < count) where
   pub top : Top ns n
-  top = let b = no-table count in node-top (node-trees a b b h) (node-some a b b h)
+  top = here-top (untabled a) h
 
   module _ (r : Row) (is : r ≡ rowAt ns n) where
     pub ends-before : n + r .size ≤ count

@@ -1,22 +1,23 @@
 -- From the marks that the code holds to the question's answer: what callers cite. Assumes nothing.
-use mathlib.Core.Path.{_≡_, sym, ap, _∙_}
+use mathlib.Core.Path.{_≡_, sym, ap}
 use mathlib.Core.Bool.{true, false}
 use Prim.Native.Nat.{ℕ, _≤_}
 use native.Mathlib.Omega.{arith}
 use lib.ListN.{length}
 use Rattle.book.specs.declared.refusal.Refusal.the-variants.{Unbound}
+use Rattle.judgement.proofs.Steps.{clash}
 use Rattle.environment.specs.Flags.{flagged}
 use Rattle.listing.specs.Recursive.{marking, unbound}
 use Rattle.listing.specs.Recursive as listing
 use Rattle.listing.specs.Questions.{refused, given, marked}
 use Rattle.analysis.specs.declared.recursive.Marks.{Marks}
 use Rattle.analysis.specs.Marking.{MarksHold}
-use Rattle.analysis.proofs.Flagged.{true-false, flags-ascending}
+use Rattle.analysis.proofs.Flagged.{flags-ascending}
 
 -- Stopped at a listed name without definition: 3.
 pub marked-stopped : (names : ℕ) (s : listing.Marks) (r : Marks) → MarksHold s r → r .stopped ≡ true → marked names s ≡ refused (Unbound (r .bad))
 unfolding marked
-marked-stopped names (marking seen set) r h e = true-false (sym e ∙ h .goes)
+marked-stopped names (marking seen set) r h e = let f = h .goes in clash cc
 marked-stopped names (unbound n) r h e = rw (h .at-name)
 
 -- Not stopped: the marked names, ascending.
@@ -24,9 +25,9 @@ pub marked-given : (names : ℕ) (s : listing.Marks) (r : Marks) → MarksHold s
     marked names s ≡ given (flagged (r .marked) 0 names)
 unfolding marked
 marked-given names (marking seen set) r h e few = ap given (sym (flags-ascending (r .marked) set (h .marked-are) 0 names (omega arith)))
-marked-given names (unbound n) r h e few = true-false (sym (h .stops) ∙ e)
+marked-given names (unbound n) r h e few = let f = h .stops in clash cc
 
 -- The flags of the marked names are as long as the table.
 pub marked-long : (s : listing.Marks) (r : Marks) → MarksHold s r → r .stopped ≡ false → length (r .marked) ≡ 1024
 marked-long (marking seen set) r h e = h .long
-marked-long (unbound n) r h e = true-false (sym (h .stops) ∙ e)
+marked-long (unbound n) r h e = let f = h .stops in clash cc

@@ -14,7 +14,7 @@ use native.Mathlib.Omega.{arith}
 use borrow.Author.Tests.{eq-eqb, ne-eqb, lt-ltb, le-ltb}
 use lib.Dec.{ltb}
 use lib.ListN.{length, getD, set, take, drop, length-set, length-append, length-drop}
-use lib.Seq.{slice, slice-empty, slice-cons, drop-cons, set-at}
+use lib.Seq.{slice, drop-cons, set-at}
 use Rattle.format.specs.Forest.{Forest, end, tree, beside}
 use Rattle.format.specs.Node.{Node, labelValue}
 use Rattle.format.specs.Book.{Definition}
@@ -31,8 +31,6 @@ use Rattle.environment.specs.Tables.{blankTable}
 use Rattle.typing.specs.Walk.{Methods}
 use Rattle.typing.specs.Actors.{AllTrees, methodsIn}
 use Rattle.typing.proofs.Walk.{opened, ends-inside, one-at-least, row-within, method-label, rest-methods, kids-methods}
-use Rattle.typing.proofs.Classes.{tree-kids}
-use Rattle.typing.proofs.NodeTrees.{node-trees, node-some}
 use Rattle.listing.specs.Project.{without, Projection, take′, projectFrom}
 use Rattle.listing.specs.Questions.{given, projected}
 use Rattle.analysis.specs.Projecting.{Asking, outcomeOf, LowestAs, placeAt, placeAll, Way, Come, comesTo, Projects, Room, MethodTaken, MethodsTaken, Services, ProjectedAs, AllProjected}
@@ -42,8 +40,8 @@ use Rattle.analysis.specs.declared.hand.Answer.the-variants.{Given, Refu
 use Rattle.analysis.specs.Handed.{HandedAs}
 use Rattle.analysis.specs.Interfaces.{InterfaceAs}
 use Rattle.analysis.proofs.Asking.{member-none, member-some, asking-shrunk, same-counts, less-counts}
+use Rattle.analysis.proofs.BookNodes.{untabled, here-within, here-trees, here-some, services-over, services-open}
 use Rattle.analysis.proofs.Handed.{handed-refused, handed-short, handed-long}
-use Rattle.analysis.proofs.Interfaces.{no-table}
 
 -- ---- Places
 pub place-in : (places k x : ℕ) (old : List ℕ) → k < places → set old k x ≡ placeAt places k x old
@@ -264,7 +262,7 @@ module _ {ns services : List ℕ} {count places : ℕ} {v : Way} {k : ℕ} {w : 
     service-inside = y .service k h .0
 
     pub service-within : Within ns (node + 1)
-    service-within = let b = no-table (y .nodes) in row-within (node-trees (y .all) b b service-inside) (node-some (y .all) b b service-inside)
+    service-within = here-within (untabled (y .all)) service-inside
 
     module _ (r : Row) (is : r ≡ rowAt ns node) where
       pub service-ends : (1 ≤ r .size) × (node + r .size ≤ 4096)
@@ -272,19 +270,11 @@ module _ {ns services : List ℕ} {count places : ℕ} {v : Way} {k : ℕ} {w : 
 
       pub service-methods : (roots ends′ : List ℕ) × Methods ns roots ends′ (node + 1) (node + r .size)
       service-methods =
-          let b = no-table (y .nodes) in
-          (blankTable, blankTable, subst (λ (z : Row). Methods ns blankTable blankTable (node + 1) (node + z .size)) (sym is) (kids-methods (node-trees (y .all) b b service-inside) (node-some (y .all) b b service-inside) (y .service k h .1)))
+          let b = untabled (y .all) in
+          (blankTable, blankTable, subst (λ (z : Row). Methods ns blankTable blankTable (node + 1) (node + z .size)) (sym is) (kids-methods (here-trees b service-inside) (here-some b service-inside) (y .service k h .1)))
 
       pub service-room : places ≤ length (v .out) → Room places (node + r .size - (node + 1)) w
       service-room q = record { few = omega (arith, service-ends, x .near, y .few); fewer = x .fewer; names = x .names; held = omega (arith, x .held) }
-
-      -- the methods of service k, and those of the services after it
-      splits : methodsIn ns (slice k count services) ≡ beside (siblings ns (node + 1) (node + r .size)) (methodsIn ns (slice (k + 1) count services))
-      unfolding methodsIn
-      splits =
-          ap (methodsIn ns) (slice-cons k count services 0 h (y .held) ∙ ap (λ (j : ℕ). node ∷ slice j count services) (sym (add-one k)))
-          ∙ ap (λ (f : Forest Node). beside f (methodsIn ns (slice (k + 1) count services)))
-          (tree-kids (y .all .nodes .tree node service-inside .whole) ∙ ap (λ (z : Row). siblings ns (node + 1) (node + z .size)) (sym is))
 
       pub services-on : {w′ : Way} →
           MethodsTaken places (node + r .size - (node + 1)) (siblings ns (node + 1) (node + r .size)) w w′ → ServicesLeft ns services count places v (k + 1) w′
@@ -305,21 +295,19 @@ module _ {ns services : List ℕ} {count places : ℕ} {v : Way} {k : ℕ} {w : 
                   same = λ g.
                       u .same (beside (methodsIn ns (slice (k + 1) count services)) g)
                       ∙ ap (λ (f : Forest Node). comesTo places w (projectFrom (w .at) f (s .names)))
-                      (sym (ap (λ (f : Forest Node). beside f g) splits ∙ beside-assoc (siblings ns (node + 1) (node + r .size)) (methodsIn ns (slice (k + 1) count services)) g))
+                      (sym (ap (λ (f : Forest Node). beside f g) (services-open ns services h (y .held) (y .all .nodes .tree node service-inside .whole) is) ∙ beside-assoc (siblings ns (node + 1) (node + r .size)) (methodsIn ns (slice (k + 1) count services)) g))
                       ∙ s .same g;
                 };
           }
 
 services-is : {ns services : List ℕ} {count places : ℕ} {left out : List ℕ} {k : ℕ} {w : Way} → ServicesLeft ns services count places (outset left out) k w → count ≤ k →
     (far : ℕ) (l : List ℕ) → Asking left far l → ProjectedAs places (methodsIn ns (take count services)) far l out (w .left) (w .out) (w .taken)
-unfolding comesTo methodsIn projectFrom placeAll beside
+unfolding comesTo projectFrom placeAll beside
 services-is {ns} {services} {count} {places} {left} {out} {k} {w} x h far l a =
     let f = methodsIn ns (take count services) in
     let s = x .goes far l a in
-    let z : k ≡ count = omega (arith, x .passed) in
-    let none : methodsIn ns (slice k count services) ≡ end = ap (λ (j : ℕ). methodsIn ns (slice j count services)) z ∙ ap (methodsIn ns) (slice-empty count services) in
     let same : comesTo places w (projectFrom (w .at) end (s .names)) ≡ comesTo places (outset left out) (projectFrom 0 f l) =
-    ap (λ (e : Forest Node). comesTo places w (projectFrom (w .at) (beside e end) (s .names))) (sym none) ∙ s .same end
+    ap (λ (e : Forest Node). comesTo places w (projectFrom (w .at) (beside e end) (s .names))) (sym (services-over ns services (x .passed) h)) ∙ s .same end
     ∙ ap (λ (e : Forest Node). comesTo places (outset left out) (projectFrom 0 e l)) (beside-end f) in
     record {
       asking = subst (Asking (w .left) far) (ap (λ (c : Come). c .left) same) (s .asking);

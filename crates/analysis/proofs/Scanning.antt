@@ -12,6 +12,7 @@ use Rattle.format.specs.Encode.{Row}
 use Rattle.format.specs.Layout.{rowAt}
 use Rattle.format.specs.Whole.{Within}
 use Rattle.format.proofs.Rows.{node-within}
+use Rattle.judgement.proofs.Steps.{clash}
 use Rattle.environment.specs.Flags.{isSet}
 use Rattle.analysis.specs.Walking.{isNew, Scanned, NextNew}
 
@@ -42,14 +43,14 @@ new-kind ns seen n e = go (eqb (rowAt ns n .kind) 18) (not (isSet seen (rowAt ns
   where
     go : (a b : Bool) → eqb (rowAt ns n .kind) 18 ≡ a → (a && b) ≡ true → rowAt ns n .kind ≡ 18
     go true b q h = eqb-true (rowAt ns n .kind) 18 q
-    go false b q h = let z : _≡_ {A = ℕ} 0 1 = cc in absurd (omega arith)
+    go false b q h = clash cc
 
 pub new-unset : (ns seen : List ℕ) (n : ℕ) → isNew ns seen n ≡ true → isSet seen (rowAt ns n .value) ≡ false
 new-unset ns seen n e = go (eqb (rowAt ns n .kind) 18) e
   where
     go : (a : Bool) → (a && not (isSet seen (rowAt ns n .value))) ≡ true → isSet seen (rowAt ns n .value) ≡ false
     go true h = not-true _ h
-    go false h = let z : _≡_ {A = ℕ} 0 1 = cc in absurd (omega arith)
+    go false h = clash cc
 
 pub old-set : (ns seen : List ℕ) (n : ℕ) → isNew ns seen n ≡ false → rowAt ns n .kind ≡ 18 → isSet seen (rowAt ns n .value) ≡ true
 old-set ns seen n e k = not-false _ (ap (λ (b : Bool). b && not (isSet seen (rowAt ns n .value))) (sym (eq-eqb (rowAt ns n .kind) 18 k)) ∙ e)

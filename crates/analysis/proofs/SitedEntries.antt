@@ -21,8 +21,9 @@ use Rattle.format.specs.Book.{Definition}
 use Rattle.judgement.specs.Environment.{aliasEnd, methodsAt}
 use Rattle.judgement.specs.Actor.{classArguments, belowClass}
 use Rattle.listing.specs.Chase.{chaseTypes}
-use Rattle.listing.specs.Uses.{Use, Site, classSites, methodSites, typeOf, sites, isListed, usesAt, usesOf}
+use Rattle.listing.specs.Uses.{Use, Site, classSites, methodSites, typeOf, sites, isListed, usesOf}
 use Rattle.listing.specs.Offers.{kept, entryOf}
+use Rattle.listing.proofs.Used.{uses-kept}
 use Rattle.analysis.specs.Entries.{Test, usesBy, numbers, put, putAll, Puts}
 
 -- ---- One entry
@@ -163,18 +164,9 @@ module _ (used : Test) where
 abbrev pub listedAt : List Definition → ℕ → Test
 listedAt ds n t = isListed n (chaseTypes ds t)
 
-pub uses-listed : (ds : List Definition) (n : ℕ) (ss : List Site) → usesAt ds n ss ≡ usesBy (listedAt ds n) ss
-unfolding usesAt usesBy kept
-uses-listed ds n [] = refl
-uses-listed ds n (s ∷ ss) = go (listedAt ds n (s .type)) (uses-listed ds n ss) ∙ sym (uses-one (listedAt ds n) s ss)
-  where
-    go : (b : Bool) → usesAt ds n ss ≡ usesBy (listedAt ds n) ss → cond b (s .entry ∷ usesAt ds n ss) (usesAt ds n ss) ≡ cond b (s .entry ∷ []) [] ++ usesBy (listedAt ds n) ss
-    go true e = ap (λ (l : List Use). s .entry ∷ l) e
-    go false e = e
-
 -- So the entries of an actor's arguments and methods are what the question answers.
 pub uses-answer : (ds : List Definition) (n : ℕ) (actor arguments methods : Forest Node) → arguments ≡ classArguments (typeOf (aliasEnd ds actor)) →
     methods ≡ methodsAt (aliasEnd ds (belowClass (typeOf (aliasEnd ds actor)))) → usesBy (listedAt ds n) (classSites 0 arguments ++ methodSites ds 0 methods) ≡ usesOf ds actor n
-unfolding usesOf sites
+unfolding usesOf sites usesBy
 uses-answer ds n actor arguments methods a m =
-    sym (uses-listed ds n (sites ds actor) ∙ ap₂ (λ (f g : Forest Node). usesBy (listedAt ds n) (classSites 0 f ++ methodSites ds 0 g)) (sym a) (sym m))
+    sym (uses-kept ds n (sites ds actor) ∙ ap₂ (λ (f g : Forest Node). usesBy (listedAt ds n) (classSites 0 f ++ methodSites ds 0 g)) (sym a) (sym m))

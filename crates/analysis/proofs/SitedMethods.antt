@@ -1,37 +1,37 @@
 -- The arguments and results of functions and of methods, by rows and the table of alias ends: `put_func`, `end_of`, `put_end`,
 -- `put_methods` and `put_uses`. Assumes nothing.
 use mathlib.Core.Path.{_≡_, refl, sym, ap, ap₂, subst, _∙_}
-use mathlib.Core.Logic.{inl, inr}
 use mathlib.Core.Bool.{cond}
-use mathlib.Core.List.{List, [], _∷_, _++_, append-assoc, append-nil}
+use mathlib.Core.List.{List, [], _++_, append-assoc}
 use Prim.Native.Nat.{ℕ, zero, suc, _+_, _-_, _*_, _%_, _≤_, _<_}
 use native.Mathlib.Nat.{add-zero}
 use native.Mathlib.Numerals.{add-one}
-use native.Mathlib.Decide.{ℕ-discrete, decLt}
+use native.Mathlib.Decide.{decLt}
 use native.Mathlib.Omega.{arith}
 use borrow.Author.Tests.{eq-eqb, ne-eqb}
 use lib.Dec.{eqb}
 use lib.ListN.{length, getD, take}
-use lib.Seq.{slice, slice-cons, slice-empty}
-use Rattle.format.specs.Forest.{Forest, end, tree, breadth, beside}
+use lib.Seq.{slice}
+use Rattle.format.specs.Forest.{Forest, end, tree, breadth, beside, otherTrees, afterTrees}
 use Rattle.format.specs.Node.{Node, Kind}
 use Rattle.format.specs.Book.{Definition}
 use Rattle.format.specs.Encode.{Row}
 use Rattle.format.specs.Layout.{rowAt, siblings, nodeOf, kindOf, kinds}
 use Rattle.format.specs.Whole.{Within, Whole, WholeAt, treeAt}
-use Rattle.format.proofs.Trees.{beside-end, breadth-count}
+use Rattle.format.proofs.Trees.{beside-end, breadth-count, after-beside}
 use Rattle.format.proofs.References.{kind-alone}
 use Rattle.format.proofs.Rows.{Opened, opens, kids-whole, node-within, siblings-none, siblings-opens, count-siblings}
 use Rattle.format.proofs.Stored.{tree-opens}
-use Rattle.judgement.specs.Environment.{Found, missing, body, findType, named, other, head, End, unbound, circle, ends, chain, aliasEnd}
-use Rattle.judgement.proofs.Chains.{crosses, outcome, run-end}
-use Rattle.environment.specs.Tables.{nameEnd, EndAt, Chains, Ended}
-use Rattle.environment.proofs.Links.{chain-other, chain-unbound, head-var, head-other}
+use Rattle.judgement.specs.Environment.{End, unbound, circle, ends, aliasEnd}
+use Rattle.environment.specs.Tables.{EndAt, Ended}
 use Rattle.typing.specs.Actors.{methodsIn}
-use Rattle.typing.proofs.Classes.{siblings-join, tree-kids}
+use Rattle.typing.proofs.Classes.{siblings-join}
 use Rattle.listing.specs.Uses.{Use, Site, classSites, funcSites, kindSites, endSites, methodSites}
-use Rattle.listing.specs.Offers.{site, indexed}
+use Rattle.listing.specs.Offers.{firstTrees, functionSites, indexed}
+use Rattle.listing.proofs.Sites.{class-indexed, function-indexed}
 use Rattle.analysis.specs.Entries.{Test, usesBy, Puts, AtMost, HitsIn, SkipsTo, endNode, Known, Offered}
+use Rattle.analysis.proofs.BookNodes.{services-over, services-open}
+use Rattle.analysis.proofs.ChainEnds.{served-until, served-at, end-at, end-inside}
 use Rattle.analysis.proofs.SitedEntries.{puts-none, puts-then, Leads, leads-start, leads-on, leads-end, uses-none, uses-append}
 
 -- ---- Parts
@@ -45,45 +45,35 @@ pub most-none : (most k : ℕ) (old : List ℕ) → AtMost most k old old k
 most-none most k old = record { few = omega arith; long = refl }
 
 -- ---- A function: its first trees are arguments, and the others results
+-- the first c trees: those before others, or all of them
+first-beside : (f g : Forest Node) → firstTrees (breadth f) (beside f g) ≡ f
+unfolding firstTrees breadth beside
+first-beside end g = refl
+first-beside (tree n k next) g = ap (tree n k) (first-beside next g)
+
+first-all : (c : ℕ) (f : Forest Node) → breadth f ≤ c → (firstTrees c f ≡ f) × (afterTrees c f ≡ end)
+unfolding firstTrees afterTrees otherTrees breadth
+first-all zero end h = (refl, refl)
+first-all zero (tree n k next) h = absurd (omega arith)
+first-all (suc c) end h = (refl, first-all c end (omega arith) .1)
+first-all (suc c) (tree n k next) h = let p = first-all c next (omega arith) in (ap (tree n k) (p .0), p .1)
+
 module _ (m : ℕ) where
-  results-are : (j : ℕ) (f : Forest Node) → funcSites m zero j f ≡ indexed m 1 j f
-  unfolding funcSites indexed
-  results-are j end = refl
-  results-are j (tree n k next) = ap (λ (l : List Site). site m 1 j (tree n k end) ∷ l) (results-are (suc j) next)
+  abbrev both : Forest Node → Forest Node → List Site
+  both f g = indexed m 0 0 f ++ indexed m 1 0 g
 
-  -- no results, where there are no more trees than arguments
-  arguments-alone : (c j : ℕ) (f : Forest Node) → breadth f ≤ c → funcSites m c j f ≡ indexed m 0 j f
-  unfolding funcSites indexed breadth
-  arguments-alone zero j end h = refl
-  arguments-alone zero j (tree n k next) h = absurd (omega arith)
-  arguments-alone (suc c) j end h = refl
-  arguments-alone (suc zero) j (tree n k end) h = refl
-  arguments-alone (suc zero) j (tree n k (tree a b f)) h = absurd (omega arith)
-  arguments-alone (suc (suc c)) j (tree n k next) h = ap (λ (l : List Site). site m 0 j (tree n k end) ∷ l) (arguments-alone (suc c) (suc j) next (omega arith))
-
-  arguments-first : (c j : ℕ) (f g : Forest Node) → breadth f ≡ suc c → funcSites m (suc c) j (beside f g) ≡ indexed m 0 j f ++ indexed m 1 0 g
-  unfolding funcSites indexed breadth beside
-  arguments-first c j end g h = absurd (omega arith)
-  arguments-first zero j (tree n k end) g h = ap (λ (l : List Site). site m 0 j (tree n k end) ∷ l) (results-are 0 g)
-  arguments-first zero j (tree n k (tree a b f)) g h = absurd (omega arith)
-  arguments-first (suc c) j (tree n k next) g h = ap (λ (l : List Site). site m 0 j (tree n k end) ∷ l) (arguments-first c (suc j) next g (omega arith))
-
-  function-split : (c : ℕ) (f g : Forest Node) → breadth f ≡ c → funcSites m c 0 (beside f g) ≡ indexed m 0 0 f ++ indexed m 1 0 g
-  unfolding indexed breadth beside
-  function-split zero end g h = results-are 0 g
-  function-split zero (tree n k f) g h = absurd (omega arith)
-  function-split (suc c) f g h = arguments-first c 0 f g h
-
-  function-sites : {ns : List ℕ} {from until c at : ℕ} → SkipsTo ns from until c at →
-      funcSites m c 0 (siblings ns from until) ≡ indexed m 0 0 (siblings ns from at) ++ indexed m 1 0 (siblings ns at until)
-  unfolding indexed
-  function-sites {ns} {from} {until} {c} {at} s = ap (funcSites m c 0) (siblings-join (s .before) (s .after)) ∙ go (decLt at until)
+  function-sites : {ns : List ℕ} {from until c at : ℕ} → SkipsTo ns from until c at → funcSites m c 0 (siblings ns from until) ≡ both (siblings ns from at) (siblings ns at until)
+  function-sites {ns} {from} {until} {c} {at} s =
+      ap (funcSites m c 0) (siblings-join (s .before) (s .after)) ∙ function-indexed m c (beside (siblings ns from at) (siblings ns at until)) ∙ go (decLt at until)
     where
-      go : Dec (at < until) → funcSites m c 0 (beside (siblings ns from at) (siblings ns at until)) ≡ indexed m 0 0 (siblings ns from at) ++ indexed m 1 0 (siblings ns at until)
-      go (yes h) = function-split c (siblings ns from at) (siblings ns at until) (s .enough h)
+      go : Dec (at < until) → functionSites m c (beside (siblings ns from at) (siblings ns at until)) ≡ both (siblings ns from at) (siblings ns at until)
+      go (yes h) =
+          let front = siblings ns from at in
+          let rest = siblings ns at until in
+          ap (λ (k : ℕ). functionSites m k (beside front rest)) (sym (s .enough h)) ∙ ap₂ both (first-beside front rest) (after-beside front rest)
       go (no h) =
-          rw (siblings-none ns at until (omega arith), beside-end (siblings ns from at), append-nil (indexed m 0 0 (siblings ns from at)))
-          (arguments-alone c 0 (siblings ns from at) (s .least))
+          let p = first-all c (siblings ns from at) (s .least) in
+          rw (siblings-none ns at until (omega arith), beside-end (siblings ns from at)) (ap₂ both (p .0) (p .1))
 
 module _ {ns : List ℕ} {f : ℕ} (w : WholeAt ns f) (q : Row) (is : q ≡ rowAt ns f) {results : ℕ}
     (s : SkipsTo ns (f + 1) (f + q .size) (q .value % 65536) results) where
@@ -145,91 +135,10 @@ module _ (ns : List ℕ) (e m : ℕ) where
       end-puts n p x q used h =
           rw (end-some z x q, node-sites m w, eq-eqb (rowAt ns e .kind) 23 (sym (ap (λ (z : Row). z .kind) is) ∙ n)) (p used (h z))
 
--- ---- Where a node's chain ends
-chain-on : (ds : List Definition) (t u : Forest Node) (n : ℕ) → head t ≡ named n → findType ds n ≡ body u → (aliasEnd ds u ≡ circle → ⊥) → aliasEnd ds t ≡ aliasEnd ds u
-unfolding aliasEnd chain
-chain-on ds t u n h f c =
-    elim (outcome ds (length ds) u .either) [
-      | inl r ↦ run-end ds (crosses {u = u} (record { is-name = h; is-type = f }) r)
-      | inr p ↦ absurd (c (p .0))
-    ]
-
-chain-none : (ds : List Definition) (t : Forest Node) (n : ℕ) → head t ≡ named n → findType ds n ≡ missing → aliasEnd ds t ≡ unbound n
-unfolding aliasEnd chain
-chain-none ds t n h f = chain-unbound ds t n h (length ds) f
-
-chain-here : (ds : List Definition) (t : Forest Node) → head t ≡ other → aliasEnd ds t ≡ ends t
-unfolding aliasEnd chain
-chain-here ds t h = chain-other ds t (length ds) h
-
-pub end-other : (ns ends′ : List ℕ) (node : ℕ) (r : Row) → r ≡ rowAt ns node → (r .kind ≡ 18 → ⊥) → node ≡ endNode ns ends′ node
-unfolding endNode
-end-other ns ends′ node r is h = rw (← is, ne-eqb (r .kind) 18 h)
-
-pub end-named : (ns ends′ : List ℕ) (node : ℕ) (r : Row) → r ≡ rowAt ns node → r .kind ≡ 18 → getD ends′ (r .value) 65535 ≡ endNode ns ends′ node
-unfolding endNode
-end-named ns ends′ node r is h = rw (← is, h)
-
-module _ {ns ends′ : List ℕ} {node : ℕ} (s : Ended ns ends′ node) where
-  pub served-whole : WholeAt ns node
-  served-whole = s .nodes .tree node (s .inside) .whole
-
-  pub served-within : Within ns (node + 1)
-  served-within = node-within served-whole
-
-  pub served-small : node < 4096
-  served-small = omega (arith, s .inside, s .nodes .fewNodes)
-
-  pub served-until : node + rowAt ns node .size ≤ s .count
-  served-until = s .nodes .tree node (s .inside) .ends
-
-  pub served-named : (r : Row) → r ≡ rowAt ns node → r .kind ≡ 18 → r .value < length ends′
-  served-named r is k =
-      let small : rowAt ns node .value < s .names = s .nodes .row node (s .inside) .name (sym (ap (λ (z : Row). z .kind) is) ∙ k) in
-      omega (arith, small, s .nodes .fewNames, s .table .long, ap (λ (z : Row). z .value) is)
-
-  -- another node of the book
-  unfoldable pub served-at : (i : ℕ) → i < s .count → Ended ns ends′ i
-  served-at i h = record { names = s .names; count = s .count; nodes = s .nodes; table = s .table; inside = h }
-
-  named-end : (ds : List Definition) (f : Found) → findType ds (rowAt ns node .value) ≡ f → rowAt ns node .kind ≡ 18 →
-      EndAt ns (getD ends′ (rowAt ns node .value) 65535) (nameEnd ds (rowAt ns node .value) f) → aliasEnd ds (treeAt ns node) ≡ nameEnd ds (rowAt ns node .value) f
-  unfolding nameEnd
-  named-end ds missing f k q = chain-none ds (treeAt ns node) (rowAt ns node .value) (head-var served-whole (rowAt ns node) refl k) f
-  named-end ds (body u) f k q =
-      chain-on ds (treeAt ns node) u (rowAt ns node .value) (head-var served-whole (rowAt ns node) refl k) f
-      (λ c. subst (EndAt ns (getD ends′ (rowAt ns node .value) 65535)) c q)
-
-  -- The table says where the chain of the type at a node ends.
-  pub end-at : (ds : List Definition) → Chains ns ends′ (s .names) ds → EndAt ns (endNode ns ends′ node) (aliasEnd ds (treeAt ns node))
-  end-at ds c = go (ℕ-discrete (rowAt ns node .kind) 18)
-    where
-      go : Dec (rowAt ns node .kind ≡ 18) → EndAt ns (endNode ns ends′ node) (aliasEnd ds (treeAt ns node))
-      go (yes k) =
-          let v = rowAt ns node .value in
-          let q = c v (s .nodes .row node (s .inside) .name k) in
-          subst (λ (x : End). EndAt ns (endNode ns ends′ node) x) (sym (named-end ds (findType ds v) refl k q))
-          (subst (λ (e : ℕ). EndAt ns e (nameEnd ds v (findType ds v))) (end-named ns ends′ node (rowAt ns node) refl k) q)
-      go (no k) =
-          let z : node ≡ 65535 → ⊥ = λ h. omega (arith, served-small) in
-          subst (λ (x : End). EndAt ns (endNode ns ends′ node) x) (sym (chain-here ds (treeAt ns node) (head-other served-whole (rowAt ns node) refl k)))
-          (subst (λ (e : ℕ). EndAt ns e (ends (treeAt ns node))) (end-other ns ends′ node (rowAt ns node) refl k) (z, refl))
-
-  end-inside : (endNode ns ends′ node ≡ 65535 → ⊥) → endNode ns ends′ node < s .count
-  end-inside h = go (ℕ-discrete (rowAt ns node .kind) 18)
-    where
-      go : Dec (rowAt ns node .kind ≡ 18) → endNode ns ends′ node < s .count
-      go (yes k) =
-          let e = end-named ns ends′ node (rowAt ns node) refl k in
-          subst (λ (z : ℕ). z < s .count) e (s .table .node (rowAt ns node .value) (λ q. h (sym e ∙ q)))
-      go (no k) = subst (λ (z : ℕ). z < s .count) (end-other ns ends′ node (rowAt ns node) refl k) (s .inside)
-
-  module _ (e : ℕ) (is : e ≡ endNode ns ends′ node) where
-    pub end-whole : (e ≡ 65535 → ⊥) → WholeAt ns e
-    end-whole z = s .nodes .tree e (rw is (end-inside (λ h. z (is ∙ h)))) .whole
-
-    pub end-hits : {near : List ℕ} {used : Test} → HitsIn used ns near 0 (s .count) → (e ≡ 65535 → ⊥) → HitsIn used ns near e (e + rowAt ns e .size)
-    end-hits h z = hits-in h (omega arith) (s .nodes .tree e (rw is (end-inside (λ h. z (is ∙ h)))) .ends)
+-- ---- At the end of a chain
+module _ {ns ends′ : List ℕ} {node : ℕ} (s : Ended ns ends′ node) {e : ℕ} (is : e ≡ endNode ns ends′ node) where
+  end-hits : {near : List ℕ} {used : Test} → HitsIn used ns near 0 (s .count) → (e ≡ 65535 → ⊥) → HitsIn used ns near e (e + rowAt ns e .size)
+  end-hits h z = hits-in h (omega arith) (s .nodes .tree e (end-inside s is z) .ends)
 
 -- ---- The sites of methods
 module _ (ds : List Definition) where
@@ -325,7 +234,7 @@ module _ {ns ends′ near : List ℕ} {service until first k places : ℕ} {old 
                 subst (λ (z : Row). Leads places k old (usesBy used (methodSites ds first (siblings ns (service + 1) until))) at′ mid′ (usesBy used (methodSites ds (m + 1) (siblings ns (i + z .size) until)))) (sym is)
                 (leads-on (l .left s u ds used x) (usesBy used own) (usesBy used rest)
                 (ap (usesBy used) (methods-open ds m method-here) ∙ uses-append used own rest)
-                (p (aliasEnd ds (treeAt ns i)) at-end used (end-hits here e ends-at (x .hits))));
+                (p (aliasEnd ds (treeAt ns i)) at-end used (end-hits here ends-at (x .hits))));
           }
 
 module _ {ns ends′ near : List ℕ} {service first k places : ℕ} {old mid : List ℕ} {i m at : ℕ} (q : Row) (is : q ≡ rowAt ns service)
@@ -358,21 +267,11 @@ services-start ns ends′ near services from until count places k old =
       left = λ o ds used x. leads-start places k old (usesBy used (methodSites ds 0 (methodsIn ns (take count services))));
     }
 
-class-are : (j : ℕ) (f : Forest Node) → classSites j f ≡ indexed 65535 0 j f
-unfolding classSites indexed
-class-are j end = refl
-class-are j (tree n k next) = ap (λ (l : List Site). site 65535 0 j (tree n k end) ∷ l) (class-are (suc j) next)
-
 module _ {ns ends′ near services : List ℕ} {from until count places k : ℕ} {old mid : List ℕ} {at m s : ℕ} (l : ServicesLeft ns ends′ near services from until count places k old mid at m s) where
   services-end : count ≤ s → (o : Offered ns ends′ from until services count) (ds : List Definition) (used : Test) → Known ns ends′ near (o .names) (o .nodes) ds used →
       Puts places k (usesBy used (methodSites ds 0 (methodsIn ns (take count services)))) old mid at
-  unfolding methodsIn methodSites
-  services-end h o ds used x =
-      let z : s ≡ count = omega (arith, l .passed) in
-      leads-end (l .left o ds used x)
-      (ap (λ (j : ℕ). usesBy used (methodSites ds m (methodsIn ns (slice j count services)))) z
-      ∙ ap (λ (q : List ℕ). usesBy used (methodSites ds m (methodsIn ns q))) (slice-empty count services)
-      ∙ uses-none used)
+  unfolding methodSites
+  services-end h o ds used x = leads-end (l .left o ds used x) (ap (λ (f : Forest Node). usesBy used (methodSites ds m f)) (services-over ns services (l .passed) h) ∙ uses-none used)
 
   module _ (h : s < count) (long : count ≤ length services) (w : WholeAt ns (getD services s 0)) where
     few-methods : breadth (siblings ns (getD services s 0 + 1) (getD services s 0 + rowAt ns (getD services s 0) .size)) ≤ 4096
@@ -385,7 +284,6 @@ module _ {ns ends′ near services : List ℕ} {from until count places k : ℕ}
         ((x : Ended ns ends′ (getD services s 0)) (ds : List Definition) (used : Test) → Known ns ends′ near (x .names) (x .count) ds used →
         Puts places at (usesBy used (methodSites ds m (siblings ns (getD services s 0 + 1) (getD services s 0 + rowAt ns (getD services s 0) .size)))) mid mid′ at′) →
         ServicesLeft ns ends′ near services from until count places k old mid′ at′ m′ (s + 1)
-    unfolding methodsIn
     services-on {m′} {at′} {mid′} position most p =
         let service = getD services s 0 in
         let under = siblings ns (service + 1) (service + rowAt ns service .size) in
@@ -399,9 +297,7 @@ module _ {ns ends′ near services : List ℕ} {from until count places k : ℕ}
               let own = methodSites ds m under in
               let rest = methodsIn ns (slice (s + 1) count services) in
               let opens : methodSites ds m (methodsIn ns (slice s count services)) ≡ own ++ methodSites ds m′ rest =
-              ap (λ (q : List ℕ). methodSites ds m (methodsIn ns q)) (slice-cons s count services 0 h long ∙ ap (λ (j : ℕ). service ∷ slice j count services) (sym (add-one s)))
-              ∙ ap (λ (f : Forest Node). methodSites ds m (beside f rest)) (tree-kids w)
-              ∙ methods-beside ds m under rest
+              ap (methodSites ds m) (services-open ns services h long w refl) ∙ methods-beside ds m under rest
               ∙ ap (λ (j : ℕ). own ++ methodSites ds j rest) (sym position) in
               leads-on (l .left o ds used x) (usesBy used own) (usesBy used (methodSites ds m′ rest)) (ap (usesBy used) opens ∙ uses-append used own (methodSites ds m′ rest))
               (p here ds used x);
@@ -424,5 +320,5 @@ module _ {ns ends′ near services : List ℕ} {from until count places k : ℕ}
       let methods = methodSites ds 0 (methodsIn ns (take count services)) in
       subst (λ (es : List Use). Puts places 0 es first mid at) (sym (uses-append used arguments methods))
       (puts-then
-      (subst (λ (q : List Site). Puts places 0 (usesBy used q) first old k) (sym (class-are 0 (siblings ns from until))) (p used (hits-in (x .hits) (omega arith) (o .inside))))
+      (subst (λ (q : List Site). Puts places 0 (usesBy used q) first old k) (sym (class-indexed 0 (siblings ns from until))) (p used (hits-in (x .hits) (omega arith) (o .inside))))
       (services-end h o ds used x))

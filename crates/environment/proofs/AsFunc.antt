@@ -1,5 +1,6 @@
--- The table of alias ends says what `asFunc` and `asService` say of the type at a node. Assumes nothing.
---     ends-func, ends-service     for a table without circles, whatever the definitions are that it was made of
+-- Where the chain of the type at a node ends, by the table of alias ends; so that says what `asFunc` and `asService` say. Assumes nothing.
+--     stays, node-ends, name-ends     where it ends
+--     ends-func, ends-service         for a table without circles, whatever the definitions are that it was made of
 use mathlib.Core.Path.{_≡_, refl, sym, ap, subst, _∙_}
 use mathlib.Core.Logic.{inl, inr}
 use mathlib.Core.Bool.{Bool, true, false, cond}
@@ -18,27 +19,40 @@ use Rattle.format.proofs.References.{kind-alone}
 use Rattle.format.proofs.Stored.{tree-opens}
 use Rattle.judgement.specs.Environment.{Found, missing, body, findType, named, other, head, End, unbound, circle, ends, chain, aliasEnd, isFuncKind, isServKind, rootPasses, asFunc, asService}
 use Rattle.judgement.proofs.Chains.{crosses, outcome, run-end}
-use Rattle.environment.specs.Tables.{Nodes, Binds, nameEnd, EndAt, AliasEndsAs, endIs}
+use Rattle.environment.specs.Tables.{Nodes, Binds, nameEnd, EndAt, Chains, AliasEndsAs, endIs}
 use Rattle.environment.proofs.Links.{chain-other, chain-unbound, head-var, head-other}
 use Rattle.environment.proofs.EndKinds.{is-other, is-none, is-end}
 
--- ---- the end of a name's chain is that of its definition
+-- ---- where a chain ends
 module _ (ds : List Definition) where
-  end-unbound : (t : Forest Node) (n : ℕ) → head t ≡ named n → findType ds n ≡ missing → aliasEnd ds t ≡ unbound n
+  pub stays : (t : Forest Node) → head t ≡ other → aliasEnd ds t ≡ ends t
   unfolding aliasEnd chain
-  end-unbound t n h f = chain-unbound ds t n h (length ds) f
+  stays t h = chain-other ds t (length ds) h
 
-  end-other : (t : Forest Node) → head t ≡ other → aliasEnd ds t ≡ ends t
-  unfolding aliasEnd chain
-  end-other t h = chain-other ds t (length ds) h
+  module _ (t : Forest Node) (n : ℕ) (h : head t ≡ named n) where
+    goes-on : (u : Forest Node) → findType ds n ≡ body u → (aliasEnd ds u ≡ circle → ⊥) → aliasEnd ds t ≡ aliasEnd ds u
+    unfolding aliasEnd chain
+    goes-on u f c =
+        elim (outcome ds (length ds) u .either) [
+          | inl r ↦ run-end ds (crosses {u = u} (record { is-name = h; is-type = f }) r)
+          | inr p ↦ absurd (c (p .0))
+        ]
 
-  end-on : (t u : Forest Node) (n : ℕ) → head t ≡ named n → findType ds n ≡ body u → (aliasEnd ds u ≡ circle → ⊥) → aliasEnd ds t ≡ aliasEnd ds u
-  unfolding aliasEnd chain
-  end-on t u n h f c =
-      elim (outcome ds (length ds) u .either) [
-        | inl r ↦ run-end ds (crosses {u = u} (record { is-name = h; is-type = f }) r)
-        | inr p ↦ absurd (c (p .0))
-      ]
+    -- the end of a name's chain is that of its definition, if it has an end
+    by-found : (ns : List ℕ) (e : ℕ) (f : Found) → findType ds n ≡ f → EndAt ns e (nameEnd ds n f) → aliasEnd ds t ≡ nameEnd ds n f
+    unfolding nameEnd aliasEnd chain
+    by-found ns e missing f q = chain-unbound ds t n h (length ds) f
+    by-found ns e (body u) f q = goes-on u f (λ c. subst (EndAt ns e) c q)
+
+-- of a node
+module _ {ns : List ℕ} {names count : ℕ} (x : Nodes ns names count) (ds : List Definition) {n : ℕ} (h : n < count) where
+  pub node-ends : (rowAt ns n .kind ≡ 18 → ⊥) → aliasEnd ds (treeAt ns n) ≡ ends (treeAt ns n)
+  node-ends k = stays ds (treeAt ns n) (head-other (x .tree n h .whole) (rowAt ns n) refl k)
+
+  pub name-ends : (ends′ : List ℕ) → Chains ns ends′ names ds → rowAt ns n .kind ≡ 18 → aliasEnd ds (treeAt ns n) ≡ nameEnd ds (rowAt ns n .value) (findType ds (rowAt ns n .value))
+  name-ends ends′ c k =
+      let v = rowAt ns n .value in
+      by-found ds (treeAt ns n) v (head-var (x .tree n h .whole) (rowAt ns n) refl k) ns (getD ends′ v 65535) (findType ds v) refl (c v (x .row n h .name k))
 
 -- ---- the kind at the end
 module _ (test : Kind → Bool) (kind : ℕ) (says : (k v : ℕ) → test (kindOf k v) ≡ eqb k kind) where
@@ -59,28 +73,18 @@ module _ (test : Kind → Bool) (kind : ℕ) (says : (k v : ℕ) → test (kindO
         ∙ sym (root-kind (x .tree e (a .nodes .node (rowAt ns n .value) (q .0)) .whole))
         ∙ ap (λ (u : Forest Node). rootPasses test (ends u)) (sym (q .1))
 
-    -- its chain ends where its definition's does
-    name-ends : (f : Found) → findType ds (rowAt ns n .value) ≡ f → rowAt ns n .kind ≡ 18 →
-        EndAt ns (getD ends′ (rowAt ns n .value) 65535) (nameEnd ds (rowAt ns n .value) f) → aliasEnd ds (treeAt ns n) ≡ nameEnd ds (rowAt ns n .value) f
-    unfolding nameEnd
-    name-ends missing f k q = end-unbound ds (treeAt ns n) (rowAt ns n .value) (head-var (x .tree n h .whole) (rowAt ns n) refl k) f
-    name-ends (body u) f k q =
-        end-on ds (treeAt ns n) u (rowAt ns n .value) (head-var (x .tree n h .whole) (rowAt ns n) refl k) f
-        (λ c. subst (EndAt ns (getD ends′ (rowAt ns n .value) 65535)) c q)
-
     ends-pass : endIs kind ns ends′ n ≡ rootPasses test (aliasEnd ds (treeAt ns n))
     ends-pass = go (ℕ-discrete (rowAt ns n .kind) 18)
       where
         go : Dec (rowAt ns n .kind ≡ 18) → endIs kind ns ends′ n ≡ rootPasses test (aliasEnd ds (treeAt ns n))
         go (yes k) =
             let v = rowAt ns n .value in
-            let q = a .all refl ds b l v (x .row n h .name k) in
-            by-end k (nameEnd ds v (findType ds v)) q ∙ ap (rootPasses test) (sym (name-ends (findType ds v) refl k q))
+            let c = a .all refl ds b l in
+            by-end k (nameEnd ds v (findType ds v)) (c v (x .row n h .name k)) ∙ ap (rootPasses test) (sym (name-ends x ds h ends′ c k))
         go (no k) =
-            let w = x .tree n h .whole in
             sym (is-other kind ns ends′ n (rowAt ns n) refl k)
-            ∙ sym (root-kind w)
-            ∙ ap (rootPasses test) (sym (end-other ds (treeAt ns n) (head-other w (rowAt ns n) refl k)))
+            ∙ sym (root-kind (x .tree n h .whole))
+            ∙ ap (rootPasses test) (sym (node-ends x ds h k))
 
 as-test : (b : Bool) → cond b true false ≡ b
 as-test true = refl

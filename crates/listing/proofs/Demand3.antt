@@ -3,7 +3,7 @@
 --     Answers, demand-3               a book that passed and has an actor
 --     DraftAnswers, demand-3-draft    a draft
 --     asked, sent, sent-draft         the same of the bytes that a supplier sends
---     p1-answers, p1-draft            document 01's P1; ring-answers, lost-draft: a ring, a draft that is unbound
+--     ring-answers, lost-draft       a book with a method ring, and a draft that is unbound; P1 is in the crate `examples`
 use mathlib.Core.Path.{_≡_, refl, sym, subst, _∙_}
 use mathlib.Core.Logic.{_↔_, _⊎_, inl, inr, ite, if-pos, if-neg, ⊎-elim, ⊎-map}
 use mathlib.Core.Bool.{Bool, true, false, cond}
@@ -37,7 +37,7 @@ use Rattle.listing.proofs.Listed.{Reaches, Listed, Lost, Misses}
 use Rattle.listing.proofs.Chased.{misses-lost}
 use Rattle.listing.proofs.Walked.{chases-unique}
 use Rattle.listing.proofs.Answered.{list-answered, draft-says, draft-stops, draft-lost, draft-either}
-use Rattle.listing.proofs.Examples.{p1, p1-list, p1-fits, p1-passes, p1-actor, p1-main, p1-once, ring, ring-fits, ring-passes, ring-actor, importing, import-fits, import-main, import-once, import-draft}
+use Rattle.listing.proofs.Examples.{ring, ring-fits, ring-passes, ring-actor, importing, import-fits, import-main, import-once, import-draft}
 use Rattle.listing.proofs.Marks.{MarkedIn, MarksIn}
 use Rattle.listing.proofs.Marked.{closed, way-comes, marks-listed}
 use Rattle.listing.proofs.Interface.{passed-interface, passed-once}
@@ -258,17 +258,7 @@ module _ (bytes : List ℕ) (b : Book) (read : layout bytes ≡ whole b) where
   pub sent-draft : (mainActor b ≡ end → ⊥) → Distinct (map nameOf (draftDefinitions b)) → DraftAnswers b
   sent-draft = demand-3-draft b (found bytes b .0 read .0)
 
--- ---- P1 of document 01 is such a book, and such a draft
-pub p1-answers : Answers p1
-p1-answers = demand-3 p1 p1-fits p1-passes p1-actor
-
-pub p1-listed : p1-answers .listed ≡ 3 ∷ 6 ∷ []
-p1-listed = let e = sym (p1-answers .listGiven .0) ∙ p1-list in cc
-
-pub p1-draft : DraftAnswers p1
-p1-draft = demand-3-draft p1 p1-fits p1-main p1-once
-
--- ---- A book with a method ring is such a book too; and a draft whose import has the definition that it lacks is refused
+-- ---- A book with a method ring is such a book; and a draft whose import has the definition that it lacks is such a draft, and refused
 pub ring-answers : Answers ring
 ring-answers = demand-3 ring ring-fits ring-passes ring-actor
 

@@ -46,11 +46,11 @@ listed : Book → Outcome (List ℕ)
 unfolding checked push arm chase meetName visit chaseTypes after actorVerdict walked list
 listed = list
 
-drafted : Book → Outcome (List ℕ)
+unfoldable pub drafted : Book → Outcome (List ℕ)
 unfolding listed draftDefinitions draftList
 drafted = draftList
 
-init-listed : Book → Outcome (List ℕ)
+unfoldable pub init-listed : Book → Outcome (List ℕ)
 unfolding listed initDefinitions isMissing mergeDefinitions sameVerdict mergeVerdict initTree initVerdict initCheck initList
 init-listed = initList
 
@@ -79,55 +79,6 @@ book ds actor = record {
   definitions = ds;
   files = record { name = 0; role = Main; actor = actor } ∷ (record { name = 0; role = TypeImport; actor = end } ∷ []);
 }
-
--- ---- P1 of document 01: pair is listed before tree, inside which it is met, and spare is not listed
--- type tree = variant { leaf : nat; fork : pair }; type pair = record { tree; tree }; type spare = text; service : { put : (tree) -> () }
-abbrev pub p1 : Book
-p1 =
-    let fork : ℕ = 1 in
-    let leaf : ℕ = 2 in
-    let pair : ℕ = 3 in
-    let put : ℕ = 4 in
-    let spare : ℕ = 5 in
-    let tree : ℕ = 6 in
-    record {
-      names = [] ∷ (102 ∷ 111 ∷ 114 ∷ 107 ∷ []) ∷ (108 ∷ 101 ∷ 97 ∷ 102 ∷ []) ∷ (112 ∷ 97 ∷ 105 ∷ 114 ∷ []) ∷ (112 ∷ 117 ∷ 116 ∷ []) ∷ (115 ∷ 112 ∷ 97 ∷ 114 ∷ 101 ∷ []) ∷ (116 ∷ 114 ∷ 101 ∷ 101 ∷ []) ∷ [];
-      definitions =
-          type 0 tree (plain VariantT (field (Named leaf) (PrimT Nat) (field (Named fork) (VarT pair) end)))
-          ∷ type 0 pair (plain RecordT (field (Unnamed 0) (VarT tree) (field (Unnamed 1) (VarT tree) end)))
-          ∷ type 0 spare (plain (PrimT Text) end)
-          ∷ [];
-      files = record { name = 0; role = Main; actor = service put (name tree) } ∷ [];
-    }
-
-pub p1-list : list p1 ≡ given (3 ∷ 6 ∷ [])
-unfolding listed
-p1-list = refl
-
--- It is a book as `list-answered` takes it.
-pub p1-fits : Fits p1
-unfolding fitting
-p1-fits = tt
-
-pub p1-passes : check p1 ≡ Passed
-unfolding checked
-p1-passes = refl
-
-pub p1-actor : resolveActor p1 ≡ end → ⊥
-unfolding checked
-p1-actor e = let z : _≡_ {A = ℕ} 0 1 = cc in omega arith
-
-pub p1-answered : Answered (mainDefinitions p1) (resolveActor p1) (list p1)
-p1-answered = list-answered p1 p1-fits p1-passes p1-actor
-
--- As a draft it has an actor, and no name defined twice.
-pub p1-main : mainActor p1 ≡ end → ⊥
-unfolding drafted
-p1-main e = let z : _≡_ {A = ℕ} 0 1 = cc in omega arith
-
-pub p1-once : Distinct (map nameOf (draftDefinitions p1))
-unfolding drafted
-p1-once = once-says (draftDefinitions p1) .0 refl
 
 -- ---- From left to right: type a = nat; type b = nat; service : { "" : (b, a) -> () }
 pub left-first : list (book (type 0 1 (plain (PrimT Nat) end) ∷ (type 0 2 (plain (PrimT Nat) end) ∷ [])) (service 0 (beside (name 2) (name 1)))) ≡ given (2 ∷ 1 ∷ [])

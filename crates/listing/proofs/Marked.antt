@@ -1,12 +1,11 @@
 -- What is marked. Assumes that each name is defined once and that leaves have no children, as in a book that fits and passes the check;
 -- and where it says so, that a walk has listed the names.
---     go-fits                             a definition is gone through by its references, one after the other
+--     go-each                             a definition is gone through by its references, one after the other
 --     infer-marks, infer-unbound          the marks over any list, or its first name without definition
 --     ascending-says, ascending-ascends   numbers of a set, ascending
 --     marked-listed, marked-on-circle,
 --     circle-has-marked                   the marks over what a walk lists, and circles of references
 --     marks-given, marks-unbound, ..      the question on a book
---     p1-marks                            document 01's P1, by computation
 use mathlib.Core.Path.{_≡_, refl, sym, ap, subst, _∙_}
 use mathlib.Core.Logic.{_⊎_, inl, inr, ⊎-elim, ⊎-map, _↔_, ite}
 use mathlib.Core.Bool.{Bool, true, false, cond}
@@ -17,13 +16,10 @@ use native.Mathlib.Decide.{ℕ-discrete, decLe}
 use native.Mathlib.Omega.{arith}
 use lib.Dec.{T}
 use lib.ListN.{length, length-append, length-map}
-use Rattle.labels.specs.declared.Label.{Label}
-use Rattle.labels.specs.declared.Label.the-variants.{Named, Unnamed}
-use Rattle.format.specs.declared.Place.{Place}
 use Rattle.format.specs.Forest.{Forest, end, tree}
-use Rattle.format.specs.Node.{Nat, Text, Kind, PrimT, VarT, OptT, VecT, RecordT, VariantT, FuncT, ServT, ClassT, InitT, unlabelled, labelled, Node}
+use Rattle.format.specs.Node.{Kind, PrimT, VarT, OptT, VecT, RecordT, VariantT, FuncT, ServT, ClassT, InitT, Node}
 use Rattle.format.specs.Book.{Definition, Book}
-use Rattle.format.specs.Fits.{forestFits, Fits}
+use Rattle.format.specs.Fits.{Fits}
 use Rattle.format.specs.References.{nameOf, references}
 use Rattle.format.proofs.Encoded.{fit-parts}
 use Rattle.book.specs.declared.refusal.Refusal.{Refusal}
@@ -38,9 +34,9 @@ use Rattle.judgement.proofs.Lookup.{pigeonhole, member-says, listed-or-not, fou
 use Rattle.judgement.proofs.Books.{main-definitions-fit}
 use Rattle.judgement.proofs.Theorems.{check-says}
 use Rattle.listing.specs.Recursive.{Marks, marking, unbound, note, noteName, markArm, go, see, listed, inferFrom, inferRec, ascending}
-use Rattle.listing.specs.Questions.{Outcome, refused, given, after, marked, marksOver}
+use Rattle.listing.specs.Questions.{refused, given, after, marked, marksOver}
 use Rattle.listing.specs.References.{Refers, onward, Way, last, step, Circle}
-use Rattle.listing.proofs.Folds.{each, each-append, Bare, Leafy, LeafyBodies, fits-leafy, kept-leafy}
+use Rattle.listing.proofs.Folds.{each, each-append, Bare, Leafy, LeafyBodies, kept-leafy}
 use Rattle.listing.proofs.Places.{place, place-in, place-left, place-right, place-seam}
 use Rattle.listing.proofs.Listed.{Listed}
 use Rattle.listing.proofs.Marks.{AtPlace, MarkedBy, AllDefined, FirstUnbound, MarksOver, MarkedIn, MarksIn}
@@ -94,7 +90,7 @@ arm-each ServT kids bare s below = below
 arm-each ClassT kids bare s below = below
 arm-each InitT kids bare s below = below
 
-go-each : (f : Forest Node) → Leafy f → (s : Marks) → go f s ≡ each noteName (references f) s
+pub go-each : (f : Forest Node) → Leafy f → (s : Marks) → go f s ≡ each noteName (references f) s
 unfolding go references each
 go-each end leafy s = refl
 go-each (tree n kids next) leafy s =
@@ -103,9 +99,6 @@ go-each (tree n kids next) leafy s =
     ∙ go-each next (leafy .2) (each noteName (nameOf κ ++ references kids) s)
     ∙ sym (each-append noteName (nameOf κ ++ references kids) (references next) s)
     ∙ ap (λ (l : List ℕ). each noteName l s) (append-assoc (nameOf κ) (references kids) (references next))
-
-pub go-fits : (names : ℕ) (p : Place) (f : Forest Node) → T (forestFits names p f) → (s : Marks) → go f s ≡ each noteName (references f) s
-go-fits names p f t = go-each f (fits-leafy names p f t)
 
 -- ---- What has been marked: p are the names gone through, Q is what is marked so far
 record Noted (p : List ℕ) (Q : ℕ → Type 0) (s : Marks) : Type 0 where
@@ -577,32 +570,3 @@ module _ (b : Book) (fits : Fits b) (passed : check b ≡ Passed) where
   marks-listed {out = out} walked =
       let g = marks-given out (λ n i. walked .defined n (walked .sound n i)) in
       (g .0, g .1, marks-in walked (g .0) (g .2), omega (arith, few-marks out (g .0) (g .2), few-definitions))
-
--- ---- P1 of document 01: of what is listed, pair and tree, tree alone is marked
-
--- The marks of a list, by every definition of them.
-computed : List Definition → ℕ → List ℕ → Outcome (List ℕ)
-unfolding member findType note noteName markArm go see listed inferFrom inferRec ascending marked
-computed ds names l = marked names (inferRec ds l)
-
-abbrev defined : ℕ → Kind → Forest Node → Definition
-defined n k kids = record { name = n; file = 0; body = tree (record { kind = k; label = unlabelled }) kids end }
-
-abbrev field : Label → Kind → Forest Node → Forest Node
-field l k next = tree (record { kind = k; label = labelled l }) end next
-
--- type tree = variant { leaf : nat; fork : pair }; type pair = record { tree; tree }; type spare = text
-pub p1-marks :
-    let fork : ℕ = 1 in
-    let leaf : ℕ = 2 in
-    let pair : ℕ = 3 in
-    let spare : ℕ = 5 in
-    let tree : ℕ = 6 in
-    marked 7 (inferRec (
-    defined tree VariantT (field (Named leaf) (PrimT Nat) (field (Named fork) (VarT pair) end))
-    ∷ defined pair RecordT (field (Unnamed 0) (VarT tree) (field (Unnamed 1) (VarT tree) end))
-    ∷ defined spare (PrimT Text) end
-    ∷ []
-    ) (pair ∷ tree ∷ [])) ≡ given (tree ∷ [])
-unfolding computed
-p1-marks = refl

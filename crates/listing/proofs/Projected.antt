@@ -44,11 +44,11 @@ use Rattle.listing.proofs.Used.{same-test}
 
 -- ---- How often a name stands in a list
 
-one-same : (n m : ℕ) → n ≡ m → one n m ≡ 1
+pub one-same : (n m : ℕ) → n ≡ m → one n m ≡ 1
 unfolding one
 one-same n m e = rw (eq-eqb n m e)
 
-one-other : (n m : ℕ) → (n ≡ m → ⊥) → one n m ≡ 0
+pub one-other : (n m : ℕ) → (n ≡ m → ⊥) → one n m ≡ 0
 unfolding one
 one-other n m h = rw (ne-eqb n m h)
 
@@ -62,7 +62,7 @@ member-times n (m ∷ l) = go (ℕ-discrete n m) (member-times n l)
     go (no h) i = rw (ne-eqb n m h, one-other n m h) (λ t. omega (arith, i .0 t), λ g. i .1 (omega arith))
 
 -- A list without its first n has n once less, and every other name as often.
-without-times : (n : ℕ) (l : List ℕ) → 0 < times n l → (k : ℕ) → times k (without n l) ≡ times k l - one k n
+pub without-times : (n : ℕ) (l : List ℕ) → 0 < times n l → (k : ℕ) → times k (without n l) ≡ times k l - one k n
 unfolding without times
 without-times n [] h k = absurd (omega arith)
 without-times n (m ∷ l) h k = go (ℕ-discrete m n) (λ g. without-times n l g k)

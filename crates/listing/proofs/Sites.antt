@@ -1,6 +1,7 @@
 -- `sites` finds the arguments and results of an actor, in document 01's order. Assumes that each name is defined once; where it matters
 -- that methods are functions, the lemma says so.
 --     indexed-says, indexed-at     trees with their indices
+--     class-indexed, ..            the definitions by trees are lists of those
 --     sites-are, methods-listed    `sites` is the list, and where methods are functions there is one
 --     sites-say                    its elements
 --     sites-at, sites-length       where each stands, and how many there are
@@ -89,7 +90,7 @@ indexed-at m r i (tree n kids next) zero d h = rw (add-zero i)
 indexed-at m r i (tree n kids next) (suc k) d h = indexed-at m r (suc i) next k d (omega arith) ∙ ap (λ (j : ℕ). site m r j (treeAt k next)) (omega arith)
 
 -- ---- `sites` is the list
-class-indexed : (i : ℕ) (f : Forest Node) → classSites i f ≡ indexed 65535 0 i f
+pub class-indexed : (i : ℕ) (f : Forest Node) → classSites i f ≡ indexed 65535 0 i f
 unfolding classSites indexed
 class-indexed i end = refl
 class-indexed i (tree n kids next) = ap (λ (l : List Site). site 65535 0 i (tree n kids end) ∷ l) (class-indexed (suc i) next)
@@ -105,7 +106,7 @@ arguments-indexed m a i end = rw (after-none a)
 arguments-indexed m zero i (tree n kids next) = ap (λ (l : List Site). site m 0 i (tree n kids end) ∷ l) (results-indexed m 0 next)
 arguments-indexed m (suc a) i (tree n kids next) = ap (λ (l : List Site). site m 0 i (tree n kids end) ∷ l) (arguments-indexed m a (suc i) next)
 
-function-indexed : (m a : ℕ) (f : Forest Node) → funcSites m a 0 f ≡ functionSites m a f
+pub function-indexed : (m a : ℕ) (f : Forest Node) → funcSites m a 0 f ≡ functionSites m a f
 unfolding indexed firstTrees afterTrees
 function-indexed m zero f = results-indexed m 0 f
 function-indexed m (suc a) f = arguments-indexed m a 0 f

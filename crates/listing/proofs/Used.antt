@@ -290,7 +290,7 @@ pub sites-walk : (ds : List Definition) (Fit : Forest Node → Type 0) → Inher
     (actor : Forest Node) → Fit (belowTop actor) → EachSite (WalkLists ds) (sites ds actor)
 sites-walk ds Fit passes walks actor fit s m = walks (s .type) (sites-inherit ds Fit passes actor fit s m)
 
-uses-kept : (ds : List Definition) (n : ℕ) (all : List Site) → usesAt ds n all ≡ map entryOf (kept (λ s. isListed n (chaseTypes ds (s .type))) all)
+pub uses-kept : (ds : List Definition) (n : ℕ) (all : List Site) → usesAt ds n all ≡ map entryOf (kept (λ s. isListed n (chaseTypes ds (s .type))) all)
 unfolding usesAt kept
 uses-kept ds n [] = refl
 uses-kept ds n (s ∷ all) = go (isListed n (chaseTypes ds (s .type))) (uses-kept ds n all)

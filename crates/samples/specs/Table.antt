@@ -1,6 +1,6 @@
 -- Document 01's examples P1 and P3 to P11 as one table: the bytes of each, and what they are. Definitions; assumes nothing.
 -- P2 is about numbers of names and not about books. P10's book is the one of which methods are asked.
--- A further outcome is a further field of `Sample`, and an equation of two columns more in proofs/Theorems.antt.
+-- What is answered on them is the table of the crate `examples`.
 use mathlib.Core.List.{List, [], _∷_}
 use Prim.Native.Nat.{ℕ}
 use Rattle.format.specs.Book.{Book}

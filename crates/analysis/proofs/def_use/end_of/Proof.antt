@@ -2,7 +2,7 @@
 use mathlib.Core.Path.{_∙_}
 use native.Mathlib.Omega.{arith}
 use Rattle.environment.proofs.Links.{getD-within}
-use Rattle.analysis.proofs.SitedMethods.{end-other, end-named, served-within, served-small, served-named}
+use Rattle.analysis.proofs.ChainEnds.{end-other, end-named, served-within, served-small, served-named}
 use borrow.Author.Needs.{needs}
 use Rattle.analysis.proofs.def_use.end_of.Statement.{statement}
 use Rattle.analysis.proofs.def_use.end_of.Tie as tie

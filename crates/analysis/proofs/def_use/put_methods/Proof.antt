@@ -3,7 +3,8 @@ use Prim.Native.Nat.{_-_}
 use mathlib.Core.Path.{ap}
 use native.Mathlib.Omega.{arith}
 use Rattle.format.specs.Encode.{Row}
-use Rattle.analysis.proofs.SitedMethods.{served-whole, served-within, served-small, served-until, served-at, end-whole, MethodsLeft, methods-start, methods-few, method-within, method-next, methods-on, methods-most, methods-counted, methods-puts}
+use Rattle.analysis.proofs.ChainEnds.{served-whole, served-within, served-small, served-until, served-at, end-whole}
+use Rattle.analysis.proofs.SitedMethods.{MethodsLeft, methods-start, methods-few, method-within, method-next, methods-on, methods-most, methods-counted, methods-puts}
 use Rattle.analysis.proofs.def_use.put_methods.Statement.{statement}
 use Rattle.analysis.proofs.def_use.put_methods.Tie as tie
 use Rattle.analysis.proofs.def_use.put_methods.Reads as reads
@@ -47,7 +48,7 @@ put-end-requires c κs =
     let p = c .before .before .before .before .before .before .before .before .before .before .pre in
     let l = c .before .before .before .loop .inv in
     let here = served-at (p .0) (c .before .before .before .loop .i) (omega (arith, served-until (p .0), ap (λ (q : Row). q .size) (c .before .before .before .before .before .at .ensures), c .before .before .loop-test .taken)) in (
-      end-whole here _ (c .before .end-of .ensures),
+      end-whole here (c .before .end-of .ensures),
       p .1,
       omega (arith, p .2, l .long),
       omega (arith, p .4, l .few, methods-few l, c .before .before .loop-test .taken),

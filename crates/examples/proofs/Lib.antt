@@ -1,0 +1,5 @@
+-- What is proved of the table, and of P1 and P5 besides.
+pub mod Computed
+pub mod Theorems
+pub mod P1
+pub mod P5

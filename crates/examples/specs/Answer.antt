@@ -1,0 +1,56 @@
+-- What is asked of bytes and what is answered, by the definitions that the contracts cite. Definitions; assumes nothing.
+-- A name in an answer is its bytes, not its number, so that an answer reads as document 01 has it.
+use mathlib.Core.List.{List, map}
+use Prim.Native.Nat.{ℕ}
+use Rattle.labels.specs.Number.{labelNumber}
+use Rattle.format.specs.Book.{Book}
+use Rattle.format.specs.Layout.{layout}
+use Rattle.book.specs.declared.refusal.Refusal.{Refusal}
+use Rattle.book.specs.declared.refusal.Verdict.{Verdict}
+use Rattle.book.specs.declared.refusal.Verdict.the-variants.{Passed, Refused}
+use Rattle.book.specs.Refusal as refusals
+use Rattle.book.specs.Reading.{nameIn}
+use Rattle.judgement.specs.Check.{checkBytes, initCheckBytes}
+use Rattle.listing.specs.Questions.{Outcome, given, marksOver, onLayout}
+use Rattle.listing.specs.Questions as questions
+
+-- The hash is asked of a name's bytes, all others of a book's. Marks are those of the book's own list; names are asked for by number.
+pub data Question : Type 0 where
+  hash check initCheck list marks emptiness : Question
+  project : List ℕ → Question
+
+-- A refusal has document 01's number and the name that it says.
+pub data Answer : Type 0 where
+  number : ℕ → Answer
+  passes : Answer
+  refused : (number : ℕ) (name : List ℕ) → Answer
+  names : List (List ℕ) → Answer
+  methods : (positions : List ℕ) → Answer
+
+unfoldable pub refusal : List ℕ → Refusal → Answer
+refusal bs r = refused (refusals.numberOf r) (nameIn bs (refusals.nameOf r))
+
+unfoldable pub ofVerdict : List ℕ → Verdict → Answer
+ofVerdict bs Passed = passes
+ofVerdict bs (Refused r) = refusal bs r
+
+unfoldable pub ofOutcome : List ℕ → (List ℕ → Answer) → Outcome (List ℕ) → Answer
+ofOutcome bs say (questions.refused r) = refusal bs r
+ofOutcome bs say (given l) = say l
+
+unfoldable pub spelt : List ℕ → List ℕ → Answer
+spelt bs l = names (map (nameIn bs) l)
+
+-- The marks over what was listed.
+unfoldable pub listMarks : Book → Outcome (List ℕ) → Outcome (List ℕ)
+listMarks b (questions.refused r) = questions.refused r
+listMarks b (given l) = marksOver b l
+
+unfoldable pub answer : Question → List ℕ → Answer
+answer hash bs = number (labelNumber bs)
+answer check bs = ofVerdict bs (checkBytes bs)
+answer initCheck bs = ofVerdict bs (initCheckBytes bs)
+answer list bs = ofOutcome bs (spelt bs) (onLayout questions.list (layout bs))
+answer marks bs = ofOutcome bs (spelt bs) (onLayout (λ b. listMarks b (questions.list b)) (layout bs))
+answer emptiness bs = ofOutcome bs (spelt bs) (onLayout questions.emptiness (layout bs))
+answer (project asked) bs = ofOutcome bs methods (onLayout (λ b. questions.project b asked) (layout bs))
