@@ -1,5 +1,6 @@
 -- The numbers of verdicts and answers, by their parts. Assumes nothing.
 use mathlib.Core.Path.{_≡_, refl, sym, ap, subst, _∙_}
+use mathlib.Core.Logic.{⊎-elim}
 use mathlib.Core.Bool.{Bool, true, false, cond}
 use mathlib.Core.List.{List}
 use Prim.Native.Nat.{ℕ, _+_, _*_, _≤_, _<_}
@@ -40,13 +41,13 @@ unfolding coded
 refused-code e f g = rw (e, f, g)
 
 -- ---- Answers
-pub needed-low : {why : Refusal} {number needed : ℕ} → number ≡ numberOf why → number ≡ 16 → needed ≡ neededOf why → needed ≡ lowOf why
+pub needed-low : (why : Refusal) {number needed : ℕ} → number ≡ numberOf why → number ≡ 16 → needed ≡ neededOf why → needed ≡ lowOf why
 unfolding lowOf
-needed-low {why} e f g = rw (sym e ∙ f) g
+needed-low why e f g = rw (sym e ∙ f) g
 
-pub name-low : {why : Refusal} {number name : ℕ} → number ≡ numberOf why → (number ≡ 16 → ⊥) → name ≡ nameOf why → name ≡ lowOf why
+pub name-low : (why : Refusal) {number name : ℕ} → number ≡ numberOf why → (number ≡ 16 → ⊥) → name ≡ nameOf why → name ≡ lowOf why
 unfolding lowOf
-name-low {why} e f g = rw (ne-eqb (numberOf why) 16 (λ h. f (e ∙ h))) g
+name-low why e f g = rw (ne-eqb (numberOf why) 16 (λ h. f (e ∙ h))) g
 
 pub given-code : {a : Answer} {n : ℕ} → a ≡ Given n → n ≡ codedAnswer a
 unfolding codedAnswer
@@ -56,23 +57,12 @@ pub answer-refused : {a : Answer} {why : Refusal} {number low : ℕ} → a ≡ R
 unfolding codedAnswer
 answer-refused e f g = rw (e, f, g)
 
-low-small : (r : Refusal) → neededOf r < 65536 → nameOf r < 65536 → lowOf r < 65536
-unfolding lowOf
-low-small r h k = go (eqb (numberOf r) 16)
-  where
-    go : (b : Bool) → cond b (neededOf r) (nameOf r) < 65536
-    go true = h
-    go false = k
-
-pub refused-small : {a : Answer} {why : Refusal} {low : ℕ} → Small a → a ≡ RefusedAnswer why → nameOf why < 65536 → low ≡ lowOf why → low < 65536
-refused-small {why = why} s e h f = rw f (low-small why (subst Small e s) h)
-
 -- The list has no more than 512 entries, so what is given and what is needed are small.
 list-few : (bs l : List ℕ) → onLayout list (layout bs) ≡ given l → length l ≤ 512
+unfolding onLayout
 list-few bs l e = go (layout bs) refl e
   where
     go : (x : Layout) → layout bs ≡ x → onLayout list x ≡ given l → length l ≤ 512
-    unfolding onLayout
     go broken z e = let y : _≡_ {A = ℕ} 0 1 = cc in absurd (omega arith)
     go (whole b) z e =
         let fits = found bs b .0 z .0 in
@@ -98,19 +88,19 @@ needs-none b (ImportWithoutActor n) h = refl
 needs-none b (ImportNoService n) h = refl
 needs-none b (SameHash n) h = refl
 needs-none b (Absent n) h = refl
-needs-none b (Short n) h = absurd h
+needs-none b (Short n) h = ⊎-elim (λ x. absurd x) (λ y. ⊎-elim (λ x. absurd x) (λ x. absurd x) y) h
 needs-none b NoActor h = refl
 
-why : {A : Type 0} → Outcome A → Refusal
-why (refused r) = r
-why (given a) = Broken
+abbrev whyOf : Outcome (List ℕ) → Refusal
+whyOf (refused r) = r
+whyOf (given a) = Broken
 
 -- where the list is refused, nothing is needed
 list-needs : (b : Book) → Fits b → (r : Refusal) → list b ≡ refused r → neededOf r ≡ 0
 list-needs b fits r e = go (check b) refl
   where
     same : (q : Refusal) → list b ≡ refused q → neededOf q ≡ 0 → neededOf r ≡ 0
-    same q f h = subst (λ (x : Refusal). neededOf x ≡ 0) (ap why (sym f ∙ e)) h
+    same q f h = subst (λ (x : Refusal). neededOf x ≡ 0) (ap whyOf (sym f ∙ e)) h
 
     actor : check b ≡ Passed → (t : Forest Node) → resolveActor b ≡ t → neededOf r ≡ 0
     actor p end a = same NoActor (list-no-actor b fits p a) refl
@@ -119,10 +109,10 @@ list-needs b fits r e = go (check b) refl
 
     go : (v : Verdict) → check b ≡ v → neededOf r ≡ 0
     go Passed p = actor p (resolveActor b) refl
-    go (Refused q) p = same q (list-refused b fits p) (needs-none b q (check-row b fits p))
+    go (Refused q) p = same q (list-refused b fits p) (needs-none b q (check-row b p))
 
 pub list-small : (bs old : List ℕ) → Small (answerOf (fit (length old) (onLayout list (layout bs))))
-unfolding answerOf fit
+unfolding answerOf fit onLayout
 list-small bs old = go (layout bs) refl
   where
     look : (l : List ℕ) (b : Bool) → length l ≤ 512 → Small (answerOf (cond b (given l) (refused (Short (length l)))))

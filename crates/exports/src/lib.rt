@@ -40,7 +40,8 @@ pub extern "C" fn ludzepin_init_check(book: &[u8]) -> u32
 
 // The low bits of a refusal's number.
 fn low(why: Refusal) -> u32
-    ensures { λ r. ⌜ r ≡ lowOf why ⌝ }
+    ensures is { λ r. ⌜ r ≡ lowOf why ⌝ }
+    ensures small { λ r. ⌜ (neededOf why < 65536 → r < 65536) ⌝ }
 {
     if why.number() == 16 {
         return why.needed();

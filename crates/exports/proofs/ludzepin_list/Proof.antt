@@ -1,0 +1,26 @@
+-- `ludzepin_list` meets its contract. Assumes nothing.
+use mathlib.Core.Path.{sym, ap, subst, _∙_}
+use Rattle.exports.specs.Coded.{codedAnswer, Small}
+use Rattle.exports.proofs.Codes.{list-small}
+use borrow.Author.Needs.{needs}
+use Rattle.exports.proofs.ludzepin_list.Statement.{statement}
+use Rattle.exports.proofs.ludzepin_list.Tie as tie
+use Rattle.exports.proofs.ludzepin_list.Reads as reads
+use Rattle.exports.proofs.ludzepin_list.Lts as lts
+use Rattle.exports.proofs.answer_code.Reads as answer-code-reads
+use Rattle.questions.proofs.list.Reads as list-reads
+
+list-requires : tie.Need-list-requires
+list-requires c κs = search needs
+
+answer-code-requires : tie.Need-answer-code-requires
+answer-code-requires c κs = subst Small (sym (c .before .before .list .ensures .answer)) (list-small (c .before .before .before .before .before .before .args .book .now) (c .before .before .before .before .before .before .args .out .now))
+
+same-length : tie.Need-same-length
+same-length c = search needs
+
+returns : tie.Need-returns
+returns c = (c .answer-code .ensures ∙ ap codedAnswer (c .before .before .before .list .ensures .answer), c .before .before .before .list .ensures .left)
+
+pub ludzepin-list-spec : {M : Type 1} → statement M
+ludzepin-list-spec = tie.close (tie.spec list-requires answer-code-requires same-length returns)
