@@ -1,16 +1,14 @@
 // Replays a batch of books from standard input, as tools/mkbatch.py makes it, and prints a line for each: what its layout is. On the way
 // each name of a book is asked for by its number, and compared with the name that a plain walk over the bytes finds.
 ghost use mathlib.Core.Path.{_≡_};
-ghost use mathlib.Core.Bool.{true};
 ghost use Prim.Native.Nat.{_≤_};
-ghost use lib.ListN.{length};
 ghost use Rattle.format.specs.Layout.{layout, same};
 ghost use Rattle.text.specs.Laid.{Laid};
 ghost use Rattle.layout_batch.specs.Line.{counts, line};
+use batch::Record;
 use book::Reading;
 use book::kinds::Contents;
 use book::refusal::Refusal;
-use libc::STDIN_FILENO;
 use libc::STDOUT_FILENO;
 
 // The counts of a book, from place `at` on.
@@ -132,85 +130,38 @@ fn replay(source: &[u8], book: &[u8]) -> Tally {
     ask(book, names_in(book))
 }
 
-// Reads just so many bytes to the beginning of a buffer. Answers whether they came and it has room for them.
-fn read_exactly(buffer: &mut [u8], size: usize) -> bool
-    ensures { λ r. ⌜ (r ≡ true → size ≤ length (now (buffer .exit))) ⌝ }
-{
-    if buffer.len() < size {
-        return false;
-    }
-    io::read_full(STDIN_FILENO, &mut buffer[..size]) == size
-}
-
-// What reading a record comes to.
-enum Turn {
-    End,
-    Cut,
+// The next record, where there is one.
+enum Step {
+    Over,
     Replayed(Tally),
 }
 
-fn room_for_book() -> [u8; 65537]
-    ensures { λ r. ⌜ 65537 ≡ length r ⌝ }
-{
-    [0; 65537]
-}
-
-// A byte as a length.
-fn wide(b: u8) -> usize
-    ensures { λ r. ⌜ r ≡ b ⌝ }
-{
-    b as usize
-}
-
-// One record: a length byte and the source's name, four bytes of length and the book.
-fn record() -> Turn {
-    let mut head = [0u8; 1];
-    if !read_exactly(&mut head, 1) {
-        return Turn::End;
-    }
-    let source_size = wide(head[0]);
-    let mut source = [0u8; 255];
-    if !read_exactly(&mut source, source_size) {
-        return Turn::Cut;
-    }
-    let mut word = [0u8; 4];
-    if !read_exactly(&mut word, 4) {
-        return Turn::Cut;
-    }
-    let size = book::read::word(&word, 0) as usize;
-    let mut book = room_for_book();
-    if !read_exactly(&mut book, size) {
-        return Turn::Cut;
-    }
-    Turn::Replayed(replay(&source[..source_size], &book[..size]))
+fn turn() -> Step {
+    let mut source = batch::room_for_source();
+    let mut book = batch::room_for_book();
+    let Record::Read(source_size, size) = batch::next(&mut source, &mut book) else {
+        return Step::Over;
+    };
+    Step::Replayed(replay(&source[..source_size], &book[..size]))
 }
 
 // All records. A proved loop has to end, and nothing says that the input does: the turns are counted down from a number that no run
 // uses up.
-fn batch() -> Tally {
+fn replay_all() -> Tally {
     let mut tally = Tally::none();
     let mut turns = u64::MAX;
     while 0 < turns {
-        let turn = record();
-        match turn {
-            Turn::Replayed(more) => {
-                tally = tally.add(more);
-            }
-            Turn::Cut => {
-                io::write_all(STDOUT_FILENO, b"the batch is cut\n");
-                return tally;
-            }
-            Turn::End => {
-                return tally;
-            }
-        }
+        let Step::Replayed(more) = turn() else {
+            return tally;
+        };
+        tally = tally.add(more);
         turns -= 1;
     }
     tally
 }
 
 fn main() {
-    let tally = batch();
+    let tally = replay_all();
     io::write_all(STDOUT_FILENO, b"names ");
     io::print_decimal(STDOUT_FILENO, tally.asked);
     io::write_all(STDOUT_FILENO, b" asked ");

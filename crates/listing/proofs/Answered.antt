@@ -51,10 +51,10 @@ pub record Answered (ds : List Definition) (start : Forest Node) (o : Outcome (L
   pub short : length names ≤ maxDefinitions
 
 -- ---- Outcomes
-given-refused : {A : Type 0} {l : List ℕ} {r : Refusal} → _≡_ {A = Outcome (List ℕ)} (refused r) (given l) → A
+pub given-refused : {A B : Type 0} {l : B} {r : Refusal} → _≡_ {A = Outcome B} (refused r) (given l) → A
 given-refused e = let z : _≡_ {A = ℕ} 0 1 = cc in absurd (omega arith)
 
-after-given : (v : Verdict) (o : Outcome (List ℕ)) {l : List ℕ} → after v o ≡ given l → (v ≡ Passed) × (o ≡ given l)
+pub after-given : {A : Type 0} (v : Verdict) (o : Outcome A) {l : A} → after v o ≡ given l → (v ≡ Passed) × (o ≡ given l)
 unfolding after
 after-given Passed o e = (refl, e)
 after-given (Refused r) o e = given-refused e
@@ -79,7 +79,7 @@ unfolding actorVerdict noTrees
 actor-passed end h = absurd (h refl)
 actor-passed (tree n kids next) h = refl
 
-passed-actor : (t : Forest Node) → actorVerdict t ≡ Passed → t ≡ end → ⊥
+pub passed-actor : (t : Forest Node) → actorVerdict t ≡ Passed → t ≡ end → ⊥
 unfolding actorVerdict noTrees
 passed-actor end e q = let z : _≡_ {A = ℕ} 0 1 = cc in omega arith
 passed-actor (tree n kids next) e q = let z : _≡_ {A = ℕ} 0 1 = cc in omega arith
@@ -240,7 +240,7 @@ module _ (b : Book) (fits : Fits b) where
   arguments = kidsOf (initTree (b .files))
 
   module _ (w : WellFormed b) (i : WellFormedInit b) where
-    merged-once : Distinct (map nameOf merged)
+    pub merged-once : Distinct (map nameOf merged)
     merged-once = merge-distinct (initDefinitions b) ds (i .definitions .once) (w .definitions .once)
 
     merged-bound : (d : Definition) → List·Memᴰ d merged → Bound merged (d .body)

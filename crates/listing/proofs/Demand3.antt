@@ -3,6 +3,7 @@
 --     Answers, demand-3               a book that passed and has an actor
 --     DraftAnswers, demand-3-draft    a draft
 --     asked, sent, sent-draft         the same of the bytes that a supplier sends
+--     Sent, sent-bytes, ..            what the entry points answer on these bytes, in so many places
 --     ring-answers, lost-draft       a book with a method ring, and a draft that is unbound; P1 is in the crate `examples`
 use mathlib.Core.Path.{_≡_, refl, sym, subst, _∙_}
 use mathlib.Core.Logic.{_↔_, _⊎_, inl, inr, ite, if-pos, if-neg, ⊎-elim, ⊎-map}
@@ -119,7 +120,7 @@ pub record DraftAnswers (b : Book) : Type 0 where
 
 -- ---- Lent lists
 module _ {A : Type 0} where
-  gives : (o : Outcome (List A)) {l : List A} → o ≡ given l → Gives o l
+  pub gives : (o : Outcome (List A)) {l : List A} → o ≡ given l → Gives o l
   unfolding fit
   gives o {l} e = (e, λ places h. rw (e, is-true (leb (length l) places) (le→leb (length l) places h)))
 
@@ -175,7 +176,7 @@ module _ {u n : ℕ} where
 
 -- ---- The list and its marks
 module _ {ds : List Definition} {actor : Forest Node} {seen l : List ℕ} (walked : Listed ds actor seen l) where
-  lists-all : Distinct (map nameOf ds) → Lists ds actor l
+  pub lists-all : Distinct (map nameOf ds) → Lists ds actor l
   lists-all defined-once = record {
     inOrder = (seen, walked .chased);
     alone = λ k c. chases-unique ds defined-once (c .1) (walked .chased) .1;
@@ -247,6 +248,24 @@ demand-3-draft b fits some once =
     }
 
 -- ---- Whatever book a supplier sends, as bytes: it fits, and the questions on the bytes are those on it
+
+-- What the entry points answer is `fit` of a question on the bytes: of list, marks and uses what `Answers` says, in places enough.
+pub record Sent (bytes : List ℕ) (b : Book) : Type 0 where
+  pub answers : Answers b
+  pub listSent : Gives (onLayout list (layout bytes)) (answers .listed)
+  pub marksSent : Gives (onLayout (λ c. marksOver c (answers .listed)) (layout bytes)) (answers .marked)
+  pub usesSent : (n : ℕ) → Gives (onLayout (λ c. uses c n) (layout bytes)) (answers .row n)
+
+-- Of a draft what `DraftAnswers` says.
+pub record SentDraft (bytes : List ℕ) (b : Book) : Type 0 where
+  pub answers : DraftAnswers b
+  pub unboundSent : (places : ℕ) →
+      ((n : ℕ) × (fit places (onLayout draftList (layout bytes)) ≡ refused (Unbound n))) ↔ ((n : ℕ) × Lost (draftDefinitions b) (mainActor b) n)
+  pub firstSent : (places n : ℕ) →
+      (fit places (onLayout draftList (layout bytes)) ≡ refused (Unbound n)) ↔ Misses (draftDefinitions b) (references (mainActor b)) [] [] n
+  pub answeredSent : ((n : ℕ) → Lost (draftDefinitions b) (mainActor b) n → ⊥) → (l : List ℕ) × Gives (onLayout draftList (layout bytes)) l
+  pub listsSent : (places : ℕ) (l : List ℕ) → fit places (onLayout draftList (layout bytes)) ≡ given l → Lists (draftDefinitions b) (mainActor b) l
+
 module _ (bytes : List ℕ) (b : Book) (read : layout bytes ≡ whole b) where
   pub asked : {A : Type 0} (question : Book → Outcome A) → onLayout question (layout bytes) ≡ question b
   unfolding onLayout
@@ -257,6 +276,33 @@ module _ (bytes : List ℕ) (b : Book) (read : layout bytes ≡ whole b) where
 
   pub sent-draft : (mainActor b ≡ end → ⊥) → Distinct (map nameOf (draftDefinitions b)) → DraftAnswers b
   sent-draft = demand-3-draft b (found bytes b .0 read .0)
+
+  sent-gives : {A : Type 0} (question : Book → Outcome (List A)) {l : List A} → Gives (question b) l → Gives (onLayout question (layout bytes)) l
+  sent-gives question g = gives (onLayout question (layout bytes)) (asked question ∙ g .0)
+
+  pub sent-bytes : check b ≡ Passed → (resolveActor b ≡ end → ⊥) → Sent bytes b
+  sent-bytes passed some =
+      let a = sent passed some in
+      record {
+        answers = a;
+        listSent = sent-gives list (a .listGiven);
+        marksSent = sent-gives (λ c. marksOver c (a .listed)) (a .marksGiven);
+        usesSent = λ n. sent-gives (λ c. uses c n) (a .usesGiven n);
+      }
+
+  pub sent-draft-bytes : (mainActor b ≡ end → ⊥) → Distinct (map nameOf (draftDefinitions b)) → SentDraft bytes b
+  sent-draft-bytes some once =
+      let a = sent-draft some once in
+      record {
+        answers = a;
+        unboundSent = rw (asked draftList) (a .unbound);
+        firstSent = λ places n. (
+          λ e. a .firstMet n .0 (sym (asked draftList) ∙ fit-unbound places (onLayout draftList (layout bytes)) n .0 e),
+          λ m. fit-unbound places (onLayout draftList (layout bytes)) n .1 (asked draftList ∙ a .firstMet n .1 m),
+        );
+        answeredSent = λ all. let x = a .answered all in (x .0, sent-gives draftList (x .1));
+        listsSent = rw (asked draftList) (a .lists);
+      }
 
 -- ---- A book with a method ring is such a book; and a draft whose import has the definition that it lacks is such a draft, and refused
 pub ring-answers : Answers ring

@@ -13,3 +13,4 @@ pub mod Sites
 pub mod Used
 pub mod Projected
 pub mod Demand3
+pub mod Rowed

@@ -39,7 +39,8 @@ use Rattle.listing.specs.References.{Refers, onward, Way, last, step, Ci
 use Rattle.listing.proofs.Folds.{each, each-append, Bare, Leafy, LeafyBodies, kept-leafy}
 use Rattle.listing.proofs.Places.{place, place-in, place-left, place-right, place-seam}
 use Rattle.listing.proofs.Listed.{Listed}
-use Rattle.listing.proofs.Marks.{AtPlace, MarkedBy, AllDefined, FirstUnbound, MarksOver, MarkedIn, MarksIn}
+use Rattle.listing.specs.Rows.{AtPlace, MarkedBy, AllDefined, FirstUnbound}
+use Rattle.listing.proofs.Marks.{MarksOver, MarkedIn, MarksIn}
 
 -- ---- A list by its first name
 no-place : {A : Type 0} {P : List ℕ → ℕ → Type 0} → AtPlace [] P → A

@@ -1,35 +1,14 @@
 -- What the marks over a list of names are, in terms of references alone. Definitions; assumes nothing.
-use mathlib.Core.Path.{_≡_}
 use mathlib.Core.Logic.{_⊎_, _↔_}
-use mathlib.Core.List.{List, _∷_, _++_, List·Memᴰ}
+use mathlib.Core.List.{List, List·Memᴰ}
 use Prim.Native.Nat.{ℕ, _<_}
 use Rattle.format.specs.Book.{Definition}
-use Rattle.judgement.specs.WellFormed.{Defined}
 use Rattle.judgement.specs.Empty.{Ascends}
 use Rattle.listing.specs.References.{Refers, Circle}
+use Rattle.listing.specs.Rows.{MarkedBy}
 use Rattle.listing.proofs.Places.{place}
 
--- P of a name at some place of a list, with the names before it.
-pub record AtPlace (l : List ℕ) (P : List ℕ → ℕ → Type 0) : Type 0 where
-  pub before : List ℕ
-  pub name : ℕ
-  pub following : List ℕ
-  pub parts : l ≡ before ++ (name ∷ following)
-  pub holds : P before name
-
 -- ---- Any list of names, in any order and with repeats
-
--- Some place of the list has n in its definition's body, and no place before it lists n. The list need not hold n.
-abbrev pub MarkedBy : List Definition → List ℕ → ℕ → Type 0
-MarkedBy ds l n = AtPlace l (λ xs u. Refers ds u n × (List·Memᴰ n xs → ⊥))
-
--- All listed names have a definition.
-abbrev pub AllDefined : List Definition → List ℕ → Type 0
-AllDefined ds l = (n : ℕ) → List·Memᴰ n l → Defined ds n
-
--- n is the first listed name that has none.
-abbrev pub FirstUnbound : List Definition → List ℕ → ℕ → Type 0
-FirstUnbound ds l n = AtPlace l (λ xs u. (u ≡ n) × (Defined ds n → ⊥) × AllDefined ds xs)
 
 -- These are the marks, ascending.
 pub record MarksOver (ds : List Definition) (l marks : List ℕ) : Type 0 where

@@ -1,5 +1,5 @@
 -- What the questions answer. Read in this order: Chase, Recursive, Uses, Project, Questions; then References and Offers, which say what they
--- mean.
+-- mean, and Rows, which says what they refuse.
 pub mod Chase
 pub mod Recursive
 pub mod Uses
@@ -7,3 +7,4 @@ pub mod Project
 pub mod Questions
 pub mod References
 pub mod Offers
+pub mod Rows
