@@ -1,5 +1,6 @@
 -- P1 of document 01, as it is read from its bytes, is a book and a draft as demand 3 speaks of. Assumes nothing.
 --     p1-answers, p1-listed, p1-marked    the demand's sentences hold of it; its list is pair and tree, and tree is marked
+--     p1-read, p1-list, p1-marks          its bytes, and what is answered, by computation
 --     p1-draft                            they hold of it as a draft
 use mathlib.Core.Path.{_≡_, refl, sym, ap, _∙_}
 use mathlib.Core.List.{[], _∷_, map, List·Memᴰ·head}
@@ -22,9 +23,9 @@ use Rattle.samples.proofs.Computed.{samples-computed}
 use Rattle.samples.proofs.Theorems.{all-read}
 use Rattle.examples.proofs.Computed.{marks-computed}
 
-read : layout bytes.p1 ≡ whole p1
+pub p1-read : layout bytes.p1 ≡ whole p1
 unfolding samples
-read = all-read _ (List·Memᴰ·head refl)
+p1-read = all-read _ (List·Memᴰ·head refl)
 
 -- ---- As a book: it passes, and has an actor
 passes : check p1 ≡ Passed
@@ -36,21 +37,21 @@ unfolding marks-computed samples-computed
 has-actor e = let z : _≡_ {A = ℕ} 0 1 = cc in omega arith
 
 pub p1-answers : Answers p1
-p1-answers = sent bytes.p1 p1 read passes has-actor
+p1-answers = sent bytes.p1 p1 p1-read passes has-actor
 
-list-is : list p1 ≡ given (3 ∷ 6 ∷ [])
+pub p1-list : list p1 ≡ given (3 ∷ 6 ∷ [])
 unfolding marks-computed samples-computed
-list-is = refl
+p1-list = refl
 
 pub p1-listed : p1-answers .listed ≡ 3 ∷ 6 ∷ []
-p1-listed = let e = sym (p1-answers .listGiven .0) ∙ list-is in cc
+p1-listed = let e = sym (p1-answers .listGiven .0) ∙ p1-list in cc
 
-marks-are : marksOver p1 (3 ∷ 6 ∷ []) ≡ given (6 ∷ [])
+pub p1-marks : marksOver p1 (3 ∷ 6 ∷ []) ≡ given (6 ∷ [])
 unfolding marks-computed samples-computed
-marks-are = refl
+p1-marks = refl
 
 pub p1-marked : p1-answers .marked ≡ 6 ∷ []
-p1-marked = let e = sym (p1-answers .marksGiven .0) ∙ ap (marksOver p1) p1-listed ∙ marks-are in cc
+p1-marked = let e = sym (p1-answers .marksGiven .0) ∙ ap (marksOver p1) p1-listed ∙ p1-marks in cc
 
 -- ---- As a draft: it has an actor, and no name is defined twice
 main-actor : mainActor p1 ≡ end → ⊥
@@ -62,4 +63,4 @@ unfolding drafted samples-computed
 once = once-says (draftDefinitions p1) .0 refl
 
 pub p1-draft : DraftAnswers p1
-p1-draft = sent-draft bytes.p1 p1 read main-actor once
+p1-draft = sent-draft bytes.p1 p1 p1-read main-actor once

@@ -1,0 +1,109 @@
+-- The lines of the listed names one after another, and what the functions that are called ensure, as parts of what is printed. Assumes nothing.
+use mathlib.Core.Path.{_≡_, refl, sym, ap, ap₂, _∙_}
+use mathlib.Core.Bool.{Bool, true, false}
+use mathlib.Core.List.{List, [], _∷_, _++_, append-assoc, append-nil}
+use Prim.Native.Nat.{ℕ, suc, _+_, _≤_, _<_}
+use native.Mathlib.Nat.{add-zero}
+use native.Mathlib.Numerals.{add-one}
+use native.Mathlib.Omega.{arith}
+use lib.ListN.{length, getD, take, drop}
+use lib.Seq.{take-suc, take-all, take-length, length-take-le}
+use Rattle.format.specs.Layout.{layout}
+use Rattle.book.specs.declared.refusal.Refusal.{Refusal}
+use Rattle.book.specs.Refusal.{numberOf, nameOf}
+use Rattle.book.specs.Reading.{nameIn}
+use Rattle.judgement.specs.Check.{member}
+use Rattle.typing.proofs.Hashing.{member-none, member-here, member-later}
+use Rattle.listing.specs.Questions.{given, list, marksOver, onLayout}
+use Rattle.analysis.specs.declared.hand.Answer.{Answer}
+use Rattle.analysis.specs.declared.hand.Answer.the-variants.{Given, Refused}
+use Rattle.analysis.specs.Handed.{HandedAs}
+use Rattle.text.specs.Laid.{Laid}
+use Rattle.text.specs.Refused.{refusedLine}
+use Rattle.text.proofs.Laid.{nothing, then, alias}
+use Rattle.list.specs.Printed.{isNamed, refusal, heading, markOf, line, lines, listIn, marksIn, markedText, listedText, printed}
+use Rattle.list.proofs.Answered.{refused-is, given-is}
+
+-- ---- A refusal, and a mark
+pub refusal-is : (bs : List ℕ) (why : Refusal) {number name : ℕ} {named : Bool} {bytes : List ℕ} → number ≡ numberOf why → name ≡ nameOf why → named ≡ isNamed name → bytes ≡ nameIn bs name → refusedLine number named bytes ≡ refusal bs why
+unfolding refusal
+refusal-is bs why e f g h = rw (e, g, h, f)
+
+pub mark-some : (n : ℕ) (marked : List ℕ) {m : Bool} → m ≡ member n marked → m ≡ true → 114 ≡ markOf marked n
+unfolding markOf
+mark-some n marked e f = rw (sym e ∙ f)
+
+pub mark-none : (n : ℕ) (marked : List ℕ) {m : Bool} → m ≡ member n marked → m ≡ false → 45 ≡ markOf marked n
+unfolding markOf
+mark-none n marked e f = rw (sym e ∙ f)
+
+-- ---- Whether a name is among the marked ones: the search goes on among those that are left
+pub record Left (n : ℕ) (marked : List ℕ) (i : ℕ) : Type 0 where
+  pub same : member n (drop i (take (length marked) marked)) ≡ member n marked
+
+pub left-start : (n : ℕ) (marked : List ℕ) → Left n marked 0
+left-start n marked = record { same = rw (take-length marked) }
+
+module _ {n : ℕ} {marked : List ℕ} {i : ℕ} (k : Left n marked i) where
+  pub left-here : i < length marked → getD marked i 0 ≡ n → true ≡ member n marked
+  left-here h e = sym (member-here n marked (length marked) i (omega arith) h e) ∙ k .same
+
+  pub left-on : i < length marked → (getD marked i 0 ≡ n → ⊥) → Left n marked (i + 1)
+  left-on h e = record { same = member-later n marked (length marked) i (omega arith) h e ∙ k .same }
+
+  pub left-none : length marked ≤ i → false ≡ member n marked
+  left-none h = sym (member-none n marked (length marked) i (omega arith) h) ∙ k .same
+
+-- ---- The lines so far: at the start, and after one more
+module _ (bs marked : List ℕ) where
+  lines-append : (p : ℕ) (x y : List ℕ) → lines bs marked p (x ++ y) ≡ lines bs marked p x ++ lines bs marked (p + length x) y
+  unfolding lines
+  lines-append p [] y = rw (add-zero p)
+  lines-append p (n ∷ x) y =
+      rw (lines-append (suc p) x y)
+      (sym (append-assoc (line p (markOf marked n) (nameIn bs n)) (lines bs marked (suc p) x) (lines bs marked (suc p + length x) y))
+      ∙ ap (λ (k : ℕ). line p (markOf marked n) (nameIn bs n) ++ lines bs marked (suc p) x ++ lines bs marked k y) (omega arith))
+
+  lines-suc : (l : List ℕ) (i : ℕ) → i < length l →
+      lines bs marked 1 (take (i + 1) l) ≡ lines bs marked 1 (take i l) ++ line (i + 1) (markOf marked (getD l i 0)) (nameIn bs (getD l i 0))
+  unfolding lines
+  lines-suc l i h =
+      let n = getD l i 0 in
+      rw (add-one i, take-suc l i 0 h, lines-append 1 (take i l) (n ∷ []), append-nil (line (1 + length (take i l)) (markOf marked n) (nameIn bs n)))
+      (ap (λ (k : ℕ). lines bs marked 1 (take i l) ++ line k (markOf marked n) (nameIn bs n)) (omega (arith, length-take-le i l (omega arith))))
+
+  pub lines-start : (old : List ℕ) (at : ℕ) → Laid (lines bs marked 1 []) old at at old
+  unfolding lines
+  lines-start old at = nothing old at
+
+  pub lines-on : (l : List ℕ) (i : ℕ) {old mid new name : List ℕ} {at m next mark : ℕ} → i < length l → Laid (lines bs marked 1 (take i l)) old at m mid →
+      mark ≡ markOf marked (getD l i 0) → name ≡ nameIn bs (getD l i 0) → Laid (line (i + 1) mark name) mid m next new →
+      Laid (lines bs marked 1 (take (i + 1) l)) old at next new
+  lines-on l i h p e f q = rw (lines-suc l i h) (then p (alias (ap₂ (line (i + 1)) e f) q))
+
+  pub lines-end : (l : List ℕ) (i : ℕ) {old new : List ℕ} {at next : ℕ} → length l ≤ i → Laid (lines bs marked 1 (take i l)) old at next new → Laid (lines bs marked 1 l) old at next new
+  lines-end l i h p = rw (take-all i l h) at p
+
+  -- ---- All of it
+  pub table-is : (l : List ℕ) → heading (length l) (length marked) ++ lines bs marked 1 l ≡ markedText bs l (given marked)
+  unfolding markedText
+  table-is l = refl
+
+-- ---- What is printed, by the answers to the questions
+module _ (bs l : List ℕ) {old new : List ℕ} {r : Answer} (h : HandedAs (onLayout (λ b. marksOver b l) (layout bs)) old new r) (n : 1024 ≡ length old) where
+  pub marks-refused : {why : Refusal} → r ≡ Refused why → refusal bs why ≡ markedText bs l (marksIn bs l)
+  unfolding marksIn markedText
+  marks-refused e = rw (refused-is h n e)
+
+  pub marks-given : {count : ℕ} → r ≡ Given count → markedText bs l (given (take count new)) ≡ markedText bs l (marksIn bs l)
+  unfolding marksIn
+  marks-given e = rw (given-is h n e)
+
+module _ (bs : List ℕ) {old new : List ℕ} {r : Answer} (h : HandedAs (onLayout list (layout bs)) old new r) (n : 512 ≡ length old) where
+  pub list-refused : {why : Refusal} → r ≡ Refused why → refusal bs why ≡ printed bs
+  unfolding listIn listedText printed
+  list-refused e = rw (refused-is h n e)
+
+  pub list-given : {count : ℕ} → r ≡ Given count → markedText bs (take count new) (marksIn bs (take count new)) ≡ printed bs
+  unfolding listIn listedText printed
+  list-given e = rw (given-is h n e)

@@ -1,0 +1,94 @@
+-- What is printed, by the theorems on the questions. Assumes nothing.
+--     shown                       a passed book with an actor: the list and the marks of demand 3, never a refusal
+--     broken-shown, long-shown    a broken layout: 1, and so for every input that is longer than a book may be
+--     p1-shown                    document 01's P1, letter by letter
+use mathlib.Core.Path.{_≡_, refl, ap, _∙_}
+use mathlib.Core.List.{List, [], _∷_, _++_, map}
+use Prim.Native.Nat.{ℕ, _≤_, _<_}
+use native.Mathlib.Omega.{arith}
+use lib.ListN.{length, length-map}
+use Rattle.format.specs.Forest.{end}
+use Rattle.format.specs.Book.{Book}
+use Rattle.format.specs.Fits.{isInitRole}
+use Rattle.format.specs.Layout.{Layout, broken, whole, layout}
+use Rattle.format.proofs.Encoded.{fit-parts}
+use Rattle.format.proofs.Theorems.{found}
+use Rattle.book.specs.declared.refusal.Verdict.the-variants.{Passed}
+use Rattle.book.specs.Reading.{nameIn}
+use Rattle.judgement.specs.Environment.{roleAt, keep, mainDefinitions}
+use Rattle.judgement.specs.Actor.{resolveActor}
+use Rattle.judgement.specs.Check.{member, check}
+use Rattle.judgement.specs.WellFormed.{nameOf}
+use Rattle.judgement.proofs.Lookup.{pigeonhole}
+use Rattle.listing.specs.Questions.{given, list, marksOver, after, fit, onLayout}
+use Rattle.listing.proofs.Marked.{ascends-distinct, few-definitions}
+use Rattle.samples.specs.Bytes as bytes
+use Rattle.samples.specs.Notation.{spelled}
+use Rattle.samples.specs.Notation as notation
+use Rattle.samples.specs.Written.{p1}
+use Rattle.examples.proofs.P1.{p1-read, p1-list, p1-marks}
+use Rattle.listing.proofs.Demand3.{Answers, asked, sent}
+use Rattle.text.specs.Ascii.{ascii}
+use Rattle.text.specs.Decimal.{digit, digits, decimal}
+use Rattle.text.specs.Quoted.{plain, escape, escapes, quoted}
+use Rattle.text.specs.Refused.{nameOrDash, refusedLine}
+use Rattle.list.specs.Printed.{refusal, heading, markOf, line, lines, listIn, marksIn, markedText, listedText, printed}
+
+-- Both questions are answered.
+text : (bs : List ℕ) {l m : List ℕ} → listIn bs ≡ given l → marksIn bs l ≡ given m → printed bs ≡ heading (length l) (length m) ++ lines bs m 1 l
+unfolding markedText listedText printed
+text bs e f = rw (e, f)
+
+-- ---- A book that is passed and has an actor
+module _ (bs : List ℕ) (b : Book) (read : layout bs ≡ whole b) (passed : check b ≡ Passed) (some : resolveActor b ≡ end → ⊥) where
+  abbrev answers : Answers b
+  answers = sent bs b read passed some
+
+  -- The lists that are lent are long enough.
+  few-listed : length (answers .listed) ≤ 512
+  few-listed =
+      let ds = mainDefinitions b in
+      omega (
+        arith,
+        pigeonhole (answers .lists .once) (map nameOf ds) (answers .lists .defined),
+        length-map ds nameOf,
+        few-definitions b (found bs b .0 read .0) passed,
+      )
+
+  few-marked : length (answers .marked) ≤ 1024
+  few-marked =
+      omega (
+        arith,
+        pigeonhole (ascends-distinct (answers .marked) (answers .marks .ascends)) (answers .listed) (λ n i. answers .marks .exactly n .0 i .0),
+        few-listed,
+      )
+
+  pub shown : printed bs ≡ heading (length (answers .listed)) (length (answers .marked)) ++ lines bs (answers .marked) 1 (answers .listed)
+  unfolding listIn marksIn
+  shown =
+      text bs (ap (fit 512) (asked bs b read list) ∙ answers .listGiven .1 512 few-listed)
+      (ap (fit 1024) (asked bs b read (λ c. marksOver c (answers .listed))) ∙ answers .marksGiven .1 1024 few-marked)
+
+-- ---- A broken layout, as that of every input that is longer than a book may be
+pub broken-shown : (bs : List ℕ) → layout bs ≡ broken → printed bs ≡ ascii "refused 1 -\n"
+unfolding onLayout fit listIn listedText printed refusal refusedLine nameOrDash decimal digits digit
+broken-shown bs e = rw e
+
+pub long-shown : (bs : List ℕ) → 65536 < length bs → printed bs ≡ ascii "refused 1 -\n"
+long-shown bs h = go (layout bs) refl
+  where
+    go : (l : Layout) → layout bs ≡ l → printed bs ≡ ascii "refused 1 -\n"
+    go broken e = broken-shown bs e
+    go (whole b) e = let p = found bs b .0 e in absurd (omega (arith, fit-parts (p .0) .short, ap length (p .1)))
+
+-- ---- P1
+p1-names : p1 .names ≡ map ascii ("" ∷ "fork" ∷ "leaf" ∷ "pair" ∷ "put" ∷ "spare" ∷ "tree" ∷ [])
+unfolding p1 spelled notation.ascii
+p1-names = refl
+
+pub p1-shown : printed bytes.p1 ≡ ascii "list 2 marked 1\n1 - \"pair\"\n2 r \"tree\"\n"
+unfolding fit listIn marksIn heading line lines markOf member nameIn decimal digits digit quoted escapes escape plain
+p1-shown =
+    text bytes.p1 (ap (fit 512) (asked bytes.p1 p1 p1-read list ∙ p1-list))
+    (ap (fit 1024) (asked bytes.p1 p1 p1-read (λ c. marksOver c (3 ∷ 6 ∷ [])) ∙ p1-marks))
+    ∙ rw (p1-read, p1-names)

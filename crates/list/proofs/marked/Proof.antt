@@ -1,0 +1,66 @@
+-- `marked` meets its contract: the marks' answer says which of the two texts is laid. Assumes nothing.
+use mathlib.Core.Path.{sym}
+use lib.Seq.{length-take-le}
+use Rattle.text.proofs.Laid.{alias}
+use Rattle.list.proofs.Answered.{given-within}
+use Rattle.list.proofs.Listed.{marks-refused, marks-given}
+use borrow.Author.Needs.{needs}
+use Rattle.list.proofs.marked.Statement.{statement}
+use Rattle.list.proofs.marked.Tie as tie
+
+room-for-marks-requires : tie.Need-room-for-marks-requires
+room-for-marks-requires c κs = search needs
+
+slice-aggregate-marks : tie.Need-slice-aggregate-marks
+slice-aggregate-marks c = search needs
+
+marks-requires : tie.Need-marks-requires
+marks-requires c κs = search needs
+
+enum-known-why : tie.Need-enum-known-why
+enum-known-why c = search needs
+
+refusal-requires : tie.Need-refusal-requires
+refusal-requires c κs = search needs
+
+enum-known-count : tie.Need-enum-known-count
+enum-known-count c = search needs
+
+array-share-prefix-places : tie.Need-array-share-prefix-places
+array-share-prefix-places c = given-within (c .before .before .before .before .marks .ensures) (c .before .before .before .before .before .before .room-for-marks .ensures) (c .before .count .given .1)
+
+slice-aggregate-table : tie.Need-slice-aggregate-table
+slice-aggregate-table c = sym (length-take-le _ _ (given-within (c .before .before .before .before .before .marks .ensures) (c .before .before .before .before .before .before .before .room-for-marks .ensures) (c .before .before .count .given .1)))
+
+table-requires : tie.Need-table-requires
+table-requires c κs = search needs
+
+same-length : tie.Need-same-length
+same-length c = search needs
+
+returns : tie.Need-returns
+returns c = alias (marks-refused _ _ (c .before .before .before .before .before .before .before .before .marks .ensures) (c .before .before .before .before .before .before .before .before .before .before .room-for-marks .ensures) (c .before .before .before .before .before .why .given .1)) (c .before .before .refusal .ensures)
+
+same-length-2 : tie.Need-same-length-2
+same-length-2 c = search needs
+
+returns-2 : tie.Need-returns-2
+returns-2 c = alias (marks-given _ _ (c .before .before .before .before .before .before .before .before .before .marks .ensures) (c .before .before .before .before .before .before .before .before .before .before .before .room-for-marks .ensures) (c .before .before .before .before .before .before .count .given .1)) (c .before .before .table .ensures)
+
+pub marked-spec : {M : Type 1} → statement M
+marked-spec =
+    tie.close
+    (tie.spec
+    room-for-marks-requires
+    slice-aggregate-marks
+    marks-requires
+    enum-known-why
+    refusal-requires
+    enum-known-count
+    array-share-prefix-places
+    slice-aggregate-table
+    table-requires
+    same-length
+    returns
+    same-length-2
+    returns-2)

@@ -1,0 +1,60 @@
+-- What is printed for the bytes of a book (document 01, "Listed, marked, refused"). Definitions; assumes nothing.
+use mathlib.Core.Bool.{Bool, cond, not}
+use mathlib.Core.List.{List, [], _∷_, _++_}
+use Prim.Native.Nat.{ℕ, suc}
+use lib.Dec.{eqb}
+use lib.ListN.{length}
+use Rattle.format.specs.Layout.{layout}
+use Rattle.book.specs.declared.refusal.Refusal.{Refusal}
+use Rattle.book.specs.Refusal.{numberOf, nameOf}
+use Rattle.book.specs.Reading.{nameIn}
+use Rattle.judgement.specs.Check.{member}
+use Rattle.listing.specs.Questions.{Outcome, refused, given, list, marksOver, fit, onLayout}
+use Rattle.text.specs.Ascii.{ascii}
+use Rattle.text.specs.Decimal.{decimal}
+use Rattle.text.specs.Quoted.{quoted}
+use Rattle.text.specs.Refused.{refusedLine}
+
+-- A refusal without a name gives 65,535 for it: no book has so many names.
+abbrev pub isNamed : ℕ → Bool
+isNamed n = not (eqb n 65535)
+
+-- As `refused 7 "a"` or `refused 1 -`.
+unfoldable pub refusal : List ℕ → Refusal → List ℕ
+refusal book r = refusedLine (numberOf r) (isNamed (nameOf r)) (nameIn book (nameOf r))
+
+-- The first line, as `list 2 marked 1`.
+unfoldable pub heading : ℕ → ℕ → List ℕ
+heading listed marked = ascii "list " ++ decimal listed ++ ascii " marked " ++ decimal marked ++ ascii "\n"
+
+-- `r` is 114 and `-` is 45.
+unfoldable pub markOf : List ℕ → ℕ → ℕ
+markOf marked n = cond (member n marked) 114 45
+
+-- A line, as `2 r "tree"`.
+unfoldable pub line : ℕ → ℕ → List ℕ → List ℕ
+line position mark name = decimal position ++ ascii " " ++ (mark ∷ []) ++ ascii " " ++ quoted name ++ ascii "\n"
+
+-- The lines of listed names, the first of which has the position given.
+unfoldable pub lines : List ℕ → List ℕ → ℕ → List ℕ → List ℕ
+lines book marked position [] = []
+lines book marked position (n ∷ listed) = line position (markOf marked n) (nameIn book n) ++ lines book marked (suc position) listed
+
+-- What the listed names come to with their marks, which are asked for into a list of 1,024 places.
+unfoldable pub marksIn : List ℕ → List ℕ → Outcome (List ℕ)
+marksIn book listed = fit 1024 (onLayout (λ b. marksOver b listed) (layout book))
+
+unfoldable pub markedText : List ℕ → List ℕ → Outcome (List ℕ) → List ℕ
+markedText book listed (refused r) = refusal book r
+markedText book listed (given marked) = heading (length listed) (length marked) ++ lines book marked 1 listed
+
+-- What the definition list comes to, which is asked for into a list of 512 places.
+unfoldable pub listIn : List ℕ → Outcome (List ℕ)
+listIn book = fit 512 (onLayout list (layout book))
+
+unfoldable pub listedText : List ℕ → Outcome (List ℕ) → List ℕ
+listedText book (refused r) = refusal book r
+listedText book (given listed) = markedText book listed (marksIn book listed)
+
+unfoldable pub printed : List ℕ → List ℕ
+printed book = listedText book (listIn book)

@@ -1,0 +1,156 @@
+// Reads a book from standard input and prints its definition list with the names marked that have to be boxed, or its refusal.
+ghost use Prim.Native.Nat.{_≤_, _<_};
+ghost use mathlib.Core.Path.{_≡_};
+ghost use lib.ListN.{length, take};
+ghost use Rattle.judgement.specs.Check.{member};
+ghost use Rattle.listing.specs.Questions.{given};
+ghost use Rattle.text.specs.Laid.{Laid};
+ghost use Rattle.list.specs.Printed.{isNamed, refusal, heading, markOf, line, lines, marksIn, markedText, printed};
+use analysis::hand::Answer;
+use book::refusal::Refusal;
+use libc::STDIN_FILENO;
+use libc::STDOUT_FILENO;
+
+// Whether a number that a refusal gives is one of a name.
+fn is_named(name: u16) -> bool
+    ensures { λ r. ⌜ r ≡ isNamed name ⌝ }
+{
+    name != Refusal::NO_NAME
+}
+
+// The line of a refusal.
+fn refusal(why: Refusal, book: &[u8], out: &mut [u8]) -> usize
+    ensures { λ r. ⌜ Laid (refusal (now (book .entry)) why) (now (out .entry)) 0 r (now (out .exit)) ⌝ }
+{
+    let name = why.name();
+    text::refused(why.number(), is_named(name), book::name(book, name), out, 0)
+}
+
+// The first line.
+fn heading(listed: usize, marked: usize, out: &mut [u8]) -> usize
+    ensures { λ r. ⌜ Laid (heading listed marked) (now (out .entry)) 0 r (now (out .exit)) ⌝ }
+{
+    let mut next = text::bytes(b"list ", out, 0);
+    next = text::decimal(listed as u64, out, next);
+    next = text::bytes(b" marked ", out, next);
+    next = text::decimal(marked as u64, out, next);
+    text::byte(b'\n', out, next)
+}
+
+// Whether a name is among the marked ones.
+fn is_marked(name: u16, marked: &[u16]) -> bool
+    ensures { λ r. ⌜ r ≡ member name (now (marked .entry)) ⌝ }
+{
+    let mut i = 0;
+    while i < marked.len() {
+        if marked[i] == name {
+            return true;
+        }
+        i += 1;
+    }
+    false
+}
+
+// The mark of a name.
+fn mark_of(name: u16, marked: &[u16]) -> u8
+    ensures { λ r. ⌜ r ≡ markOf (now (marked .entry)) name ⌝ }
+{
+    if is_marked(name, marked) {
+        return b'r';
+    }
+    b'-'
+}
+
+// The line of a listed name.
+fn line(position: usize, mark: u8, name: &[u8], out: &mut [u8], at: usize) -> usize
+    ensures { λ r. ⌜ Laid (line position mark (now (name .entry))) (now (out .entry)) at r (now (out .exit)) ⌝ }
+{
+    let mut next = text::decimal(position as u64, out, at);
+    next = text::byte(b' ', out, next);
+    next = text::byte(mark, out, next);
+    next = text::byte(b' ', out, next);
+    next = text::quoted(name, out, next);
+    text::byte(b'\n', out, next)
+}
+
+// The lines of all listed names.
+fn lines(book: &[u8], listed: &[u16], marked: &[u16], out: &mut [u8], at: usize) -> usize
+    ensures { λ r. ⌜ Laid (lines (now (book .entry)) (now (marked .entry)) 1 (now (listed .entry))) (now (out .entry)) at r (now (out .exit)) ⌝ }
+{
+    let mut next = at;
+    let mut i = 0;
+    while i < listed.len() {
+        let name = listed[i];
+        let mark = mark_of(name, marked);
+        next = line(i + 1, mark, book::name(book, name), out, next);
+        i += 1;
+    }
+    next
+}
+
+// What is printed where both questions are answered.
+fn table(book: &[u8], listed: &[u16], marked: &[u16], out: &mut [u8]) -> usize
+    ensures { λ r. ⌜ Laid (markedText (now (book .entry)) (now (listed .entry)) (given (now (marked .entry)))) (now (out .entry)) 0 r (now (out .exit)) ⌝ }
+{
+    let next = heading(listed.len(), marked.len(), out);
+    lines(book, listed, marked, out, next)
+}
+
+// A place for each name.
+fn room_for_marks() -> [u16; 1024]
+    ensures { λ r. ⌜ 1024 ≡ length r ⌝ }
+{
+    [0; 1024]
+}
+
+// What is printed where the names are listed.
+fn marked(book: &[u8], listed: &[u16], out: &mut [u8]) -> usize
+    ensures { λ r. ⌜ Laid (markedText (now (book .entry)) (now (listed .entry)) (marksIn (now (book .entry)) (now (listed .entry)))) (now (out .entry)) 0 r (now (out .exit)) ⌝ }
+{
+    let mut places = room_for_marks();
+    match questions::marks(book, listed, &mut places) {
+        Answer::Refused(why) => refusal(why, book, out),
+        Answer::Given(count) => table(book, listed, &places[..count], out),
+    }
+}
+
+// A place for each definition.
+fn room_for_list() -> [u16; 512]
+    ensures { λ r. ⌜ 512 ≡ length r ⌝ }
+{
+    [0; 512]
+}
+
+// All that is printed for the bytes of a book: never as many bytes as are asked for.
+fn print(book: &[u8], out: &mut [u8]) -> usize
+    requires { ⌜ 409600 ≤ length (now out) ⌝ }
+    ensures { λ r. ⌜ (take r (now (out .exit)) ≡ printed (now (book .entry))) × (r < 409600) ⌝ }
+{
+    let mut places = room_for_list();
+    match questions::list(book, &mut places) {
+        Answer::Refused(why) => refusal(why, book, out),
+        Answer::Given(count) => marked(book, &places[..count], out),
+    }
+}
+
+// One byte more than a book may have: a longer input is refused and never cut.
+fn room_for_book() -> [u8; 65537]
+    ensures { λ r. ⌜ 65537 ≡ length r ⌝ }
+{
+    [0; 65537]
+}
+
+// More bytes than are ever printed.
+fn room_for_print() -> [u8; 409600]
+    ensures { λ r. ⌜ 409600 ≡ length r ⌝ }
+{
+    [0; 409600]
+}
+
+fn main() {
+    let mut input = room_for_book();
+    let size = io::read_full(STDIN_FILENO, &mut input);
+    let mut out = room_for_print();
+    let end = print(&input[..size], &mut out);
+    io::write_all(STDOUT_FILENO, &out[..end]);
+}
