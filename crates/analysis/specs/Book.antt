@@ -2,10 +2,9 @@
 use mathlib.Core.Path.{_≡_}
 use mathlib.Core.List.{List}
 use Prim.Native.Nat.{ℕ, _≤_, _<_}
-use Rattle.format.specs.Book.{Definition}
 use Rattle.format.specs.Whole.{Whole}
 use Rattle.judgement.specs.Check.{member}
-use Rattle.environment.specs.Tables.{Roots, Binds}
+use Rattle.environment.specs.Tables.{Roots}
 use Rattle.environment.specs.Flags.{isSet}
 use Rattle.typing.specs.Actors.{AllTrees}
 

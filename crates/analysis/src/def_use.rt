@@ -133,7 +133,7 @@ fn put_func(
 }
 
 // The node at which the chain from a node ends, or NONE.
-fn end_of(rows: &[u8], ends: &[u16], node: usize) -> u16
+pub fn end_of(rows: &[u8], ends: &[u16], node: usize) -> u16
     requires { ⌜ Ended (now rows) (now ends) node ⌝ }
     ensures { λ r. ⌜ r ≡ endNode (now (rows .entry)) (now (ends .entry)) node ⌝ }
 {

@@ -27,11 +27,7 @@ fn service_end(rows: &[u8], ends: &[u16], n: usize) -> u16
     ensures { λ r. ⌜ ((ds : List Definition) (s : Serving (now (rows .entry)) (now (ends .entry)) n ds) →
         ServiceEnd (now (rows .entry)) (s .ended .count) ds n r) ⌝ }
 {
-    let t = Node::at(rows, n);
-    if t.kind != Kind::VAR {
-        return n as u16;
-    }
-    ends[t.value as usize]
+    crate::def_use::end_of(rows, ends, n)
 }
 
 // One service, with these arguments.
