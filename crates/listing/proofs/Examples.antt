@@ -26,7 +26,7 @@ use Rattle.listing.specs.Questions.{Outcome, refused, given, after, acto
 use Rattle.listing.proofs.Answered.{Answered, list-answered}
 
 -- ---- The format, the check, the walk and the questions, each by every definition of it
-fitting : Book → Bool
+unfoldable pub fitting : Book → Bool
 unfolding
     count breadth preorder beside mapForest primNumber kindNumber modeNumber modesNumber valueNumber labelKind labelValue bodies actors
     trees bytes16 bytes32 flat nameBytes rowOf sized rowBytes entryBytes roleNumber definitionEntries rootOf fileEntries namesBytes
@@ -34,7 +34,7 @@ unfolding
     kindAllowed labelFits nodeFits forestFits isInit definitionFits filesRise isInitRole isMain fileFits importsFit rolesFit fits
 fitting = fits
 
-checked : Book → Verdict
+unfoldable pub checked : Book → Verdict
 unfolding
     noTrees isInitRole roleAt keep mainDefinitions findType headKind head met link chainFrom chain aliasEnd isFuncKind isServKind rootPasses
     asFunc asService kidsOf isServiceImport serviceImports firstActor mainActor isClassKind isClass lastTree belowClass resolveWith
@@ -55,17 +55,17 @@ unfolding listed initDefinitions isMissing mergeDefinitions sameVerdict mergeVer
 init-listed = initList
 
 -- ---- A short way to write books
-abbrev plain : Kind → Forest Node → Forest Node
+abbrev pub plain : Kind → Forest Node → Forest Node
 plain κ kids = tree (record { kind = κ; label = unlabelled }) kids end
 
 abbrev field : Label → Kind → Forest Node → Forest Node
 field l κ next = tree (record { kind = κ; label = labelled l }) end next
 
 -- A type that is the name with that number.
-abbrev name : ℕ → Forest Node
+abbrev pub name : ℕ → Forest Node
 name n = plain (VarT n) end
 
-abbrev type : ℕ → ℕ → Forest Node → Definition
+abbrev pub type : ℕ → ℕ → Forest Node → Definition
 type file n t = record { name = n; file = file; body = t }
 
 -- service : { m : (arguments) -> () }
@@ -73,7 +73,7 @@ abbrev service : ℕ → Forest Node → Forest Node
 service m arguments = plain ServT (tree (record { kind = FuncT (breadth arguments) []; label = labelled (Named m) }) arguments end)
 
 -- The names a, b and z have the numbers 1, 2 and 3; files and methods have the empty name. There is an import of types beside main.
-abbrev book : List Definition → Forest Node → Book
+abbrev pub book : List Definition → Forest Node → Book
 book ds actor = record {
   names = [] ∷ (97 ∷ []) ∷ (98 ∷ []) ∷ (122 ∷ []) ∷ [];
   definitions = ds;

@@ -132,10 +132,13 @@ module _ (ds : List Definition) (once : Distinct (map nameOf ds)) where
   interface-arguments (service e x) = rw (serves-no-class x) (sym e)
   interface-arguments {arguments = arguments} (class {last = last} e c one x) = rw (e, c) (others-beside arguments last one)
 
-  pub interface-methods : {t arguments methods : Forest Node} → Interface ds t arguments methods → methodsAt (aliasEnd ds (belowClass t)) ≡ methods
+  pub interface-serves : {t arguments methods : Forest Node} → Interface ds t arguments methods → Serves ds (belowClass t) methods
   unfolding belowClass isClass kidsOf isClassKind
-  interface-methods (service e x) = rw (serves-no-class x) (serves-methods x)
-  interface-methods {arguments = arguments} (class {last = last} e c one x) = rw (e, c, last-beside arguments last one) (serves-methods x)
+  interface-serves (service e x) = rw (serves-no-class x) x
+  interface-serves {arguments = arguments} (class {last = last} e c one x) = rw (e, c, last-beside arguments last one) x
+
+  pub interface-methods : {t arguments methods : Forest Node} → Interface ds t arguments methods → methodsAt (aliasEnd ds (belowClass t)) ≡ methods
+  interface-methods x = serves-methods (interface-serves x)
 
   -- where the actor's own alias is followed first, the same is found
   pub interface-end : {t arguments methods : Forest Node} → Interface ds t arguments methods → Interface ds (typeOf (aliasEnd ds t)) arguments methods
@@ -167,7 +170,7 @@ unfolding head
 none-leads (arrived h) e = e
 none-leads (onward h m q l) e = let g = rw e at h in let z : _≡_ {A = ℕ} 0 1 = cc in absurd (omega arith)
 
-none-serves : {ds : List Definition} {t methods : Forest Node} → Serves ds t methods → t ≡ end → ⊥
+pub none-serves : {ds : List Definition} {t methods : Forest Node} → Serves ds t methods → t ≡ end → ⊥
 none-serves x e = let q = none-leads (x .leads) e in let z : _≡_ {A = ℕ} 0 1 = cc in omega arith
 
 -- ---- An actor that stands for a service below its top

@@ -11,6 +11,7 @@ pub mod Marked
 pub mod Interface
 pub mod Sites
 pub mod Used
+pub mod DefUsed
 pub mod Projected
 pub mod Demand3
 pub mod Rowed

@@ -4,9 +4,9 @@
 --     names-inherited, ..            such are: that all names are bound, that all are reachable
 --     sites-reach                    what is reachable from a site is reachable from the actor
 --     row-says, row-unique, ..       the row: the entries of the sites that pass a test of being reachable
---     WalkLists, sites-walk          the walk from each site lists what is reachable, if that from all fit types does
+--     WalkLists, WalkListed, ..      the walk from each site lists what is reachable, if that from all fit types does
 --     uses-row, unreachable-none     then `usesOf` gives the row
---     passed-walks                   it is so on books
+--     passed-walks, passed-listed    it is so on books
 --     uses-given, uses-say, ..       so the question is answered with the row
 --     own-name                       the name of a method's own function is by itself no use
 use mathlib.Core.Path.{_≡_, refl, sym, ap, subst, _∙_}
@@ -40,6 +40,7 @@ use Rattle.listing.specs.References.{Reachable, direct}
 use Rattle.listing.specs.References as reach
 use Rattle.listing.specs.Questions.{given, uses}
 use Rattle.listing.proofs.Folds.{Leafy, LeafyBodies, resolved-leafy}
+use Rattle.listing.proofs.Listed.{Listed}
 use Rattle.listing.proofs.Walked.{bound-defined, walk-lists, bound-walk}
 use Rattle.listing.proofs.Answered.{main-bodies}
 use Rattle.listing.specs.Offers.{Interface, SiteOf, argumentsAndResults, kept, entryOf, RowOf, UsesGiven}
@@ -281,13 +282,19 @@ module _ {ds : List Definition} {all : List Site} {n : ℕ} where
 
 -- ---- `usesOf` gives it
 
--- The walk from a type lists just what is reachable from it.
+-- The walk from a type lists just what is reachable from it; and all that is known of its list.
 abbrev pub WalkLists : List Definition → Forest Node → Type 0
 WalkLists ds f = (seen : List ℕ) × (out : List ℕ) × (chaseTypes ds f ≡ going seen out) × ((n : ℕ) → List·Memᴰ n out ↔ Reachable ds f n)
 
+abbrev pub WalkListed : List Definition → Forest Node → Type 0
+WalkListed ds f = (seen : List ℕ) × (out : List ℕ) × (chaseTypes ds f ≡ going seen out) × Listed ds f seen out
+
+pub listed-lists : {ds : List Definition} {f : Forest Node} → WalkListed ds f → WalkLists ds f
+listed-lists w = (w .0, w .1, w .2, λ n. (w .3 .sound n, w .3 .complete n))
+
 -- It is so of every site where it is so of all fit types, and being fit passes on.
-pub sites-walk : (ds : List Definition) (Fit : Forest Node → Type 0) → Inherited ds Fit → ((f : Forest Node) → Fit f → WalkLists ds f) →
-    (actor : Forest Node) → Fit (belowTop actor) → EachSite (WalkLists ds) (sites ds actor)
+pub sites-walk : (ds : List Definition) (Fit : Forest Node → Type 0) → Inherited ds Fit → ((f : Forest Node) → Fit f → WalkListed ds f) →
+    (actor : Forest Node) → Fit (belowTop actor) → EachSite (WalkListed ds) (sites ds actor)
 sites-walk ds Fit passes walks actor fit s m = walks (s .type) (sites-inherit ds Fit passes actor fit s m)
 
 pub uses-kept : (ds : List Definition) (n : ℕ) (all : List Site) → usesAt ds n all ≡ map entryOf (kept (λ s. isListed n (chaseTypes ds (s .type))) all)
@@ -321,8 +328,8 @@ module _ (ds : List Definition) (actor : Forest Node) (walks : EachSite (WalkLis
 leafy-inherited : (ds : List Definition) → LeafyBodies ds → Inherited ds Leafy
 leafy-inherited ds bodies = record { none = tt; kids = λ h. h .1; others = λ h. h .2; alone = λ h. (h .0, h .1, tt); alias = λ {d = d} h m e p. bodies d m }
 
-pub passed-walks : (b : Book) → Fits b → check b ≡ Passed → EachSite (WalkLists (mainDefinitions b)) (sites (mainDefinitions b) (resolveActor b))
-passed-walks b fits passed =
+pub passed-listed : (b : Book) → Fits b → check b ≡ Passed → EachSite (WalkListed (mainDefinitions b)) (sites (mainDefinitions b) (resolveActor b))
+passed-listed b fits passed =
     let ds = mainDefinitions b in
     let w = check-says b fits .0 passed .0 in
     let once = w .definitions .once in
@@ -332,9 +339,11 @@ passed-walks b fits passed =
     sites-walk ds (λ (f : Forest Node). Leafy f × Bound ds f) (both-inherited leafy (bound-inherited ds bound))
     (λ f h.
     let walk = bound-walk ds once bodies f (h .0) bound (h .1) in
-    let l = walk-lists ds once bodies f (h .0) (walk .2) in
-    (walk .0, walk .1, walk .2, λ n. (l .sound n, l .complete n)))
+    (walk .0, walk .1, walk .2, walk-lists ds once bodies f (h .0) (walk .2)))
     (resolveActor b) (top-inherit ds Leafy leafy (resolveActor b) (resolved-leafy b fits), w .actor .bound)
+
+pub passed-walks : (b : Book) → Fits b → check b ≡ Passed → EachSite (WalkLists (mainDefinitions b)) (sites (mainDefinitions b) (resolveActor b))
+passed-walks b fits passed s m = listed-lists (passed-listed b fits passed s m)
 
 module _ (b : Book) (fits : Fits b) (passed : check b ≡ Passed) (some : resolveActor b ≡ end → ⊥) where
   -- the answer
