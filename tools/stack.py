@@ -1,48 +1,103 @@
 #!/usr/bin/env python3
-"""Measures the stack that the built programs need:  python3 tools/stack.py
+"""Measures the stack that the built programs need:  python3 tools/stack.py [PROGRAM ..]
 
-For show_book and layout_batch, each on the smallest book and on those of 4,096 nested nodes, prints the least limit on the
-stack, in KiB, under which the program writes what it writes under none. What the deep books take more than the smallest
-is the reader's own stack. `rt check` builds the programs. Addresses are not randomized, so that runs agree.
+For each program (all if none is named) and each book of its own, a small one and the deepest and largest, prints the least
+limit on the stack, in KiB, under which the program writes what is right; then the most of a program's books. What is right
+comes from tools/layout.py, tools/answers.py and the sources, never from the program. What a deep book takes more than a
+small one is the library's own stack. `rt check` builds the programs. Addresses are not randomized, so that runs agree.
 """
 
 import os
 import resource
 import subprocess
+import sys
 
+import answers
+import layout
 import mkbatch
 import mkbook
-from mkgate import ROOT, SOURCES
+from mkgate import CHECK_SOURCES, LIST_SOURCES, ROOT, SOURCES, table
 
-BOOKS = ("length-smallest", "limit-nested-4096", "limit-nested-kinds", "kind-27-deepest")
+MOST = 8192  # the limit that a system sets by itself
+NESTED = ("length-smallest", "limit-nested-4096", "limit-nested-kinds", "kind-27-deepest")
 
 
-def output(program, data, kib=None):
+def is_nested(name):
+    return name in NESTED
+
+
+def is_large(name):
+    return name == "p01" or name.startswith("large-")
+
+
+def layout_lines(name, text, book):
+    asked = 2 + (0 if layout.faults(book) else len(layout.Reader(book).book.names))
+    return mkbatch.expected(name, text, book) + f"names {asked} asked {asked} agree\n"
+
+
+def of_batch(lines):
+    """Input and output of a program that reads records."""
+    return lambda name, text, book: (mkbatch.record(name, book), lines(name, text, book))
+
+
+def of_book(lines):
+    """Input and output of a program that reads a book."""
+    return lambda name, text, book: (book, lines(book))
+
+
+# Of each program: the folders of its books, which of these, and its input and output.
+PROGRAMS = {
+    "show_book": ([SOURCES], is_nested, of_book(table)),
+    "layout_batch": ([SOURCES], is_nested, of_batch(layout_lines)),
+    "check_batch": ([CHECK_SOURCES], is_large, of_batch(lambda name, text, book: mkbatch.checked(name, text))),
+    "list": ([LIST_SOURCES, CHECK_SOURCES], is_large, of_book(answers.listing)),
+    "answer_batch": ([LIST_SOURCES], is_large, of_batch(mkbatch.answered)),
+}
+
+
+def output(path, data, kib):
     def limit():
-        if kib is not None:
-            resource.setrlimit(resource.RLIMIT_STACK, (kib * 1024, kib * 1024))
-    path = os.path.join(ROOT, "target", "bin", program)
+        resource.setrlimit(resource.RLIMIT_STACK, (kib * 1024, kib * 1024))
     return subprocess.run(["setarch", "-R", path], input=data, capture_output=True, preexec_fn=limit, env={}).stdout
 
 
-def least(program, data):
+def least(path, data, right):
     """By halving: the program works under `high` and fails under `low`."""
-    want, low, high = output(program, data), 16, 8192
+    if output(path, data, MOST) != right:
+        return None
+    low, high = 16, MOST
     while high - low > 1:
         middle = (low + high) // 2
-        if output(program, data, middle) == want:
+        if output(path, data, middle) == right:
             high = middle
         else:
             low = middle
     return high
 
 
+def measure(program):
+    folders, is_measured, run = PROGRAMS[program]
+    path, found = os.path.join(ROOT, "target", "bin", program), {}
+    if not os.path.exists(path):
+        print(f"{program}: not built, `rt check {program}` builds it")
+        return
+    for folder in folders:
+        for name, text in mkbatch.sources(folder):
+            source = f"{os.path.basename(folder)}/{name}"
+            if is_measured(name):
+                data, right = run(name, text, bytes(mkbook.book(text)))
+                found[source] = least(path, data, right.encode())
+                print(f"{program} {source}:", f"{found[source]} KiB" if found[source] else f"wrong under {MOST} KiB")
+    if all(found.values()):
+        print(f"{program}, most: {max(found.values())} KiB, {max(found, key=found.get)}")
+
+
 def main():
-    for name in BOOKS:
-        with open(os.path.join(SOURCES, name + ".did"), encoding="utf-8") as file:
-            book = bytes(mkbook.book(file.read()))
-        for program, data in (("show_book", book), ("layout_batch", mkbatch.record(name, book))):
-            print(f"{program} {name}: {least(program, data)} KiB")
+    unknown = set(sys.argv[1:]) - set(PROGRAMS)
+    if unknown:
+        sys.exit(f"usage: python3 tools/stack.py [PROGRAM ..], of {' '.join(PROGRAMS)}")
+    for program in sys.argv[1:] or PROGRAMS:
+        measure(program)
 
 
 if __name__ == "__main__":
