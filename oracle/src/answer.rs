@@ -1,0 +1,532 @@
+//! Every question of a book, answered by the customer's Rust.
+
+use crate::analysis::{chase_actor, chase_def_use, chase_types, infer_rec, project_methods};
+use crate::book::{self, quoted, Batch, Book, Node};
+use crate::rows;
+use crate::syntax::{
+    Binding, Dec, FuncType, IDLActorType, IDLArgType, IDLInitArgs, IDLMergedProg, IDLProg, IDLType, PrimType, TypeField,
+};
+use crate::typing;
+use candid::types::{Field, FuncMode, Function, Label, Type, TypeEnv, TypeInner};
+use std::collections::{BTreeMap, HashMap, HashSet};
+use std::io::{Read, Write};
+use std::panic::{catch_unwind, AssertUnwindSafe};
+use std::rc::Rc;
+
+/// Steps of `as_func` and its like that a question is granted, and those granted where a method ring is known.
+const STEPS: u64 = 10_000_000;
+const STEPS_OF_RING: u64 = 4_000;
+
+/// Entries in the list that answer_batch lends for uses.
+const MOST_USES: usize = 4096;
+
+/// Why there is no result.
+#[derive(Clone, PartialEq)]
+enum Fail {
+    Refused(u32, Option<usize>),
+    Unanswered(String),
+}
+
+type Found<T> = Result<T, Fail>;
+
+// Trees
+
+fn primitive(kind: u8) -> PrimType {
+    use PrimType::*;
+    [Null, Bool, Nat, Int, Nat8, Nat16, Nat32, Nat64, Int8, Int16, Int32, Int64, Float32, Float64, Text, Reserved, Empty]
+        [kind as usize]
+        .clone()
+}
+
+/// A book with its names as texts: its own, or others in the same order. Then its named labels are given as their numbers.
+struct Texts<'a> {
+    book: &'a Book,
+    names: Vec<String>,
+    renamed: bool,
+}
+
+fn number_of(name: &[u8]) -> u32 {
+    name.iter().fold(0, |sum, byte| sum.wrapping_mul(223).wrapping_add(*byte as u32))
+}
+
+/// Texts for the names of a book where its own are outside UTF-8 or make an error's text ambiguous. The Rust compares
+/// names, orders them and, with service imports, hashes methods: the texts are in the same order, and no two of them have
+/// one hash, so there are none for a book with service imports and two names of one hash.
+fn other_names(book: &Book) -> Option<Vec<String>> {
+    let has_imports = book.files.iter().any(|file| file.role == book::SERVICE_IMPORT);
+    let numbers: HashSet<u32> = book.names.iter().map(|name| number_of(name)).collect();
+    let apart = !has_imports || numbers.len() == book.names.len();
+    apart.then(|| (0..book.names.len()).map(|number| format!("n{number:04}")).collect())
+}
+
+impl Texts<'_> {
+    fn label(&self, node: &Node) -> Label {
+        match node.label_kind {
+            book::BY_NUMBER => Label::Id(node.label),
+            book::BY_NAME if self.renamed => Label::Id(number_of(&self.book.names[node.label as usize])),
+            book::BY_NAME => Label::Named(self.names[node.label as usize].clone()),
+            _ => Label::Unnamed(node.label),
+        }
+    }
+
+    fn modes(&self, node: &Node) -> Vec<FuncMode> {
+        let mode = |digit| match digit {
+            1 => FuncMode::Oneway,
+            2 => FuncMode::Query,
+            _ => FuncMode::CompositeQuery,
+        };
+        node.modes().into_iter().map(mode).collect()
+    }
+
+    // For the check.
+
+    fn arguments(&self, nodes: &[Node]) -> Vec<IDLArgType> {
+        nodes.iter().map(|node| IDLArgType::new(self.ast(node))).collect()
+    }
+
+    fn fields(&self, node: &Node) -> Vec<TypeField> {
+        let field = |kid| TypeField { label: self.label(kid), typ: self.ast(kid), docs: vec![] };
+        node.kids.iter().map(field).collect()
+    }
+
+    fn binding(&self, name: usize, tree: &Node) -> Binding {
+        Binding { id: self.names[name].clone(), typ: self.ast(tree), docs: vec![] }
+    }
+
+    fn ast(&self, node: &Node) -> IDLType {
+        match node.kind {
+            17 => IDLType::PrincipalT,
+            book::NAME => IDLType::VarT(self.names[node.value as usize].clone()),
+            book::OPT => IDLType::OptT(Box::new(self.ast(&node.kids[0]))),
+            book::VEC => IDLType::VecT(Box::new(self.ast(&node.kids[0]))),
+            book::RECORD => IDLType::RecordT(self.fields(node)),
+            book::VARIANT => IDLType::VariantT(self.fields(node)),
+            book::FUNC => IDLType::FuncT(FuncType {
+                modes: self.modes(node),
+                args: self.arguments(node.arguments()),
+                rets: self.arguments(node.results()),
+            }),
+            book::SERVICE => IDLType::ServT(node.kids.iter().map(|kid| self.binding(kid.label as usize, kid)).collect()),
+            book::CLASS => {
+                let (service, arguments) = node.kids.split_last().expect("a child");
+                IDLType::ClassT(self.arguments(arguments), Box::new(self.ast(service)))
+            }
+            kind => IDLType::PrimT(primitive(kind)),
+        }
+    }
+
+    fn decs(&self, belongs: impl Fn(usize) -> bool) -> Vec<Dec> {
+        let of_file = self.book.definitions.iter().filter(|row| belongs(row.file));
+        of_file.map(|row| Dec::TypD(self.binding(row.name, &row.tree))).collect()
+    }
+
+    fn prog(&self, file: usize) -> IDLProg {
+        let actor = self.book.files[file].tree.as_ref();
+        IDLProg {
+            decs: self.decs(|place| place == file),
+            actor: actor.map(|tree| IDLActorType { typ: self.ast(tree), docs: vec![] }),
+        }
+    }
+
+    /// 12, file by file.
+    fn merged(&self) -> crate::Result<IDLMergedProg> {
+        let mut merged = IDLMergedProg::new(self.prog(0));
+        for (place, file) in self.book.files.iter().enumerate().skip(1) {
+            if file.role != book::INIT {
+                let name = self.names[file.name].clone();
+                merged.merge(file.role == book::SERVICE_IMPORT, name, self.prog(place))?;
+            }
+        }
+        Ok(merged)
+    }
+
+    fn init(&self) -> Option<IDLInitArgs> {
+        let (place, file) = self.book.files.iter().enumerate().find(|(_, file)| file.role == book::INIT)?;
+        let tree = file.tree.as_ref().expect("a list");
+        Some(IDLInitArgs { decs: self.decs(|found| found == place), args: self.arguments(&tree.kids) })
+    }
+
+    // For drafts.
+
+    fn types(&self, nodes: &[Node]) -> Vec<Type> {
+        nodes.iter().map(|node| self.typ(node)).collect()
+    }
+
+    fn typ(&self, node: &Node) -> Type {
+        let fields = |nodes: &[Node]| nodes.iter().map(|kid| Field { id: Rc::new(self.label(kid)), ty: self.typ(kid) }).collect();
+        match node.kind {
+            book::NAME => TypeInner::Var(self.names[node.value as usize].clone()),
+            book::OPT => TypeInner::Opt(self.typ(&node.kids[0])),
+            book::VEC => TypeInner::Vec(self.typ(&node.kids[0])),
+            book::RECORD => TypeInner::Record(fields(&node.kids)),
+            book::VARIANT => TypeInner::Variant(fields(&node.kids)),
+            book::FUNC => TypeInner::Func(Function {
+                modes: self.modes(node),
+                args: self.types(node.arguments()),
+                rets: self.types(node.results()),
+            }),
+            book::SERVICE => {
+                let method = |kid: &Node| (self.names[kid.label as usize].clone(), self.typ(kid));
+                TypeInner::Service(node.kids.iter().map(method).collect())
+            }
+            book::CLASS => {
+                let (service, arguments) = node.kids.split_last().expect("a child");
+                TypeInner::Class(self.types(arguments), self.typ(service))
+            }
+            _ => TypeInner::Null, // no name is met in it
+        }
+        .into()
+    }
+
+    // What the Rust says
+
+    fn row(&self, error: impl std::fmt::Display) -> Fail {
+        let text = error.to_string();
+        if text.starts_with("Recursion limit exceeded") || text.starts_with("Recursion depth overflow") {
+            return Fail::Unanswered("depth".into());
+        }
+        match rows::of(&text, &self.names)[..] {
+            [(number, name)] => Fail::Refused(number, name),
+            [] => Fail::Unanswered("unknown-text".into()),
+            _ => Fail::Unanswered("ambiguous-text".into()),
+        }
+    }
+
+    fn number(&self, name: &str) -> usize {
+        self.names.binary_search_by(|found| found.as_str().cmp(name)).expect("a name of the book")
+    }
+
+    fn entries(&self, names: &[&str]) -> Vec<String> {
+        names.iter().map(|name| quoted(&self.book.names[self.number(name)])).collect()
+    }
+}
+
+/// Runs what may panic or not end.
+fn guarded<T>(steps: u64, run: impl FnOnce() -> Found<T>) -> Found<T> {
+    stacker::grant(steps);
+    catch_unwind(AssertUnwindSafe(run)).unwrap_or_else(|panic| {
+        let why = if panic.is::<stacker::OutOfSteps>() { "steps" } else { "panic" };
+        Err(Fail::Unanswered(why.into()))
+    })
+}
+
+// Method rings, by document 01. They only tell how many steps to grant and what to call an answer that does not come.
+
+fn has_ring<'a>(book: &'a Book, is_init: bool) -> bool {
+    let mut bodies: HashMap<u32, &'a Node> = HashMap::new();
+    for row in book.definitions.iter().filter(|row| book.is_of(row, is_init)) {
+        bodies.entry(row.name as u32).or_insert(&row.tree);
+    }
+    let end = |mut node: &'a Node| -> Option<*const Node> {
+        let mut left = bodies.len() + 1;
+        while node.kind == book::NAME {
+            node = *bodies.get(&node.value)?;
+            left = left.checked_sub(1)?;
+        }
+        (node.kind == book::FUNC).then_some(node as *const Node)
+    };
+    // Each function with those that it steps to.
+    let mut steps: HashMap<*const Node, Vec<*const Node>> = HashMap::new();
+    fn walk<'a>(
+        node: &'a Node,
+        above: &mut Vec<*const Node>,
+        end: &dyn Fn(&'a Node) -> Option<*const Node>,
+        steps: &mut HashMap<*const Node, Vec<*const Node>>,
+    ) {
+        if node.kind == book::FUNC {
+            above.push(node);
+            steps.entry(node).or_default();
+        }
+        for kid in &node.kids {
+            if node.kind == book::SERVICE {
+                if let Some(end) = end(kid) {
+                    for function in above.iter() {
+                        steps.entry(*function).or_default().push(end);
+                    }
+                }
+            }
+            walk(kid, above, end, steps);
+        }
+        if node.kind == book::FUNC {
+            above.pop();
+        }
+    }
+    for row in book.definitions.iter().filter(|row| book.is_of(row, is_init)) {
+        walk(&row.tree, &mut Vec::new(), &end, &mut steps);
+    }
+    // Takes away those that step to none of the others until none is left or all of them do.
+    loop {
+        let before = steps.len();
+        let ending: Vec<_> =
+            steps.iter().filter(|(_, to)| !to.iter().any(|to| steps.contains_key(to))).map(|(f, _)| *f).collect();
+        for function in ending {
+            steps.remove(&function);
+        }
+        if steps.len() == before {
+            return before > 0;
+        }
+    }
+}
+
+/// Runs a check, and again without `validate_decs` if it does not end. Also tells why it did not.
+fn checked<T>(ring: bool, whole: impl Fn() -> Found<T>, unvalidated: impl Fn() -> Found<T>) -> (Found<T>, Option<String>) {
+    let found = guarded(if ring { STEPS_OF_RING } else { STEPS }, whole);
+    if !matches!(&found, Err(Fail::Unanswered(why)) if why == "steps") {
+        return (found, None);
+    }
+    let why = if ring { "ring" } else { "ladder" };
+    let found = match guarded(STEPS, unvalidated) {
+        Ok(found) => Ok(found),
+        Err(_) => Err(Fail::Unanswered(why.into())),
+    };
+    (found, Some(why.into()))
+}
+
+// The questions
+
+struct Checked {
+    env: TypeEnv,
+    actor: Option<Type>,
+}
+
+impl Checked {
+    fn actor(&self) -> Found<&Type> {
+        self.actor.as_ref().ok_or(Fail::Refused(17, None))
+    }
+}
+
+/// A type and its methods numbered, so that a use tells which of two methods of one name it is of.
+fn numbered(t: &Type) -> Type {
+    let types = |list: &[Type]| list.iter().map(numbered).collect();
+    let fields = |list: &[Field]| list.iter().map(|f| Field { id: f.id.clone(), ty: numbered(&f.ty) }).collect();
+    match t.as_ref() {
+        TypeInner::Opt(t) => TypeInner::Opt(numbered(t)),
+        TypeInner::Vec(t) => TypeInner::Vec(numbered(t)),
+        TypeInner::Record(list) => TypeInner::Record(fields(list)),
+        TypeInner::Variant(list) => TypeInner::Variant(fields(list)),
+        TypeInner::Func(f) => TypeInner::Func(Function { modes: f.modes.clone(), args: types(&f.args), rets: types(&f.rets) }),
+        TypeInner::Service(ms) => {
+            TypeInner::Service(ms.iter().enumerate().map(|(i, (_, t))| (i.to_string(), numbered(t))).collect())
+        }
+        TypeInner::Class(args, t) => TypeInner::Class(types(args), numbered(t)),
+        other => other.clone(),
+    }
+    .into()
+}
+
+/// A use of the numbered methods, METHOD.KIND.INDEX, and as the Rust writes it of the methods' own names.
+fn use_of(text: &str, methods: &[(String, Type)]) -> (String, String) {
+    let (method, place) = text.split_once('.').expect("a use");
+    let (kind, index) = match place.strip_prefix("arg") {
+        Some(index) => (0, index),
+        None => (1, place.strip_prefix("ret").expect("a result")),
+    };
+    if method == "init" {
+        return (format!("65535.{kind}.{index}"), text.into());
+    }
+    let own = &methods[method.parse::<usize>().expect("a position")].0;
+    (format!("{method}.{kind}.{index}"), format!("{own}.{place}"))
+}
+
+impl Texts<'_> {
+    fn uses(&self, checked: &Checked) -> Found<BTreeMap<String, Vec<String>>> {
+        let actor = checked.actor()?;
+        let rust = chase_def_use(&checked.env, actor).map_err(|e| self.row(e))?;
+        let env = TypeEnv(checked.env.0.iter().map(|(name, t)| (name.clone(), numbered(t))).collect());
+        let found = chase_def_use(&env, &numbered(actor)).map_err(|e| self.row(e))?;
+        let methods = checked.env.as_service(actor).map_err(|e| self.row(e))?;
+        let mut rows = BTreeMap::new();
+        for (name, list) in &found {
+            let (numbers, texts): (Vec<_>, Vec<_>) = list.iter().map(|text| use_of(text, methods)).unzip();
+            if rust.get(name) != Some(&texts) {
+                return Err(Fail::Unanswered("uses-differ".into()));
+            }
+            rows.insert(name.clone(), numbers);
+        }
+        if rust.len() != found.len() {
+            return Err(Fail::Unanswered("uses-differ".into()));
+        }
+        Ok(rows)
+    }
+
+    fn project(&self, checked: &Checked, name: usize, times: usize) -> Found<Vec<String>> {
+        let actor = checked.actor()?;
+        let asked = vec![self.names[name].clone(); times];
+        let projected = match project_methods(&checked.env, &checked.actor, asked) {
+            Ok(projected) => projected,
+            Err(e) if rows::is_absent(&e.to_string(), &self.names[name]) => return Err(Fail::Refused(15, Some(name))),
+            Err(e) => return Err(self.row(e)),
+        };
+        let TypeInner::Service(taken) = projected.as_ref() else {
+            return Err(Fail::Unanswered("no-service".into()));
+        };
+        let methods = checked.env.as_service(actor).map_err(|e| self.row(e))?;
+        let place = |t: &Type| methods.iter().position(|(_, own)| Rc::ptr_eq(&own.0, &t.0)).expect("a method");
+        Ok(taken.iter().map(|(_, t)| place(t).to_string()).collect())
+    }
+
+    fn emptiness(&self, checked: &Checked) -> Found<Vec<String>> {
+        let mut after = checked.env.clone();
+        after.replace_empty().map_err(|e| self.row(e))?;
+        let is_empty = |t: &Type| matches!(t.as_ref(), TypeInner::Empty);
+        let made = after.0.iter().filter(|(name, t)| is_empty(t) && !is_empty(&checked.env.0[*name]));
+        Ok(self.entries(&made.map(|(name, _)| name.as_str()).collect::<Vec<_>>()))
+    }
+
+    fn draft(&self) -> Found<Vec<String>> {
+        let actor = self.book.files[0].tree.as_ref().ok_or(Fail::Refused(17, None))?;
+        let mut env = TypeEnv::new();
+        for row in self.book.definitions.iter().filter(|row| row.file == 0) {
+            if env.0.insert(self.names[row.name].clone(), self.typ(&row.tree)).is_some() {
+                return Err(Fail::Refused(2, Some(row.name)));
+            }
+        }
+        let actor = self.typ(actor);
+        let found = chase_actor(&env, &actor).map_err(|e| self.row(e))?;
+        Ok(self.entries(&found))
+    }
+
+    fn check(&self) -> (Found<Checked>, Option<String>) {
+        let run = |check: fn(&IDLMergedProg) -> crate::Result<(TypeEnv, Option<Type>)>| -> Found<Checked> {
+            let (env, actor) = self.merged().and_then(|merged| check(&merged)).map_err(|e| self.row(e))?;
+            Ok(Checked { env, actor })
+        };
+        checked(has_ring(self.book, false), || run(typing::check_merged), || run(typing::check_merged_unvalidated))
+    }
+
+    /// The merged definitions and the init arguments.
+    fn init_check(&self, checked_env: &TypeEnv) -> (Found<(TypeEnv, Vec<Type>)>, Option<String>) {
+        let Some(prog) = self.init() else {
+            return (Ok((checked_env.clone(), vec![])), None);
+        };
+        type Check = fn(&mut TypeEnv, &TypeEnv, &IDLInitArgs) -> crate::Result<Vec<Type>>;
+        let run = |check: Check| -> Found<(TypeEnv, Vec<Type>)> {
+            let mut env = TypeEnv::new();
+            let fail = match check(&mut env, checked_env, &prog) {
+                Ok(args) => return Ok((env, args)),
+                Err(e) => self.row(e),
+            };
+            if fail != Fail::Refused(11, None) {
+                return Err(fail);
+            }
+            let name = typing::differing(checked_env, &prog).map_err(|e| self.row(e))?;
+            Err(match name {
+                Some(name) => Fail::Refused(11, Some(self.number(&name))),
+                None => Fail::Unanswered("no-difference".into()),
+            })
+        };
+        checked(has_ring(self.book, true), || run(typing::check_init_args), || run(typing::check_init_args_unvalidated))
+    }
+}
+
+// Lines
+
+fn given(book: &Book, outcome: Found<Vec<String>>) -> String {
+    match outcome {
+        Ok(entries) => {
+            let mut text = format!("given {}", entries.len());
+            for entry in entries {
+                text.push(' ');
+                text += &entry;
+            }
+            text
+        }
+        Err(fail) => failed(book, &fail),
+    }
+}
+
+fn failed(book: &Book, fail: &Fail) -> String {
+    match fail {
+        Fail::Refused(number, None) => format!("refused {number} -"),
+        Fail::Refused(number, Some(name)) => format!("refused {number} {}", quoted(&book.names[*name])),
+        Fail::Unanswered(why) => format!("unanswered {why}"),
+    }
+}
+
+fn verdict<T>(book: &Book, outcome: &Found<T>, unvalidated: &[&Option<String>]) -> String {
+    match (unvalidated.iter().find_map(|why| why.as_ref()), outcome) {
+        (Some(why), _) => format!("unanswered {why}"),
+        (None, Ok(_)) => "passed".into(),
+        (None, Err(fail)) => failed(book, fail),
+    }
+}
+
+const OF_BOOK: [&str; 5] = ["list", "marks", "init", "draft", "empty"];
+const OF_NAME: [&str; 3] = ["uses", "project", "twice"];
+const OF_CHECK: [&str; 2] = ["check", "init check"];
+
+/// The lines of a book, each a question and its outcome.
+fn lines(bytes: &[u8]) -> Vec<(String, String)> {
+    let Some(book) = book::read(bytes) else {
+        return OF_BOOK.iter().chain(&OF_CHECK).map(|word| (word.to_string(), "refused 1 -".into())).collect();
+    };
+    let names: Result<Vec<String>, _> = book.names.iter().map(|name| String::from_utf8(name.clone())).collect();
+    let found = names.ok().map(|names| lines_of(&Texts { book: &book, names, renamed: false }));
+    let is_ambiguous = |lines: &Vec<(String, String)>| lines.iter().any(|line| line.1 == "unanswered ambiguous-text");
+    match (found, other_names(&book)) {
+        (Some(lines), None) => lines,
+        (Some(lines), Some(_)) if !is_ambiguous(&lines) => lines,
+        (_, Some(names)) => lines_of(&Texts { book: &book, names, renamed: true }),
+        (None, None) => {
+            let of_names = book.names.iter().flat_map(|name| OF_NAME.map(|word| format!("{word} {}", quoted(name))));
+            let questions = OF_BOOK.map(String::from).into_iter().chain(of_names).chain(OF_CHECK.map(String::from));
+            questions.map(|question| (question, "unanswered utf-8".into())).collect()
+        }
+    }
+}
+
+fn lines_of(texts: &Texts) -> Vec<(String, String)> {
+    let book = texts.book;
+    let (found, unvalidated) = texts.check();
+    let mut lines = Vec::new();
+    let mut say = |question: String, outcome: Found<Vec<String>>| lines.push((question, given(book, outcome)));
+    let known = found.as_ref().map_err(|fail| fail.clone());
+
+    let listed = guarded(STEPS, || {
+        let checked = known.clone()?;
+        chase_actor(&checked.env, checked.actor()?).map_err(|e| texts.row(e))
+    });
+    let marks = guarded(STEPS, || {
+        let list: &[&str] = listed.as_deref().unwrap_or_default();
+        let marked = infer_rec(&known.clone()?.env, list).map_err(|e| texts.row(e))?;
+        Ok(texts.entries(&marked.into_iter().collect::<Vec<_>>()))
+    });
+    let (init, init_unvalidated) = match &known {
+        Ok(checked) => texts.init_check(&checked.env),
+        Err(fail) => (Err(fail.clone()), None),
+    };
+    let init_list = guarded(STEPS, || {
+        let (env, args) = init.as_ref().map_err(|fail| fail.clone())?;
+        Ok(texts.entries(&chase_types(env, args).map_err(|e| texts.row(e))?))
+    });
+    say("list".into(), listed.clone().map(|found| texts.entries(&found)));
+    say("marks".into(), marks);
+    say("init".into(), init_list);
+    say("draft".into(), guarded(STEPS, || texts.draft()));
+    say("empty".into(), guarded(STEPS, || texts.emptiness(known.clone()?)));
+    let uses = guarded(STEPS, || texts.uses(known.clone()?));
+    for (number, name) in texts.names.iter().enumerate() {
+        let of = |word: &str| format!("{word} {}", quoted(&book.names[number]));
+        let row = uses.as_ref().map(|rows| rows.get(name).cloned().unwrap_or_default()).map_err(|fail| fail.clone());
+        say(of("uses"), row.and_then(|row| if row.len() > MOST_USES { Err(Fail::Refused(16, None)) } else { Ok(row) }));
+        for (word, times) in [("project", 1), ("twice", 2)] {
+            say(of(word), guarded(STEPS, || texts.project(known.clone()?, number, times)));
+        }
+    }
+    lines.push(("check".into(), verdict(book, &found, &[&unvalidated])));
+    lines.push(("init check".into(), verdict(book, &init, &[&unvalidated, &init_unvalidated])));
+    lines
+}
+
+pub fn run() -> i32 {
+    let mut bytes = Vec::new();
+    std::io::stdin().read_to_end(&mut bytes).expect("a batch");
+    let mut out = std::io::BufWriter::new(std::io::stdout().lock());
+    for (name, book) in Batch(&bytes) {
+        for (question, outcome) in lines(book) {
+            writeln!(out, "{name} {question} {outcome}").expect("room");
+        }
+    }
+    out.flush().expect("room");
+    0
+}

@@ -1,0 +1,222 @@
+//! Declaration books, read by document 01 ("The book"), and batches of them.
+
+pub const NAME: u8 = 18;
+pub const OPT: u8 = 19;
+pub const VEC: u8 = 20;
+pub const RECORD: u8 = 21;
+pub const VARIANT: u8 = 22;
+pub const FUNC: u8 = 23;
+pub const SERVICE: u8 = 24;
+pub const CLASS: u8 = 25;
+pub const ARGS: u8 = 26;
+
+pub const BY_NUMBER: u8 = 1;
+pub const BY_NAME: u8 = 2;
+pub const UNNAMED: u8 = 3;
+
+pub const MAIN: u16 = 0;
+pub const TYPE_IMPORT: u16 = 1;
+pub const SERVICE_IMPORT: u16 = 2;
+pub const INIT: u16 = 3;
+
+pub const NO_ROOT: u16 = 65535;
+
+#[derive(Clone, Debug, PartialEq)]
+pub struct Node {
+    pub kind: u8,
+    pub label_kind: u8,
+    pub value: u32,
+    pub label: u32,
+    pub kids: Vec<Node>,
+}
+
+impl Node {
+    pub fn arguments(&self) -> &[Node] {
+        &self.kids[..(self.value & 0xffff) as usize]
+    }
+
+    pub fn results(&self) -> &[Node] {
+        &self.kids[(self.value & 0xffff) as usize..]
+    }
+
+    /// Up to the first 0.
+    pub fn modes(&self) -> Vec<u32> {
+        (0..8).map(|place| self.value >> (16 + 2 * place) & 3).take_while(|digit| *digit != 0).collect()
+    }
+}
+
+pub struct Definition {
+    pub name: usize,
+    pub file: usize,
+    pub tree: Node,
+}
+
+pub struct File {
+    pub name: usize,
+    pub role: u16,
+    pub tree: Option<Node>,
+}
+
+pub struct Book {
+    pub names: Vec<Vec<u8>>,
+    pub definitions: Vec<Definition>,
+    pub files: Vec<File>,
+}
+
+fn half(bytes: &[u8], at: usize) -> u16 {
+    u16::from_le_bytes([bytes[at], bytes[at + 1]])
+}
+
+fn word(bytes: &[u8], at: usize) -> u32 {
+    u32::from_le_bytes([bytes[at], bytes[at + 1], bytes[at + 2], bytes[at + 3]])
+}
+
+/// A tree and the place after it. `parent` is the kind above, `is_list` tells whether this is the root of an init file.
+fn tree(rows: &[u8], names: usize, at: usize, end: usize, parent: Option<u8>, is_list: bool) -> Option<(Node, usize)> {
+    if at >= end {
+        return None;
+    }
+    let row = &rows[12 * at..12 * at + 12];
+    let (kind, label_kind, size, value, label) = (row[0], row[1], half(row, 2) as usize, word(row, 4), word(row, 8));
+    if size == 0 || size > end - at || kind > ARGS || (kind == ARGS) != is_list {
+        return None;
+    }
+    let label_fits = match parent {
+        Some(RECORD | VARIANT) => match label_kind {
+            BY_NUMBER | UNNAMED => true,
+            BY_NAME => (label as usize) < names,
+            _ => false,
+        },
+        Some(SERVICE) => label_kind == BY_NAME && (label as usize) < names,
+        _ => label_kind == 0 && label == 0,
+    };
+    if !label_fits {
+        return None;
+    }
+    let (mut kids, mut next) = (Vec::new(), at + 1);
+    while next < at + size {
+        let (kid, after) = tree(rows, names, next, at + size, Some(kind), false)?;
+        kids.push(kid);
+        next = after;
+    }
+    let counted = match kind {
+        0..=NAME => kids.is_empty(),
+        OPT | VEC => kids.len() == 1,
+        CLASS => !kids.is_empty(),
+        _ => true,
+    };
+    let node = Node { kind, label_kind, value, label, kids };
+    let valued = match kind {
+        NAME => (value as usize) < names,
+        FUNC => (value & 0xffff) as usize <= node.kids.len() && value >> 16 >> (2 * node.modes().len()).min(16) == 0,
+        _ => value == 0,
+    };
+    (counted && valued).then_some((node, at + size))
+}
+
+/// The book in bytes, none where the layout is broken.
+pub fn read(bytes: &[u8]) -> Option<Book> {
+    if bytes.len() < 32 || bytes.len() > 65536 {
+        return None;
+    }
+    let offset = |part: usize| word(bytes, 8 * part) as usize;
+    let count = |part: usize| word(bytes, 8 * part + 4) as usize;
+    if count(0) > 1024 || count(1) > 4096 || count(2) > 512 || count(3) > 16 || count(3) == 0 || offset(0) != 32 {
+        return None;
+    }
+    let (mut names, mut at): (Vec<Vec<u8>>, usize) = (Vec::new(), 32);
+    for _ in 0..count(0) {
+        let size = *bytes.get(at)? as usize;
+        let name = bytes.get(at + 1..at + 1 + size)?.to_vec();
+        if names.last().is_some_and(|last| *last >= name) {
+            return None;
+        }
+        names.push(name);
+        at += 1 + size;
+    }
+    let nodes_at = at;
+    let definitions_at = nodes_at + 12 * count(1);
+    let files_at = definitions_at + 8 * count(2);
+    let end = files_at + 8 * count(3);
+    if offset(1) != nodes_at || offset(2) != definitions_at || offset(3) != files_at || end != bytes.len() {
+        return None;
+    }
+    let (rows, nodes) = (&bytes[nodes_at..definitions_at], count(1));
+    let (mut definitions, mut next): (Vec<Definition>, usize) = (Vec::new(), 0);
+    for place in 0..count(2) {
+        let at = definitions_at + 8 * place;
+        let (name, file, root) = (half(bytes, at) as usize, half(bytes, at + 2) as usize, half(bytes, at + 4));
+        let falls = definitions.last().is_some_and(|last| last.file > file);
+        if name >= names.len() || file >= count(3) || falls || root as usize != next || half(bytes, at + 6) != 0 {
+            return None;
+        }
+        let (tree, after) = tree(rows, names.len(), next, nodes, None, false)?;
+        definitions.push(Definition { name, file, tree });
+        next = after;
+    }
+    let mut files = Vec::new();
+    for place in 0..count(3) {
+        let at = files_at + 8 * place;
+        let (name, role, root) = (half(bytes, at) as usize, half(bytes, at + 2), half(bytes, at + 4));
+        let placed = (role == MAIN) == (place == 0) && role <= INIT && (role != INIT || place == count(3) - 1);
+        if name >= names.len() || !placed || half(bytes, at + 6) != 0 {
+            return None;
+        }
+        if root == NO_ROOT {
+            if role == INIT {
+                return None;
+            }
+            files.push(File { name, role, tree: None });
+            continue;
+        }
+        if root as usize != next {
+            return None;
+        }
+        let (tree, after) = tree(rows, names.len(), next, nodes, None, role == INIT)?;
+        files.push(File { name, role, tree: Some(tree) });
+        next = after;
+    }
+    (next == nodes).then_some(Book { names, definitions, files })
+}
+
+impl Book {
+    pub fn is_of(&self, definition: &Definition, is_init: bool) -> bool {
+        (self.files[definition.file].role == INIT) == is_init
+    }
+}
+
+/// A quoted name, as document 01 prints it.
+pub fn quoted(name: &[u8]) -> String {
+    let mut text = String::from("\"");
+    for byte in name {
+        match byte {
+            0x20..=0x7e if !b"\"\\".contains(byte) => text.push(*byte as char),
+            _ => text += &format!("\\{byte:02x}"),
+        }
+    }
+    text + "\""
+}
+
+/// The records of a batch: a length byte and a name, four bytes of length and a book.
+pub struct Batch<'a>(pub &'a [u8]);
+
+impl<'a> Iterator for Batch<'a> {
+    type Item = (&'a str, &'a [u8]);
+
+    fn next(&mut self) -> Option<Self::Item> {
+        let (size, rest) = self.0.split_first()?;
+        let (name, rest) = rest.split_at(*size as usize);
+        let (size, rest) = rest.split_at(4);
+        let (book, rest) = rest.split_at(word(size, 0) as usize);
+        self.0 = rest;
+        Some((std::str::from_utf8(name).expect("a name"), book))
+    }
+}
+
+pub fn record(name: &str, book: &[u8]) -> Vec<u8> {
+    let mut bytes = vec![name.len() as u8];
+    bytes.extend(name.as_bytes());
+    bytes.extend((book.len() as u32).to_le_bytes());
+    bytes.extend(book);
+    bytes
+}

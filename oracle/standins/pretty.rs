@@ -1,0 +1,3 @@
+//! In place of syntax/pretty.rs.
+
+pub fn pretty_print() {}
