@@ -1,5 +1,9 @@
 //! Every question of a book, answered by the customer's Rust.
 
+#[cfg(exports)]
+#[path = "bench.rs"]
+pub mod bench;
+
 use crate::analysis::{chase_actor, chase_def_use, chase_types, infer_rec, project_methods};
 use crate::book::{self, quoted, Batch, Book, Node};
 use crate::rows;

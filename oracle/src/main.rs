@@ -131,6 +131,8 @@ fn main() {
                 compare::run(batch, answers, checks, rust, Some(difference))
             }
             ["pick", batch, name] => compare::pick(batch, name),
+            #[cfg(exports)]
+            ["bench", samples, length] => answer::bench::run(number(samples), number(length)),
             _ => {
                 eprintln!("{USAGE}");
                 2

@@ -1,0 +1,153 @@
+#!/usr/bin/env python3
+"""Writes the batch of books that oracle/bench.sh times:  python3 tools/benchbooks.py > BATCH
+
+Books of three sizes as they are met, c/full.did, and series SERIES-SIZE in which one thing grows. The batch is laid out as that of
+tools/mkbatch.py; every book is made by tools/mkbook.py from a source that is written here.
+"""
+
+import os
+import random
+import struct
+import sys
+
+import mkbook
+
+ROOT = os.path.join(os.path.dirname(os.path.abspath(__file__)), "..")
+
+# A ledger: 12 definitions.
+SMALL = """
+type Subaccount = blob;
+type Account = record { owner : principal; subaccount : opt Subaccount };
+type Tokens = nat;
+type Timestamp = nat64;
+type TransferArg = record { from_subaccount : opt Subaccount; to : Account; amount : Tokens; fee : opt Tokens; memo : opt blob;
+  created_at_time : opt Timestamp };
+type TransferError = variant { BadFee : record { expected_fee : Tokens }; InsufficientFunds : record { balance : Tokens }; TooOld;
+  CreatedInFuture : record { ledger_time : Timestamp }; Duplicate : record { duplicate_of : nat };
+  GenericError : record { error_code : nat; message : text } };
+type TransferResult = variant { Ok : nat; Err : TransferError };
+type Value = variant { Nat : nat; Int : int; Text : text; Blob : blob; Array : vec Value; Map : vec record { text; Value } };
+type MetadataEntry = record { text; Value };
+type Block = record { id : nat; block : Value };
+type GetBlocksResult = record { log_length : nat; blocks : vec Block; callback : GetBlocks };
+type GetBlocks = func (vec record { start : nat; length : nat }) -> (GetBlocksResult) query;
+service : {
+  icrc1_metadata : () -> (vec MetadataEntry) query; icrc1_name : () -> (text) query; icrc1_symbol : () -> (text) query;
+  icrc1_decimals : () -> (nat8) query; icrc1_fee : () -> (Tokens) query; icrc1_total_supply : () -> (Tokens) query;
+  icrc1_balance_of : (Account) -> (Tokens) query; icrc1_transfer : (TransferArg) -> (TransferResult); icrc3_get_blocks : GetBlocks;
+}
+"""
+
+PRIMITIVES = "nat text bool int nat64 nat8 principal float64".split()
+
+
+def mixed(definitions, nodes):
+    """Records, variants, lists and aliases that name each other, and methods, up to so many nodes."""
+    chance = random.Random(definitions)
+    words = [a + b for a in ("account", "block", "fee", "token", "order", "limit", "state", "key") for b in
+             ("", "_id", "_of", "_list", "_time", "_hash", "_count", "_owner", "_kind", "_memo")]
+    name = [f"{chance.choice(words)}{i}" for i in range(definitions)]
+    count = 1  # of nodes, the service being the first
+
+    def leaf():
+        return chance.choice(name) if chance.random() < 0.3 else chance.choice(PRIMITIVES)
+
+    def part():
+        nonlocal count
+        count += 1
+        form = chance.random()
+        if form < 0.25:
+            count += 1
+            return ("opt " if form < 0.15 else "vec ") + leaf()
+        return leaf()
+
+    text = []
+    for i in range(definitions):
+        count += 1
+        form = chance.random()
+        if form < 0.15 and i:
+            text.append(f"type {name[i]} = {chance.choice(name[:i])};")
+        elif form < 0.25:
+            count += 1
+            text.append(f"type {name[i]} = vec {leaf()};")
+        else:
+            labels = chance.sample(words, chance.randint(2, 9))
+            kind = "record" if form < 0.75 else "variant"
+            text.append(f"type {name[i]} = {kind} {{ {'; '.join(f'{label} : {part()}' for label in labels)} }};")
+    methods = []
+    while count + 3 <= nodes:
+        count += 3
+        methods.append(f"{chance.choice(words)}_{len(methods)} : ({leaf()}) -> ({leaf()});")
+    return "\n".join(text) + f"\nservice : {{ {' '.join(methods)} }}"
+
+
+def like_full(definitions):
+    """c/full.did's form without the names that fill it: 8 nodes for a definition."""
+    body = "record {{ f : nat; g : opt a{0}; h : text; 5 : a{0} }}"
+    text = [f"type a{i} = {body.format((i + 1) % definitions)};" for i in range(definitions)]
+    methods = [f"m{i} : (a{i}) -> (a{i});" for i in range(2 * definitions // 3)]
+    return "\n".join(text) + f"\nservice : {{ {' '.join(methods)} }}"
+
+
+def wide(definitions, nodes):
+    """So many definitions in a chain, each a record of as many fields as make so many nodes, and one method."""
+    fields = (nodes - 3) // definitions - 1
+    text = []
+    for i in range(definitions):
+        kinds = [PRIMITIVES[j % len(PRIMITIVES)] for j in range(fields)]
+        kinds[-1] = f"a{(i + 1) % definitions}"
+        labelled = [f"f{j} : {kind}" if j < 400 else f"{j} : {kind}" for j, kind in enumerate(kinds)]
+        text.append(f"type a{i} = record {{ {'; '.join(labelled)} }};")
+    return "\n".join(text) + "\nservice : { m : (a0) -> () }"
+
+
+def nested(depth):
+    return f"type a = nest {depth} {{ record {{ f : | }} }} {{ nat }}; service : {{ m : (a) -> () }}"
+
+
+def aliases(count):
+    text = [f"type a{i} = a{i + 1};" for i in range(count - 1)]
+    return "\n".join(text) + f"\ntype a{count - 1} = record {{}}; service : {{ m : (a0) -> () }}"
+
+
+def methods(count):
+    return f"type f = func (nat) -> (text) query; service : {{ repeat {count} {{ m : f; }} }}"
+
+
+def imports(count):
+    return f'file "m" main service : {{}} file "i" service service : {{ repeat {count} {{ m#### : () -> (); }} }}'
+
+
+def sources():
+    yield "small", SMALL
+    yield "medium", mixed(100, 800)
+    with open(os.path.join(ROOT, "c", "full.did"), encoding="utf-8") as file:
+        yield "full", file.read()
+    yield "full-mixed", mixed(512, 4096)
+    for count in (4, 8, 16, 32, 64, 128, 256, 512):
+        yield f"size-{count}", like_full(count)
+    for nodes in (256, 512, 1024, 2048, 4096):
+        yield f"nodes-{nodes}", wide(64, nodes)
+    for count in (8, 16, 32, 64, 128, 256, 512):
+        yield f"definitions-{count}", wide(count, 4096)
+    for depth in (15, 60, 250, 1000, 4000):
+        yield f"depth-{depth}", nested(depth)
+    for count in (8, 32, 64, 128, 256, 512):
+        yield f"aliases-{count}", aliases(count)
+    for count in (62, 250, 1000, 4000):
+        yield f"methods-{count}", methods(count)
+    for count in (64, 128, 256, 512, 1000):
+        yield f"imports-{count}", imports(count)
+
+
+def main():
+    for name, text in sources():
+        try:
+            book = mkbook.book(text)
+        except mkbook.SourceError as error:
+            sys.exit(f"{name}: {error}")
+        sys.stdout.buffer.write(struct.pack("B", len(name)) + name.encode() + struct.pack("<I", len(book)) + book)
+
+
+if __name__ == "__main__":
+    main()
