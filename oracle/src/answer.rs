@@ -522,15 +522,20 @@ fn lines_of(texts: &Texts) -> Vec<(String, String)> {
     lines
 }
 
-pub fn run() -> i32 {
-    let mut bytes = Vec::new();
-    std::io::stdin().read_to_end(&mut bytes).expect("a batch");
-    let mut out = std::io::BufWriter::new(std::io::stdout().lock());
-    for (name, book) in Batch(&bytes) {
+/// The lines of each book of a batch.
+pub fn write(batch: &[u8], out: &mut impl Write) {
+    for (name, book) in Batch(batch) {
         for (question, outcome) in lines(book) {
             writeln!(out, "{name} {question} {outcome}").expect("room");
         }
     }
+}
+
+pub fn run() -> i32 {
+    let mut bytes = Vec::new();
+    std::io::stdin().read_to_end(&mut bytes).expect("a batch");
+    let mut out = std::io::BufWriter::new(std::io::stdout().lock());
+    write(&bytes, &mut out);
     out.flush().expect("room");
     0
 }

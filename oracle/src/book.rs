@@ -45,18 +45,21 @@ impl Node {
     }
 }
 
+#[derive(Clone)]
 pub struct Definition {
     pub name: usize,
     pub file: usize,
     pub tree: Node,
 }
 
+#[derive(Clone)]
 pub struct File {
     pub name: usize,
     pub role: u16,
     pub tree: Option<Node>,
 }
 
+#[derive(Clone)]
 pub struct Book {
     pub names: Vec<Vec<u8>>,
     pub definitions: Vec<Definition>,
@@ -179,7 +182,46 @@ pub fn read(bytes: &[u8]) -> Option<Book> {
     (next == nodes).then_some(Book { names, definitions, files })
 }
 
+fn write(node: &Node, out: &mut Vec<u8>) -> u16 {
+    let at = out.len();
+    out.extend([node.kind, node.label_kind, 0, 0]);
+    out.extend(node.value.to_le_bytes());
+    out.extend(node.label.to_le_bytes());
+    let size = 1 + node.kids.iter().map(|kid| write(kid, out)).sum::<u16>();
+    out[at + 2..at + 4].copy_from_slice(&size.to_le_bytes());
+    size
+}
+
 impl Book {
+    /// The book as bytes, whatever the layout says of its parts.
+    pub fn bytes(&self) -> Vec<u8> {
+        let (mut table, mut nodes, mut definitions, mut files) = (vec![], vec![], vec![], vec![]);
+        for name in &self.names {
+            table.push(name.len() as u8);
+            table.extend(name);
+        }
+        let halves = |numbers: [usize; 4]| numbers.into_iter().flat_map(|number| (number as u16).to_le_bytes());
+        for row in &self.definitions {
+            definitions.extend(halves([row.name, row.file, nodes.len() / 12, 0]));
+            write(&row.tree, &mut nodes);
+        }
+        for file in &self.files {
+            let root = if file.tree.is_some() { nodes.len() / 12 } else { NO_ROOT as usize };
+            files.extend(halves([file.name, file.role as usize, root, 0]));
+            file.tree.iter().for_each(|tree| {
+                write(tree, &mut nodes);
+            });
+        }
+        let counts = [self.names.len(), nodes.len() / 12, self.definitions.len(), self.files.len()];
+        let (mut bytes, mut offset) = (Vec::new(), 32);
+        for (part, count) in [&table, &nodes, &definitions, &files].into_iter().zip(counts) {
+            bytes.extend((offset as u32).to_le_bytes());
+            bytes.extend((count as u32).to_le_bytes());
+            offset += part.len();
+        }
+        [bytes, table, nodes, definitions, files].concat()
+    }
+
     pub fn is_of(&self, definition: &Definition, is_init: bool) -> bool {
         (self.files[definition.file].role == INIT) == is_init
     }

@@ -4,7 +4,7 @@ use crate::book::{self, Batch};
 use std::collections::BTreeMap;
 use std::io::Write;
 
-fn file(path: &str) -> Vec<u8> {
+pub fn file(path: &str) -> Vec<u8> {
     std::fs::read(path).unwrap_or_else(|e| panic!("{path}: {e}"))
 }
 
@@ -22,7 +22,7 @@ fn parted(said: &str) -> (&str, &str) {
 }
 
 #[derive(Default)]
-struct Counts {
+pub struct Counts {
     books: u64,
     whole: u64,
     passed: u64,
@@ -37,9 +37,9 @@ struct Counts {
     exported: u64,
 }
 
-struct Difference {
+pub struct Difference {
     book: Vec<u8>,
-    name: String,
+    pub name: String,
     ours: String,
     rust: String,
 }
@@ -59,13 +59,12 @@ impl Counts {
     }
 }
 
-pub fn run(batch: &str, answers: &str, checks: &str, rust: &str, difference: Option<&str>) -> i32 {
-    let batch = file(batch);
-    let [answers, checks, rust] = [answers, checks, rust].map(|path| String::from_utf8(file(path)).expect("text"));
-    let (mut answers, mut checks, mut rust) = (answers.lines(), checks.lines(), rust.lines().peekable());
+/// The lines of answer_batch, check_batch and the Rust for a batch.
+pub fn compared(batch: &[u8], answers: &str, checks: &str, rust: &str) -> (Counts, Vec<Difference>) {
+    let (mut answers, mut checks, mut rust) = (answers.lines(), checks.lines(), rust.lines());
     let mut counts = Counts::default();
     let mut differences: Vec<Difference> = Vec::new();
-    for (name, bytes) in Batch(&batch) {
+    for (name, bytes) in Batch(batch) {
         counts.books += 1;
         counts.largest = counts.largest.max(bytes.len());
         let whole = book::read(bytes);
@@ -119,6 +118,13 @@ pub fn run(batch: &str, answers: &str, checks: &str, rust: &str, difference: Opt
     for left in [answers.next(), checks.next(), rust.next()].into_iter().flatten() {
         differences.push(Difference { book: vec![], name: "the end".into(), ours: left.into(), rust: left.into() });
     }
+    (counts, differences)
+}
+
+pub fn run(batch: &str, answers: &str, checks: &str, rust: &str, difference: Option<&str>) -> i32 {
+    let batch = file(batch);
+    let [answers, checks, rust] = [answers, checks, rust].map(|path| String::from_utf8(file(path)).expect("text"));
+    let (counts, differences) = compared(&batch, &answers, &checks, &rust);
     print(&counts, &differences);
     let Some(smallest) = differences.iter().min_by_key(|difference| difference.book.len()) else {
         return 0;

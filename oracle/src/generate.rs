@@ -4,7 +4,7 @@
 //! others are wild (whatever the layout allows) or of a special shape: long chains, deep trees, ladders, many uses. Some are
 //! damaged afterwards.
 
-use crate::book::{self, record, Node};
+use crate::book::{self, record, Book, Definition, File, Node};
 use candid::idl_hash;
 use std::collections::{BTreeMap, BTreeSet, HashMap, HashSet};
 use std::io::Write;
@@ -215,16 +215,6 @@ struct Draft {
     extra: Vec<Name>,
 }
 
-fn write(node: &Node, out: &mut Vec<u8>) -> u16 {
-    let at = out.len();
-    out.extend([node.kind, node.label_kind, 0, 0]);
-    out.extend(node.value.to_le_bytes());
-    out.extend(node.label.to_le_bytes());
-    let size = 1 + node.kids.iter().map(|kid| write(kid, out)).sum::<u16>();
-    out[at + 2..at + 4].copy_from_slice(&size.to_le_bytes());
-    size
-}
-
 impl Draft {
     fn bytes(mut self) -> Vec<u8> {
         self.rows.sort_by_key(|row| row.file);
@@ -238,31 +228,15 @@ impl Draft {
             tree.iter().for_each(|tree| tree.names(&mut names));
         }
         let numbers: BTreeMap<Name, u32> = names.iter().enumerate().map(|(i, name)| (name.clone(), i as u32)).collect();
-        let (mut table, mut nodes, mut definitions, mut files) = (vec![], vec![], vec![], vec![]);
-        for name in &names {
-            table.push(name.len() as u8);
-            table.extend(name);
-        }
-        let halves = |numbers: [usize; 4]| numbers.into_iter().flat_map(|number| (number as u16).to_le_bytes());
-        for row in &self.rows {
-            definitions.extend(halves([numbers[&row.name] as usize, row.file, nodes.len() / 12, 0]));
-            write(&row.tree.node(&numbers), &mut nodes);
-        }
-        for (name, role, tree) in &self.files {
-            let root = if tree.is_some() { nodes.len() / 12 } else { book::NO_ROOT as usize };
-            files.extend(halves([numbers[name] as usize, *role as usize, root, 0]));
-            tree.iter().for_each(|tree| {
-                write(&tree.node(&numbers), &mut nodes);
-            });
-        }
-        let counts = [names.len(), nodes.len() / 12, self.rows.len(), self.files.len()];
-        let (mut bytes, mut offset) = (Vec::new(), 32);
-        for (part, count) in [&table, &nodes, &definitions, &files].into_iter().zip(counts) {
-            bytes.extend((offset as u32).to_le_bytes());
-            bytes.extend((count as u32).to_le_bytes());
-            offset += part.len();
-        }
-        [bytes, table, nodes, definitions, files].concat()
+        let number = |name: &Name| numbers[name] as usize;
+        let of_row = |row: &Row| Definition { name: number(&row.name), file: row.file, tree: row.tree.node(&numbers) };
+        let of_file = |(name, role, tree): &(Name, u16, Option<Tree>)| File {
+            name: number(name),
+            role: *role,
+            tree: tree.as_ref().map(|tree| tree.node(&numbers)),
+        };
+        let (definitions, files) = (self.rows.iter().map(of_row).collect(), self.files.iter().map(of_file).collect());
+        Book { names: names.into_iter().collect(), definitions, files }.bytes()
     }
 }
 

@@ -3,10 +3,12 @@
 mod answer;
 mod book;
 mod compare;
+mod exhaustive;
 #[cfg(exports)]
 mod exported;
 mod generate;
 mod rows;
+mod shrink;
 
 /// candid_parser as the customer's sources see it.
 #[path = "../standins/error.rs"]
@@ -114,8 +116,10 @@ const STACK: usize = 1 << 30;
 
 const USAGE: &str = "usage: oracle answer < BATCH
        oracle generate SEED COUNT [damage] > BATCH
+       oracle generate-all main|import|init|sound > BATCH
        oracle compare BATCH ANSWERS CHECKS RUST [DIFFERENCE]
-       oracle pick BATCH NAME > BOOK";
+       oracle pick BATCH NAME > BOOK
+       oracle shrink BOOK ANSWER_BATCH CHECK_BATCH > SMALLER";
 
 fn main() {
     let run = || {
@@ -126,6 +130,7 @@ fn main() {
             ["answer"] => answer::run(),
             ["generate", seed, count] => generate::run(number(seed), number(count), false),
             ["generate", seed, count, "damage"] => generate::run(number(seed), number(count), true),
+            ["generate-all", part] => exhaustive::run(part),
             ["compare", batch, answers, checks, rust] => compare::run(batch, answers, checks, rust, None),
             ["compare", batch, answers, checks, rust, difference] => {
                 compare::run(batch, answers, checks, rust, Some(difference))
@@ -133,6 +138,7 @@ fn main() {
             ["pick", batch, name] => compare::pick(batch, name),
             #[cfg(exports)]
             ["bench", samples, length] => answer::bench::run(number(samples), number(length)),
+            ["shrink", book, answers, checks] => shrink::run(book, answers, checks),
             _ => {
                 eprintln!("{USAGE}");
                 2

@@ -1,0 +1,259 @@
+//! All small books of a few kinds: up to 5 nodes, 2 definitions and 3 names. Each fits the layout.
+//!
+//! Types are nat, a name, opt, a record of one or two fields, a func of any arguments and results, a service of up to two
+//! methods, and a class. Beside main stands nothing, one service import or an init file. Left out, so that the number stays
+//! small:
+//! - a sole definition is of `a`; two are of `a` and `b`, in either order, or of `a` twice;
+//! - a name is one that the book defines or `m`, which no book does; with an init file and two names defined, only those two;
+//! - modes are none and oneway; with main alone and at most one definition, also two modes at once;
+//! - a method's type is a func, a name or nat; the class below an actor's top is `class { service {} }`, which nobody opens;
+//! - labels are fixed, except with an init file, where they are compared; a lone method is `m`, with a service import also `a`;
+//! - an actor is a class, a service, a name or nat; in a book of main alone without definitions, any type of up to 3 nodes;
+//! - a main file without an actor counts as a node, except with an init file: its definitions stand beside `service {}` too;
+//! - books of more than 3 nodes that are 2 or 12 whatever their trees are.
+//!
+//! The part `sound` has up to 6 nodes of what can pass: no unbound name, oneway only without results, methods of func and
+//! names alone, no class below the top, no nat as an actor. It has four shapes: an actor with one definition, with two, with
+//! two and a service import; and, without an actor, a definition of main and one of the init file of the same name.
+
+use crate::book::{self, record, Book, Definition, File, Node};
+use std::io::Write;
+
+const NODES: usize = 5;
+const NAMES: [&[u8]; 3] = [b"a", b"b", b"m"];
+const A: u32 = 0;
+const B: u32 = 1;
+const M: u32 = 2;
+
+const NAT: u8 = 2;
+const ONEWAY: u32 = 1;
+const QUERY_AND_ONEWAY: u32 = 2 + 4;
+
+/// Label kind and label.
+type Label = (u8, u32);
+
+/// The second is the number of the first.
+const SPELLINGS: [Label; 3] = [(book::BY_NAME, A), (book::BY_NUMBER, 97), (book::BY_NAME, B)];
+const SECOND_FIELD: Label = (book::BY_NUMBER, 98);
+
+/// The first only with a service import, where methods of one name clash.
+const METHODS: [&[u32]; 6] = [&[A], &[], &[M], &[M, M], &[A, M], &[M, A]];
+
+fn node(kind: u8, value: u32, kids: &[Node]) -> Node {
+    Node { kind, label_kind: 0, value, label: 0, kids: kids.to_vec() }
+}
+
+/// The node with these labels on its children.
+fn labelled(mut node: Node, labels: &[Label]) -> Node {
+    for (kid, (kind, label)) in node.kids.iter_mut().zip(labels) {
+        (kid.label_kind, kid.label) = (*kind, *label);
+    }
+    node
+}
+
+/// Trees by their number of nodes.
+type Trees = Vec<Vec<Node>>;
+
+/// Each row of trees, one from each of the lists, that has so many nodes together.
+fn each(lists: &[&Trees], nodes: usize, row: &mut Vec<Node>, then: &mut dyn FnMut(&[Node])) {
+    let Some((first, rest)) = lists.split_first() else {
+        if nodes == 0 {
+            then(row);
+        }
+        return;
+    };
+    for size in 1..=nodes.saturating_sub(rest.len()) {
+        for tree in first.get(size).into_iter().flatten() {
+            row.push(tree.clone());
+            each(rest, nodes - size, row, then);
+            row.pop();
+        }
+    }
+}
+
+/// What the trees of some books are made of.
+struct Makings<'a> {
+    sound: bool,
+    /// Nodes of the largest tree.
+    largest: usize,
+    names: &'a [u32],
+    modes: &'a [u32],
+    field: &'a [Label],
+    /// The names of a service's methods.
+    methods: &'a [&'a [u32]],
+    /// Up to how many nodes an actor is any type.
+    any_actor: usize,
+}
+
+struct Made {
+    types: Trees,
+    actors: Trees,
+    /// Init argument lists.
+    lists: Trees,
+}
+
+impl Makings<'_> {
+    fn made(&self) -> Made {
+        let none = || -> Trees { vec![vec![]] };
+        let (mut types, mut methods, mut tops, mut actors, mut lists) = (none(), none(), none(), none(), none());
+        for nodes in 1..=self.largest {
+            let below = |lists: &[&Trees], then: &mut dyn FnMut(&[Node])| each(lists, nodes - 1, &mut vec![], then);
+            let when = |holds: bool, tree: Node| if holds { vec![tree] } else { vec![] };
+            let nat = when(nodes == 1, node(NAT, 0, &[]));
+            // Where only a func or a service is sound.
+            let wrong = if self.sound { vec![] } else { nat.clone() };
+            let class = when(nodes == 2 && !self.sound, node(book::CLASS, 0, &[node(book::SERVICE, 0, &[])]));
+            let names = if nodes == 1 { self.names } else { &[] };
+            let names: Vec<Node> = names.iter().map(|name| node(book::NAME, *name, &[])).collect();
+
+            let mut functions = vec![];
+            for count in 0..nodes {
+                below(&vec![&types; count], &mut |kids| {
+                    for arguments in 0..=count {
+                        let modes: &[u32] = if self.sound && arguments < count { &[0] } else { self.modes };
+                        let value = |modes: &u32| arguments as u32 + (modes << 16);
+                        functions.extend(modes.iter().map(|modes| node(book::FUNC, value(modes), kids)));
+                    }
+                });
+            }
+            let mut service = vec![];
+            let method = |name| (book::BY_NAME, name);
+            for labels in self.methods {
+                let labels: Vec<Label> = labels.iter().copied().map(method).collect();
+                let found = &mut |kids: &[Node]| service.push(labelled(node(book::SERVICE, 0, kids), &labels));
+                below(&vec![&methods; labels.len()], found);
+            }
+            let mut others = vec![];
+            below(&[&types], &mut |kids| {
+                others.push(node(book::OPT, 0, kids));
+                others.extend(self.field.iter().map(|label| labelled(node(book::RECORD, 0, kids), &[*label])));
+            });
+            let two = [self.field[0], SECOND_FIELD];
+            below(&[&types, &types], &mut |kids| others.push(labelled(node(book::RECORD, 0, kids), &two)));
+
+            let mut actor = vec![];
+            for count in 0..nodes {
+                let mut below_class = vec![&types; count];
+                below_class.push(&tops);
+                below(&below_class, &mut |kids| actor.push(node(book::CLASS, 0, kids)));
+            }
+            actor.extend([&wrong[..], &names, &service].concat());
+            if nodes <= self.any_actor {
+                actor.extend([&functions[..], &others].concat());
+            }
+            let mut list = vec![];
+            for count in 0..nodes {
+                below(&vec![&types; count], &mut |kids| list.push(node(book::ARGS, 0, kids)));
+            }
+            types.push([&nat[..], &names, &functions, &service, &others, &class].concat());
+            tops.push([&wrong[..], &names, &service, &class].concat());
+            methods.push([wrong, names, functions].concat());
+            actors.push(actor);
+            lists.push(list);
+        }
+        Made { types, actors, lists }
+    }
+}
+
+/// Where the definitions stand and what files there are: the name and the file of each definition, the role of each file and
+/// whether it has a tree.
+struct Shape<'a> {
+    sound: bool,
+    definitions: &'a [(u32, usize)],
+    files: &'a [(u16, bool)],
+}
+
+impl Shape<'_> {
+    fn each(&self, then: &mut dyn FnMut(Book)) {
+        let (definitions, files) = (self.definitions, self.files);
+        let has = |role: u16, tree: bool| files.contains(&(role, tree));
+        let has_init = has(book::INIT, true);
+        let mut names: Vec<u32> = definitions.iter().map(|(name, _)| *name).collect();
+        names.sort();
+        names.dedup();
+        if !(self.sound || has_init && names.len() == 2) {
+            names.push(M);
+        }
+        let twice = matches!(definitions, [one, other] if one.0 == other.0 && (one.1 == other.1 || !has_init));
+        let most = if twice || has(book::SERVICE_IMPORT, false) {
+            3
+        } else if self.sound {
+            NODES + 1
+        } else {
+            NODES - (has(book::MAIN, false) && !has_init) as usize
+        };
+        let trees = definitions.len() + files.iter().filter(|file| file.1).count();
+        let alone = files.len() == 1;
+        let made = Makings {
+            sound: self.sound,
+            largest: (most + 1).saturating_sub(trees),
+            names: &names,
+            modes: if alone && !self.sound && definitions.len() < 2 { &[0, ONEWAY, QUERY_AND_ONEWAY] } else { &[0, ONEWAY] },
+            field: if has_init { &SPELLINGS } else { &SPELLINGS[..1] },
+            methods: if has(book::SERVICE_IMPORT, true) { &METHODS } else { &METHODS[1..] },
+            any_actor: if alone && definitions.is_empty() { 3 } else { 0 },
+        }
+        .made();
+        let mut lists = vec![&made.types; definitions.len()];
+        for (role, _) in files.iter().filter(|file| file.1) {
+            lists.push(if *role == book::INIT { &made.lists } else { &made.actors });
+        }
+        for nodes in lists.len()..=most {
+            each(&lists, nodes, &mut vec![], &mut |row| {
+                let mut trees = row.iter().cloned();
+                let mut tree = || trees.next().expect("a tree");
+                let definition = |&(name, file): &(u32, usize)| Definition { name: name as usize, file, tree: tree() };
+                let definitions = definitions.iter().map(definition).collect();
+                let file = |(place, &(role, has_tree)): (usize, &(u16, bool))| File {
+                    name: place,
+                    role,
+                    tree: has_tree.then(&mut tree),
+                };
+                let files = files.iter().enumerate().map(file).collect();
+                then(Book { names: NAMES.map(|name| name.to_vec()).to_vec(), definitions, files });
+            });
+        }
+    }
+}
+
+fn shapes(part: &str, then: &mut dyn FnMut(Book)) {
+    let (main, no_main, init) = ((book::MAIN, true), (book::MAIN, false), (book::INIT, true));
+    let (import, no_import) = ((book::SERVICE_IMPORT, true), (book::SERVICE_IMPORT, false));
+    let in_main: [&[(u32, usize)]; 5] = [&[], &[(A, 0)], &[(A, 0), (B, 0)], &[(B, 0), (A, 0)], &[(A, 0), (A, 0)]];
+    let in_both: [&[(u32, usize)]; 4] = [&[(A, 1)], &[(A, 0), (A, 1)], &[(A, 0), (B, 1)], &[(B, 0), (A, 1)]];
+    let in_init: [&[(u32, usize)]; 3] = [&[(A, 1), (B, 1)], &[(B, 1), (A, 1)], &[(A, 1), (A, 1)]];
+    let mut all = |definitions: &[&[(u32, usize)]], files: &[&[(u16, bool)]]| {
+        for definitions in definitions {
+            files.iter().for_each(|files| Shape { sound: part == "sound", definitions, files }.each(then));
+        }
+    };
+    match part {
+        "main" => all(&in_main, &[&[no_main], &[main]]),
+        "import" => {
+            let files: [&[(u16, bool)]; 4] = [&[no_main, no_import], &[main, no_import], &[no_main, import], &[main, import]];
+            all(&[&in_main[..], &in_both].concat(), &files);
+        }
+        "init" => all(&[&in_main[..], &in_both, &in_init].concat(), &[&[no_main, init], &[main, init]]),
+        "sound" => {
+            all(&[&[(A, 0)], &[(B, 0), (A, 0)]], &[&[main]]);
+            all(&[&[(B, 0), (A, 0)]], &[&[main, import]]);
+            all(&[&[(A, 0), (A, 1)]], &[&[no_main, init]]);
+        }
+        _ => panic!("main, import, init or sound, not {part}"),
+    }
+}
+
+pub fn run(part: &str) -> i32 {
+    let mut out = std::io::BufWriter::new(std::io::stdout().lock());
+    let mut count = 0;
+    shapes(part, &mut |book| {
+        let (name, bytes) = (format!("{part}-{count}"), book.bytes());
+        if book::read(&bytes).is_none() {
+            eprintln!("{name}: not a whole book as generated");
+        }
+        out.write_all(&record(&name, &bytes)).expect("room");
+        count += 1;
+    });
+    out.flush().expect("room");
+    0
+}
