@@ -10,7 +10,6 @@ use lib.ListN.{length, getD, take, drop}
 use lib.Seq.{take-suc, take-all, take-length, length-take-le}
 use Rattle.format.specs.Layout.{layout}
 use Rattle.book.specs.declared.refusal.Refusal.{Refusal}
-use Rattle.book.specs.Refusal.{numberOf, nameOf}
 use Rattle.book.specs.Reading.{nameIn}
 use Rattle.judgement.specs.Check.{member}
 use Rattle.typing.proofs.Hashing.{member-none, member-here, member-later}
@@ -19,16 +18,12 @@ use Rattle.analysis.specs.declared.hand.Answer.{Answer}
 use Rattle.analysis.specs.declared.hand.Answer.the-variants.{Given, Refused}
 use Rattle.analysis.specs.Handed.{HandedAs}
 use Rattle.text.specs.Laid.{Laid}
-use Rattle.text.specs.Refused.{refusedLine}
 use Rattle.text.proofs.Laid.{nothing, then, alias}
-use Rattle.list.specs.Printed.{isNamed, refusal, heading, markOf, line, lines, listIn, marksIn, markedText, listedText, printed}
+use Rattle.batch.specs.Refused.{refusalOf}
+use Rattle.list.specs.Printed.{heading, markOf, line, lines, listIn, marksIn, markedText, listedText, printed}
 use Rattle.list.proofs.Answered.{refused-is, given-is}
 
--- ---- A refusal, and a mark
-pub refusal-is : (bs : List ℕ) (why : Refusal) {number name : ℕ} {named : Bool} {bytes : List ℕ} → number ≡ numberOf why → name ≡ nameOf why → named ≡ isNamed name → bytes ≡ nameIn bs name → refusedLine number named bytes ≡ refusal bs why
-unfolding refusal
-refusal-is bs why e f g h = rw (e, g, h, f)
-
+-- ---- A mark
 pub mark-some : (n : ℕ) (marked : List ℕ) {m : Bool} → m ≡ member n marked → m ≡ true → 114 ≡ markOf marked n
 unfolding markOf
 mark-some n marked e f = rw (sym e ∙ f)
@@ -91,7 +86,7 @@ module _ (bs marked : List ℕ) where
 
 -- ---- What is printed, by the answers to the questions
 module _ (bs l : List ℕ) {old new : List ℕ} {r : Answer} (h : HandedAs (onLayout (λ b. marksOver b l) (layout bs)) old new r) (n : 1024 ≡ length old) where
-  pub marks-refused : {why : Refusal} → r ≡ Refused why → refusal bs why ≡ markedText bs l (marksIn bs l)
+  pub marks-refused : {why : Refusal} → r ≡ Refused why → refusalOf bs why ≡ markedText bs l (marksIn bs l)
   unfolding marksIn markedText
   marks-refused e = rw (refused-is h n e)
 
@@ -100,7 +95,7 @@ module _ (bs l : List ℕ) {old new : List ℕ} {r : Answer} (h : HandedAs (onLa
   marks-given e = rw (given-is h n e)
 
 module _ (bs : List ℕ) {old new : List ℕ} {r : Answer} (h : HandedAs (onLayout list (layout bs)) old new r) (n : 512 ≡ length old) where
-  pub list-refused : {why : Refusal} → r ≡ Refused why → refusal bs why ≡ printed bs
+  pub list-refused : {why : Refusal} → r ≡ Refused why → refusalOf bs why ≡ printed bs
   unfolding listIn listedText printed
   list-refused e = rw (refused-is h n e)
 

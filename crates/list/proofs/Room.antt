@@ -23,7 +23,8 @@ use Rattle.text.specs.Laid.{Laid}
 use Rattle.text.specs.Refused.{nameOrDash, refusedLine}
 use Rattle.text.specs.Laws.{decimal-length, quoted-length}
 use Rattle.text.proofs.Laid.{alias, all-before}
-use Rattle.list.specs.Printed.{isNamed, refusal, heading, markOf, line, lines, listIn, marksIn, markedText, listedText, printed}
+use Rattle.batch.specs.Refused.{isNamed, refusal, refusalOf}
+use Rattle.list.specs.Printed.{heading, markOf, line, lines, listIn, marksIn, markedText, listedText, printed}
 
 -- ---- A name
 names-short : (names : List (List ℕ)) (n : ℕ) → T (every isName names) → length (getD names n []) ≤ 255
@@ -85,8 +86,8 @@ unfolding nameOrDash
 dash-length true name h = omega (arith, quoted-length name)
 dash-length false name h = omega arith
 
-refusal-length : (bs : List ℕ) (why : Refusal) → length (refusal bs why) < 409600
-unfolding refusal refusedLine
+refusal-length : (bs : List ℕ) (why : Refusal) → length (refusalOf bs why) < 409600
+unfolding refusalOf refusal refusedLine
 refusal-length bs why =
     let name = nameIn bs (nameOf why) in
     simp length-append (omega (arith, decimal-length 1 (numberOf why) (number-few why), dash-length (isNamed (nameOf why)) name (name-length bs (nameOf why))))

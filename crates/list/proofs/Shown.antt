@@ -9,18 +9,17 @@ use native.Mathlib.Omega.{arith}
 use lib.ListN.{length, length-map}
 use Rattle.format.specs.Forest.{end}
 use Rattle.format.specs.Book.{Book}
-use Rattle.format.specs.Fits.{isInitRole}
 use Rattle.format.specs.Layout.{Layout, broken, whole, layout}
 use Rattle.format.proofs.Encoded.{fit-parts}
 use Rattle.format.proofs.Theorems.{found}
 use Rattle.book.specs.declared.refusal.Verdict.the-variants.{Passed}
 use Rattle.book.specs.Reading.{nameIn}
-use Rattle.judgement.specs.Environment.{roleAt, keep, mainDefinitions}
+use Rattle.judgement.specs.Environment.{mainDefinitions}
 use Rattle.judgement.specs.Actor.{resolveActor}
 use Rattle.judgement.specs.Check.{member, check}
 use Rattle.judgement.specs.WellFormed.{nameOf}
 use Rattle.judgement.proofs.Lookup.{pigeonhole}
-use Rattle.listing.specs.Questions.{given, list, marksOver, after, fit, onLayout}
+use Rattle.listing.specs.Questions.{given, list, marksOver, fit, onLayout}
 use Rattle.listing.proofs.Marked.{ascends-distinct, few-definitions}
 use Rattle.samples.specs.Bytes as bytes
 use Rattle.samples.specs.Notation.{spelled}
@@ -32,7 +31,8 @@ use Rattle.text.specs.Ascii.{ascii}
 use Rattle.text.specs.Decimal.{digit, digits, decimal}
 use Rattle.text.specs.Quoted.{plain, escape, escapes, quoted}
 use Rattle.text.specs.Refused.{nameOrDash, refusedLine}
-use Rattle.list.specs.Printed.{refusal, heading, markOf, line, lines, listIn, marksIn, markedText, listedText, printed}
+use Rattle.batch.specs.Refused.{refusal, refusalOf}
+use Rattle.list.specs.Printed.{heading, markOf, line, lines, listIn, marksIn, markedText, listedText, printed}
 
 -- Both questions are answered.
 text : (bs : List ℕ) {l m : List ℕ} → listIn bs ≡ given l → marksIn bs l ≡ given m → printed bs ≡ heading (length l) (length m) ++ lines bs m 1 l
@@ -71,7 +71,7 @@ module _ (bs : List ℕ) (b : Book) (read : layout bs ≡ whole b) (passed : che
 
 -- ---- A broken layout, as that of every input that is longer than a book may be
 pub broken-shown : (bs : List ℕ) → layout bs ≡ broken → printed bs ≡ ascii "refused 1 -\n"
-unfolding onLayout fit listIn listedText printed refusal refusedLine nameOrDash decimal digits digit
+unfolding onLayout fit listIn listedText printed refusalOf refusal refusedLine nameOrDash decimal digits digit
 broken-shown bs e = rw e
 
 pub long-shown : (bs : List ℕ) → 65536 < length bs → printed bs ≡ ascii "refused 1 -\n"

@@ -1,27 +1,16 @@
 -- What is printed for the bytes of a book (document 01, "Listed, marked, refused"). Definitions; assumes nothing.
-use mathlib.Core.Bool.{Bool, cond, not}
+use mathlib.Core.Bool.{cond}
 use mathlib.Core.List.{List, [], _∷_, _++_}
 use Prim.Native.Nat.{ℕ, suc}
-use lib.Dec.{eqb}
 use lib.ListN.{length}
 use Rattle.format.specs.Layout.{layout}
-use Rattle.book.specs.declared.refusal.Refusal.{Refusal}
-use Rattle.book.specs.Refusal.{numberOf, nameOf}
 use Rattle.book.specs.Reading.{nameIn}
 use Rattle.judgement.specs.Check.{member}
 use Rattle.listing.specs.Questions.{Outcome, refused, given, list, marksOver, fit, onLayout}
 use Rattle.text.specs.Ascii.{ascii}
 use Rattle.text.specs.Decimal.{decimal}
 use Rattle.text.specs.Quoted.{quoted}
-use Rattle.text.specs.Refused.{refusedLine}
-
--- A refusal without a name gives 65,535 for it: no book has so many names.
-abbrev pub isNamed : ℕ → Bool
-isNamed n = not (eqb n 65535)
-
--- As `refused 7 "a"` or `refused 1 -`.
-unfoldable pub refusal : List ℕ → Refusal → List ℕ
-refusal book r = refusedLine (numberOf r) (isNamed (nameOf r)) (nameIn book (nameOf r))
+use Rattle.batch.specs.Refused.{refusalOf}
 
 -- The first line, as `list 2 marked 1`.
 unfoldable pub heading : ℕ → ℕ → List ℕ
@@ -45,7 +34,7 @@ unfoldable pub marksIn : List ℕ → List ℕ → Outcome (List ℕ)
 marksIn book listed = fit 1024 (onLayout (λ b. marksOver b listed) (layout book))
 
 unfoldable pub markedText : List ℕ → List ℕ → Outcome (List ℕ) → List ℕ
-markedText book listed (refused r) = refusal book r
+markedText book listed (refused r) = refusalOf book r
 markedText book listed (given marked) = heading (length listed) (length marked) ++ lines book marked 1 listed
 
 -- What the definition list comes to, which is asked for into a list of 512 places.
@@ -53,7 +42,7 @@ unfoldable pub listIn : List ℕ → Outcome (List ℕ)
 listIn book = fit 512 (onLayout list (layout book))
 
 unfoldable pub listedText : List ℕ → Outcome (List ℕ) → List ℕ
-listedText book (refused r) = refusal book r
+listedText book (refused r) = refusalOf book r
 listedText book (given listed) = markedText book listed (marksIn book listed)
 
 unfoldable pub printed : List ℕ → List ℕ

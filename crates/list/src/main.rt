@@ -5,25 +5,18 @@ ghost use lib.ListN.{length, take};
 ghost use Rattle.judgement.specs.Check.{member};
 ghost use Rattle.listing.specs.Questions.{given};
 ghost use Rattle.text.specs.Laid.{Laid};
-ghost use Rattle.list.specs.Printed.{isNamed, refusal, heading, markOf, line, lines, marksIn, markedText, printed};
+ghost use Rattle.batch.specs.Refused.{refusalOf};
+ghost use Rattle.list.specs.Printed.{heading, markOf, line, lines, marksIn, markedText, printed};
 use analysis::hand::Answer;
 use book::refusal::Refusal;
 use libc::STDIN_FILENO;
 use libc::STDOUT_FILENO;
 
-// Whether a number that a refusal gives is one of a name.
-fn is_named(name: u16) -> bool
-    ensures { λ r. ⌜ r ≡ isNamed name ⌝ }
-{
-    name != Refusal::NO_NAME
-}
-
 // The line of a refusal.
 fn refusal(why: Refusal, book: &[u8], out: &mut [u8]) -> usize
-    ensures { λ r. ⌜ Laid (refusal (now (book .entry)) why) (now (out .entry)) 0 r (now (out .exit)) ⌝ }
+    ensures { λ r. ⌜ Laid (refusalOf (now (book .entry)) why) (now (out .entry)) 0 r (now (out .exit)) ⌝ }
 {
-    let name = why.name();
-    text::refused(why.number(), is_named(name), book::name(book, name), out, 0)
+    batch::refusal(why, book::name(book, why.name()), out, 0)
 }
 
 // The first line.
@@ -133,13 +126,6 @@ fn print(book: &[u8], out: &mut [u8]) -> usize
     }
 }
 
-// One byte more than a book may have: a longer input is refused and never cut.
-fn room_for_book() -> [u8; 65537]
-    ensures { λ r. ⌜ 65537 ≡ length r ⌝ }
-{
-    [0; 65537]
-}
-
 // More bytes than are ever printed.
 fn room_for_print() -> [u8; 409600]
     ensures { λ r. ⌜ 409600 ≡ length r ⌝ }
@@ -147,8 +133,9 @@ fn room_for_print() -> [u8; 409600]
     [0; 409600]
 }
 
+// The room has one byte more than a book: a longer input is refused and never cut.
 fn main() {
-    let mut input = room_for_book();
+    let mut input = batch::room_for_book();
     let size = io::read_full(STDIN_FILENO, &mut input);
     let mut out = room_for_print();
     let end = print(&input[..size], &mut out);
