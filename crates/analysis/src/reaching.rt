@@ -6,7 +6,6 @@ ghost use Prim.Native.Nat.{_+_, _<_};
 ghost use lib.ListN.{length};
 ghost use Rattle.environment.specs.Tables.{definitionsIn};
 ghost use Rattle.environment.specs.Merging.{zeroTable};
-ghost use Rattle.environment.specs.Flags.{noFlags};
 ghost use Rattle.analysis.specs.Reaching.{BookRows, ReachAs, FirstHit, NearAs, Defining, OwnersAs, noRows, noPlaces, LinksAs};
 use book::kinds::Kind;
 use book::read::Entry;
@@ -121,12 +120,6 @@ fn link(rows: &[u8], nodes: usize) -> Links
 // A flag for each name.
 pub type Reach = [u8; 1024];
 
-fn unreached() -> Reach
-    ensures { λ r. ⌜ r ≡ noFlags ⌝ }
-{
-    [0u8; 1024]
-}
-
 // For each name whether the wanted name is it or is reached from it by references. The names that are flagged wait in a queue until the
 // definitions that refer to them are flagged too.
 pub fn reaching(
@@ -144,7 +137,7 @@ pub fn reaching(
     let linked = link(rows, nodes);
     let head = linked.head;
     let next = linked.next;
-    let mut flags = unreached();
+    let mut flags = environment::empty::no_flags();
     let mut queue = no_heads();
     flags[wanted] = 1;
     queue[0] = wanted as u16;

@@ -5,7 +5,6 @@ ghost use mathlib.Core.List.{List, []};
 ghost use lib.ListN.{length, getD};
 ghost use Rattle.format.specs.Book.{Definition};
 ghost use Rattle.format.specs.Whole.{treeAt};
-ghost use Rattle.environment.specs.Flags.{noFlags};
 ghost use Rattle.environment.specs.Tables.{Binds};
 ghost use Rattle.listing.specs.Recursive.{marking, inferRec};
 ghost use Rattle.analysis.specs.Book.{Rooted};
@@ -13,9 +12,6 @@ ghost use Rattle.analysis.specs.Marking.{MarksHold, GoneThrough, NodeIn}
 use book::kinds::Kind;
 use book::read::Node;
 use environment::Table;
-
-// A flag for each of the 1,024 names.
-pub type Flags = [u8; 1024];
 
 // The names seen and those marked; or the listed name without definition that stopped it.
 pub struct Marks {
@@ -25,19 +21,12 @@ pub struct Marks {
     pub bad: u16,
 }
 
-// No flag is set.
-fn no_flags() -> Flags
-    ensures { λ r. ⌜ r ≡ noFlags ⌝ }
-{
-    [0u8; 1024]
-}
-
 // Nothing seen and nothing marked.
 fn fresh() -> Marks
     ensures { λ r. ⌜ MarksHold (marking [] []) r ⌝ }
 {
-    let seen = no_flags();
-    let marked = no_flags();
+    let seen = environment::empty::no_flags();
+    let marked = environment::empty::no_flags();
     Marks {
         seen,
         marked,
@@ -90,7 +79,7 @@ pub fn infer_rec(rows: &[u8], roots: &[u16], list: &[u16]) -> Marks
     ensures { λ r. ⌜ ((ds : List Definition) → Binds (now (rows .entry)) (now (roots .entry)) ds → MarksHold (inferRec ds (now (list .entry))) r) ⌝ }
 {
     let mut m = fresh();
-    let mut done = no_flags();
+    let mut done = environment::empty::no_flags();
     let mut i = 0;
     while i < list.len() {
         let name = list[i];

@@ -13,7 +13,7 @@ use Rattle.analysis.proofs.reaching.reaching.Lts as lts
 use Rattle.analysis.proofs.reaching.link.Reads as link-reads
 use Rattle.analysis.proofs.reaching.no_heads.Reads as no-heads-reads
 use Rattle.analysis.proofs.reaching.owners.Reads as owners-reads
-use Rattle.analysis.proofs.reaching.unreached.Reads as unreached-reads
+use Rattle.environment.proofs.empty.no_flags.Reads as no-flags-reads
 
 abbrev Inv-loop2 : tie.InvT-loop2
 Inv-loop2 entries rows names nodes definitions wanted owner head next flags₀ queue₀ len₀ q m x₀ flags queue len x = NameLeft rows entries owner nodes definitions wanted flags queue len q m x
@@ -33,8 +33,8 @@ owners-requires c κs = c .before .before .pre .0
 link-requires : tie.Need-link-requires Inv-loop2 μ-loop2 Inv-loop μ-loop
 link-requires c κs = record { names = _; known = c .before .before .before .pre .0 .known }
 
-unreached-requires : tie.Need-unreached-requires Inv-loop2 μ-loop2 Inv-loop μ-loop
-unreached-requires c κs = tt
+no-flags-requires : tie.Need-no-flags-requires Inv-loop2 μ-loop2 Inv-loop μ-loop
+no-flags-requires c κs = tt
 
 no-heads-requires : tie.Need-no-heads-requires Inv-loop2 μ-loop2 Inv-loop μ-loop
 no-heads-requires c κs = tt
@@ -49,7 +49,7 @@ array-write-queue : tie.Need-array-write-queue Inv-loop2 μ-loop2 Inv-loop μ-lo
 array-write-queue c = omega arith
 
 loop-holds : tie.Need-loop-holds Inv-loop2 μ-loop2 Inv-loop μ-loop
-loop-holds c = left-start _ _ _ _ _ _ _ _ (c .before .before .before .before .before .before .before .before .pre .1) (c .before .unreached .ensures) (c .no-heads .ensures)
+loop-holds c = left-start _ _ _ _ _ _ _ _ (c .before .before .before .before .before .before .before .before .pre .1) (c .before .no-flags .ensures) (c .no-heads .ensures)
 
 mul-m : tie.Need-mul-m Inv-loop2 μ-loop2 Inv-loop μ-loop
 mul-m c = omega (arith, c .loop-test .taken, work-most (c .before .loop .inv .work))
@@ -161,7 +161,7 @@ reaching-spec =
     μ-loop
     owners-requires
     link-requires
-    unreached-requires
+    no-flags-requires
     no-heads-requires
     array-write-flags
     cast-queue
