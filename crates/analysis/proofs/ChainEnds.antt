@@ -56,7 +56,7 @@ module _ {ns ends′ : List ℕ} {node : ℕ} (s : Ended ns ends′ node) where
       go : Dec (rowAt ns node .kind ≡ 18) → EndAt ns (endNode ns ends′ node) (aliasEnd ds (treeAt ns node))
       go (yes k) =
           let v = rowAt ns node .value in
-          subst (λ (x : End). EndAt ns (endNode ns ends′ node) x) (sym (name-ends (s .nodes) ds (s .inside) ends′ c k))
+          subst (λ (x : End). EndAt ns (endNode ns ends′ node) x) (sym (name-ends (s .nodes) ds (s .inside) k))
           (subst (λ (e : ℕ). EndAt ns e (nameEnd ds v (findType ds v))) (end-named ns ends′ node (rowAt ns node) refl k) (c v (s .nodes .row node (s .inside) .name k)))
       go (no k) =
           let z : node ≡ 65535 → ⊥ = λ h. omega (arith, served-small) in

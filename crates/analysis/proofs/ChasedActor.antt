@@ -2,7 +2,7 @@
 use mathlib.Core.Path.{_≡_, refl, sym, ap, subst, _∙_}
 use mathlib.Core.Bool.{Bool, true, false, cond}
 use mathlib.Core.List.{List, [], List·Memᴰ·not-nil}
-use Prim.Native.Nat.{ℕ, suc, _+_, _≤_, _<_}
+use Prim.Native.Nat.{ℕ, _+_, _≤_, _<_}
 use native.Mathlib.Omega.{arith}
 use borrow.Author.Tests.{ne-eqb}
 use lib.Dec.{eqb}
@@ -27,7 +27,7 @@ use Rattle.typing.proofs.Classes.{tree-class, arguments-are}
 use Rattle.listing.specs.Chase.{Walk as State, going, arm, chase, visit, chaseTypes}
 use Rattle.analysis.specs.declared.chase.Walk.{Walk}
 use Rattle.analysis.specs.Book.{Rooted, Readable}
-use Rattle.analysis.specs.Walking.{Goes, Holds, Started, ChasedAs, Counted, noList, nothingMet, WalkedAs, RootIn, ActorIn}
+use Rattle.analysis.specs.Walking.{Goes, Holds, Started, fuel, ChasedAs, Counted, noList, nothingMet, WalkedAs, RootIn, ActorIn}
 use Rattle.analysis.proofs.BookNodes.{here-whole, here-top, here-ends, services-over, services-open}
 
 -- ---- a walk that has met nothing
@@ -56,18 +56,14 @@ module _ {ns roots : List ℕ} {definitions : ℕ} (t : Counted ns roots definit
         definitions = t .ds;
         binds = t .tabled .0;
         few = omega (arith, t .tabled .1, t .few);
-        entered = 0;
         state = going [] [];
         holds = subst (Goes (t .ds) 0 [] []) (sym e) (nothing-goes (t .ds));
       }
 
   -- the whole walk over trees of rows
-  pub fresh-chased : (from until : ℕ) (w r : Walk) → w ≡ nothingMet → ChasedAs ns roots from until (definitions + 1) w r → WalkedAs ns roots definitions (siblings ns from until) r
+  pub fresh-chased : (from until : ℕ) (w r : Walk) → w ≡ nothingMet → ChasedAs ns roots from until w r → WalkedAs ns roots definitions (siblings ns from until) r
   unfolding chaseTypes
-  fresh-chased from until w r e c ds b =
-      let d : definitions + 1 ≡ suc (length ds) = omega (arith, b .1) in
-      subst (λ (k : ℕ). Holds ds 0 (chase (visit k ds) (siblings ns from until) (going [] [])) r) d
-      (c ds 0 (going [] []) (b .0) (omega (arith, b .1, t .few)) (subst (Goes ds 0 [] []) (sym e) (nothing-goes ds)))
+  fresh-chased from until w r e c ds b = c ds (going [] []) (b .0) (omega (arith, b .1, t .few)) (subst (Goes ds 0 [] []) (sym e) (nothing-goes ds))
 
   -- and over none
   pub fresh-none : (f : Forest Node) → f ≡ end → (w : Walk) → w ≡ nothingMet → WalkedAs ns roots definitions f w
@@ -115,15 +111,15 @@ unfolding classArguments isClass
 none-class ns n e = rw (actor-none ns n e)
 
 -- ---- the loop over services
-pub record ServiceCome (ns : List ℕ) (ds : List Definition) (definitions root count : ℕ) (services : List ℕ) (v : Walk) (k : ℕ) : Type 0 where
+pub record ServiceCome (ns : List ℕ) (ds : List Definition) (root count : ℕ) (services : List ℕ) (v : Walk) (k : ℕ) : Type 0 where
   pub state : State
   pub holds : Holds ds 0 state v
-  pub same : chase (visit (definitions + 1) ds) (methodsIn ns (slice k count services)) state
-      ≡ chase (visit (definitions + 1) ds) (methodsIn ns (take count services)) (chaseTypes ds (classArguments (actorAt ns root)))
+  pub same : chase (visit (fuel ds) ds) (methodsIn ns (slice k count services)) state
+      ≡ chase (visit (fuel ds) ds) (methodsIn ns (take count services)) (chaseTypes ds (classArguments (actorAt ns root)))
 
 pub record ServicesLeft (ns roots : List ℕ) (definitions root count : ℕ) (services : List ℕ) (v : Walk) (k : ℕ) : Type 0 where
   pub passed : k ≤ count
-  pub come : (ds : List Definition) → Tabled ns roots definitions ds → ServiceCome ns ds definitions root count services v k
+  pub come : (ds : List Definition) → Tabled ns roots definitions ds → ServiceCome ns ds root count services v k
 
 module _ {ns roots : List ℕ} {definitions root count : ℕ} {services : List ℕ} where
   pub services-start : (v : Walk) → WalkedAs ns roots definitions (classArguments (actorAt ns root)) v → ServicesLeft ns roots definitions root count services v 0
@@ -133,20 +129,20 @@ module _ {ns roots : List ℕ} {definitions root count : ℕ} {services : List �
     pub services-started : Started ns roots v
     services-started =
         let c = l .come (t .ds) (t .tabled) in
-        record { definitions = t .ds; binds = t .tabled .0; few = omega (arith, t .tabled .1, t .few); entered = 0; state = c .state; holds = c .holds }
+        record { definitions = t .ds; binds = t .tabled .0; few = omega (arith, t .tabled .1, t .few); state = c .state; holds = c .holds }
 
     module _ (h : k < count) (long : count ≤ length services) (w : WholeAt ns (getD services k 0)) (q : Row) (is : q ≡ rowAt ns (getD services k 0)) where
-      pub services-on : (x : Walk) → ChasedAs ns roots (getD services k 0 + 1) (getD services k 0 + q .size) (definitions + 1) v x → ServicesLeft ns roots definitions root count services x (k + 1)
+      pub services-on : (x : Walk) → ChasedAs ns roots (getD services k 0 + 1) (getD services k 0 + q .size) v x → ServicesLeft ns roots definitions root count services x (k + 1)
       services-on x c = record { passed = omega arith; come = come }
         where
-          come : (ds : List Definition) → Tabled ns roots definitions ds → ServiceCome ns ds definitions root count services x (k + 1)
+          come : (ds : List Definition) → Tabled ns roots definitions ds → ServiceCome ns ds root count services x (k + 1)
           come ds b =
               let y = l .come ds b in
-              let f = visit (definitions + 1) ds in
+              let f = visit (fuel ds) ds in
               let kids = siblings ns (getD services k 0 + 1) (getD services k 0 + q .size) in
               record {
                 state = chase f kids (y .state);
-                holds = c ds 0 (y .state) (b .0) (omega (arith, b .1, t .few)) (y .holds);
+                holds = c ds (y .state) (b .0) (omega (arith, b .1, t .few)) (y .holds);
                 same = sym (ap (λ (g : Forest Node). chase f g (y .state)) (services-open ns services h long w is) ∙ chase-beside f kids (methodsIn ns (slice (k + 1) count services)) (y .state)) ∙ y .same;
               }
 
@@ -160,14 +156,13 @@ module _ {ns roots : List ℕ} {definitions : ℕ} (t : Counted ns roots definit
   unfolding actorTree chase chaseTypes
   actor-merged m {v} {k} l h ds b =
       let c = l .come ds b in
-      let d : definitions + 1 ≡ suc (length ds) = omega (arith, b .1) in
-      let f = visit (definitions + 1) ds in
+      let f = visit (fuel ds) ds in
       let main = actorAt ns (a .root) in
       let methods = methodsIn ns (take (a .count) (a .services)) in
       let over : c .state ≡ chase f methods (chaseTypes ds (classArguments main)) =
       sym (ap (λ (g : Forest Node). chase f g (c .state)) (services-over ns (a .services) (l .passed) h)) ∙ c .same in
       let all : c .state ≡ chaseTypes ds (mergedOf main methods) =
-      over ∙ ap (λ (j : ℕ). chase (visit j ds) methods (chaseTypes ds (classArguments main))) d ∙ sym (merged-chase (visit (suc (length ds)) ds) main methods (going [] [])) in
+      over ∙ sym (merged-chase f main methods (going [] [])) in
       rw m (subst (λ (s : State). Holds ds 0 s v) all (c .holds))
 
 -- What a book that passes gives.

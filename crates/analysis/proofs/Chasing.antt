@@ -70,11 +70,6 @@ module _ (ds : List Definition) where
   each-stopped d [] m = refl
   each-stopped d (n ∷ l) m = ap (each (visit d ds) l) (visit-stopped d n m) ∙ each-stopped d l m
 
-  pub each-zero : (l : List ℕ) (s : State) → each (visit 0 ds) l s ≡ s
-  unfolding each visit
-  each-zero [] s = refl
-  each-zero (n ∷ l) s = each-zero l s
-
   module _ (k n : ℕ) (seen out : List ℕ) where
     visit-seen : member n seen ≡ true → visit (suc k) ds n (going seen out) ≡ going seen out
     unfolding visit meetName
@@ -173,7 +168,7 @@ module _ {ds : List Definition} {entered : ℕ} {seen out : List ℕ} {w : Walk}
         slack = omega (arith, g .slack);
       }
 
-pub goes-room : {ds : List Definition} (entered : ℕ) {seen out : List ℕ} {w : Walk} → Goes ds (entered + 1) seen out w → length ds ≤ 512 → w .len < 512
+goes-room : {ds : List Definition} (entered : ℕ) {seen out : List ℕ} {w : Walk} → Goes ds (entered + 1) seen out w → length ds ≤ 512 → w .len < 512
 goes-room {ds} entered g few = omega (arith, g .slack, goes-short ds (entered + 1) g)
 
 pub goes-list : {ds : List Definition} (entered : ℕ) {seen out : List ℕ} {w : Walk} → Goes ds (entered + 1) seen out w → length ds ≤ 512 → (n : ℕ) →

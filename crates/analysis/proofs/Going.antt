@@ -1,7 +1,8 @@
 -- A tree is gone through by its rows, one after the other. Assumes nothing.
+--     held, GoneThrough, NodeIn    what the loop holds, and what is said of a tree
 --     agrees-set, agrees-again     one name more in a set, by its flag
 --     tree-each                    a tree is gone through by its references
---     GoLeft, go-..                the loop
+--     GoLeft, go-..                the loop over a definition's rows
 use mathlib.Core.Path.{_≡_, refl, sym, ap, subst, _∙_}
 use mathlib.Core.Bool.{Bool, true, false, _||_}
 use mathlib.Core.List.{List, [], _∷_}
@@ -13,20 +14,39 @@ use lib.Dec.{eqb}
 use lib.ListN.{length, getD, set, length-set, length-replicate}
 use lib.Seq.{getD-set-same, getD-set-other}
 use Rattle.format.specs.Encode.{Row}
+use Rattle.format.specs.Forest.{Forest}
 use Rattle.format.specs.Layout.{rowAt}
+use Rattle.format.specs.Node.{Node}
 use Rattle.format.specs.References.{references}
 use Rattle.format.specs.Whole.{Within, treeAt}
 use Rattle.format.proofs.References.{everywhere, references-siblings}
 use Rattle.judgement.specs.Check.{member}
 use Rattle.environment.specs.Flags.{noFlags, isSet}
+use Rattle.typing.specs.Actors.{AllTrees}
 use Rattle.listing.specs.Recursive.{marking, unbound, note, noteName, go}
 use Rattle.listing.specs.Recursive as listing
 use Rattle.listing.proofs.Folds.{each}
 use Rattle.listing.proofs.Marked.{go-each}
 use Rattle.analysis.specs.declared.recursive.Marks.{Marks}
 use Rattle.analysis.specs.Book.{Agrees}
-use Rattle.analysis.specs.Marking.{MarksHold, GoneThrough, NodeIn}
+use Rattle.analysis.specs.Marking.{MarksHold}
 use Rattle.analysis.proofs.BookNodes.{untabled, here-within, here-leafy, rowNames, names-none, names-name, names-other}
+
+-- ---- What is held
+-- The flags of a loop that nothing has stopped, as its answer would have them.
+abbrev pub held : List ℕ → List ℕ → Marks
+held seen set′ = record { seen = seen; marked = set′; stopped = false; bad = 0 }
+
+-- From m, whatever it holds, a tree was gone through.
+abbrev pub GoneThrough : Forest Node → Marks → Marks → Type 0
+GoneThrough t m r = (s : listing.Marks) → MarksHold s m → MarksHold (go t s) r
+
+-- A node of a book.
+pub record NodeIn (ns : List ℕ) (node : ℕ) : Type 0 where
+  pub names : ℕ
+  pub count : ℕ
+  pub all : AllTrees ns names count
+  pub inside : node < count
 
 -- ---- Flags
 pub no-flags-length : length noFlags ≡ 1024
@@ -59,10 +79,10 @@ module _ (flags l : List ℕ) (agrees : Agrees flags l) (n : ℕ) where
       look (yes e) = rw (e, h, eq-eqb n n refl)
       look (no d) = rw (ne-eqb k n d) (agrees k lt)
 
-pub held-none : (r : Marks) → r .seen ≡ noFlags → r .marked ≡ noFlags → r .stopped ≡ false → MarksHold (marking [] []) r
-held-none r s m g =
+pub held-none : {seen set′ : List ℕ} → seen ≡ noFlags → set′ ≡ noFlags → MarksHold (marking [] []) (held seen set′)
+held-none s m =
     record {
-      goes = g;
+      goes = refl;
       seen-are = subst (λ (f : List ℕ). Agrees f []) (sym s) agrees-none;
       marked-are = subst (λ (f : List ℕ). Agrees f []) (sym m) agrees-none;
       seen-long = ap length s ∙ no-flags-length;

@@ -27,8 +27,8 @@ use Rattle.listing.specs.Recursive as listing
 use Rattle.listing.proofs.Folds.{each}
 use Rattle.analysis.specs.declared.recursive.Marks.{Marks}
 use Rattle.analysis.specs.Book.{Rooted}
-use Rattle.analysis.specs.Marking.{Flagged, MarksHold, GoneThrough, NodeIn}
-use Rattle.analysis.proofs.Going.{no-flags-length, no-flags-at, agrees-set, agrees-again, tree-each}
+use Rattle.analysis.specs.Marking.{Flagged, MarksHold}
+use Rattle.analysis.proofs.Going.{held, GoneThrough, NodeIn, no-flags-length, no-flags-at, agrees-set, agrees-again, held-none, tree-each}
 
 -- ---- Names that are seen
 
@@ -129,9 +129,9 @@ abbrev pub seenAlso : ℕ → Marks → Marks
 seenAlso n r = record { seen = set (r .seen) n 1; marked = r .marked; stopped = r .stopped; bad = r .bad }
 
 module _ {ns roots list : List ℕ} where
-  pub infer-start : {done : List ℕ} (m : Marks) → MarksHold (marking [] []) m → done ≡ noFlags → InferLeft ns roots list m done 0
+  pub infer-start : {seen set′ done : List ℕ} → seen ≡ noFlags → set′ ≡ noFlags → done ≡ noFlags → InferLeft ns roots list (held seen set′) done 0
   unfolding inferRec
-  infer-start {done} m h e =
+  infer-start s m e =
       record {
         passed = omega arith;
         done-long = ap length e ∙ no-flags-length;
@@ -139,7 +139,7 @@ module _ {ns roots list : List ℕ} where
             record {
               seen-now = [];
               set-now = [];
-              holds = h;
+              holds = held-none s m;
               rest = refl;
               gone = λ n q. let z : true ≡ false = sym q ∙ ap (λ (f : List ℕ). isSet f n) e ∙ no-flags-at n in clash cc;
             };

@@ -2,13 +2,10 @@
 use mathlib.Core.Path.{_≡_}
 use mathlib.Core.Bool.{true, false}
 use mathlib.Core.List.{List}
-use Prim.Native.Nat.{ℕ, _<_}
+use Prim.Native.Nat.{ℕ}
 use lib.ListN.{length}
-use Rattle.format.specs.Forest.{Forest}
-use Rattle.format.specs.Node.{Node}
-use Rattle.listing.specs.Recursive.{marking, unbound, go}
+use Rattle.listing.specs.Recursive.{marking, unbound}
 use Rattle.listing.specs.Recursive as listing
-use Rattle.typing.specs.Actors.{AllTrees}
 use Rattle.analysis.specs.declared.recursive.Marks.{Marks}
 use Rattle.analysis.specs.Book.{Agrees}
 
@@ -28,14 +25,3 @@ pub record StoppedAt (n : ℕ) (r : Marks) : Type 0 where
 abbrev pub MarksHold : listing.Marks → Marks → Type 0
 MarksHold (marking seen set) r = Flagged seen set r
 MarksHold (unbound n) r = StoppedAt n r
-
--- From m, whatever it holds, a tree was gone through.
-abbrev pub GoneThrough : Forest Node → Marks → Marks → Type 0
-GoneThrough t m r = (s : listing.Marks) → MarksHold s m → MarksHold (go t s) r
-
--- A node of a book.
-pub record NodeIn (ns : List ℕ) (node : ℕ) : Type 0 where
-  pub names : ℕ
-  pub count : ℕ
-  pub all : AllTrees ns names count
-  pub inside : node < count

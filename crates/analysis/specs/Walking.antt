@@ -2,7 +2,7 @@
 use mathlib.Core.Path.{_≡_}
 use mathlib.Core.Bool.{Bool, true, false, not, _&&_}
 use mathlib.Core.List.{List, List·Memᴰ}
-use Prim.Native.Nat.{ℕ, _+_, _≤_, _<_}
+use Prim.Native.Nat.{ℕ, suc, _+_, _≤_, _<_}
 use lib.Dec.{eqb}
 use lib.ListN.{length, take, replicate}
 use Rattle.format.specs.Forest.{Forest}
@@ -41,15 +41,18 @@ pub record Started (ns roots : List ℕ) (w : Walk) : Type 0 where
   pub definitions : List Definition
   pub binds : Binds ns roots definitions
   pub few : length definitions ≤ 512
-  pub entered : ℕ
   pub state : State
-  pub holds : Holds definitions entered state w
+  pub holds : Holds definitions 0 state w
+
+-- How deep names are crossed at most.
+abbrev pub fuel : List Definition → ℕ
+fuel ds = suc (length ds)
 
 -- From w the walk over the trees from node `from` up to node `until` comes to r.
-abbrev pub ChasedAs : (ns roots : List ℕ) (from until depth : ℕ) (w r : Walk) → Type 0
-ChasedAs ns roots from until depth w r =
-    (ds : List Definition) (entered : ℕ) (s : State) → Binds ns roots ds → length ds ≤ 512 → Holds ds entered s w →
-    Holds ds entered (chase (visit depth ds) (siblings ns from until) s) r
+abbrev pub ChasedAs : (ns roots : List ℕ) (from until : ℕ) (w r : Walk) → Type 0
+ChasedAs ns roots from until w r =
+    (ds : List Definition) (s : State) → Binds ns roots ds → length ds ≤ 512 → Holds ds 0 s w →
+    Holds ds 0 (chase (visit (fuel ds) ds) (siblings ns from until) s) r
 
 -- ---- The next name
 
@@ -80,7 +83,7 @@ pub record Counted (ns roots : List ℕ) (definitions : ℕ) : Type 0 where
   pub tabled : Tabled ns roots definitions ds
   pub few : definitions ≤ 512
 
--- A walk that has met nothing.
+-- A list to fill, and a walk that has met nothing.
 unfoldable pub noList : List ℕ
 noList = replicate 512 0
 

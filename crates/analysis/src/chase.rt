@@ -7,7 +7,7 @@ ghost use Rattle.format.specs.Whole.{actorAt};
 ghost use Rattle.judgement.specs.Actor.{classArguments};
 ghost use Rattle.typing.specs.Actors.{actorTree};
 ghost use Rattle.analysis.specs.Book.{Readable};
-ghost use Rattle.analysis.specs.Walking.{Started, ChasedAs, isNew, Scanned, NextNew, Counted, nothingMet, WalkedAs, RootIn, ActorIn};
+ghost use Rattle.analysis.specs.Walking.{Started, ChasedAs, isNew, Scanned, NextNew, Counted, noList, nothingMet, WalkedAs, RootIn, ActorIn};
 use book::kinds::Kind;
 use book::read::Entry;
 use book::read::Node;
@@ -50,44 +50,72 @@ fn next_new(rows: &[u8], seen: &[u8], from: usize, until: usize) -> usize
     until
 }
 
-// The names of the nodes from `from` up to `until`, from left to right, crossing at most `depth` names.
-fn chase(rows: &[u8], roots: &[u16], from: usize, until: usize, depth: usize, w: Walk) -> Walk
-    requires { ⌜ Readable (now rows) (now roots) from until × Started (now rows) (now roots) w ⌝ }
-    ensures { λ r. ⌜ ChasedAs (now (rows .entry)) (now (roots .entry)) from until depth w r ⌝ }
+// A number for each name that is being gone into.
+type Stack = [u16; 512];
+
+fn no_stack() -> Stack
+    ensures { λ r. ⌜ r ≡ noList ⌝ }
 {
-    if depth == 0 {
-        return w;
-    }
+    [0u16; 512]
+}
+
+// The names of the nodes from `from` up to `until`, from left to right. Nothing recurses, so that marks and list are copied once and not for
+// each name: a name that is gone into waits with its row and the end of its rows, and is listed when no new name is left below it.
+fn chase(rows: &[u8], roots: &[u16], from: usize, until: usize, w: Walk) -> Walk
+    requires { ⌜ Readable (now rows) (now roots) from until × Started (now rows) (now roots) w ⌝ }
+    ensures { λ r. ⌜ ChasedAs (now (rows .entry)) (now (roots .entry)) from until w r ⌝ }
+{
     if w.stopped {
         return w;
     }
-    let mut v = w;
+    let mut seen = w.seen;
+    let mut list = w.list;
+    let mut len = w.len;
+    let mut stack = no_stack();
+    let mut ends = no_stack();
+    let mut depth = 0;
     let mut at = from;
+    let mut end = until;
     loop {
-        let seen = v.seen;
-        let i = next_new(rows, &seen, at, until);
-        if i == until {
-            return v;
+        let i = next_new(rows, &seen, at, end);
+        if i < end {
+            let t = Node::at(rows, i);
+            let name = t.value as usize;
+            let root = roots[name];
+            if root == Table::NONE {
+                return Walk {
+                    seen,
+                    list,
+                    len,
+                    stopped: true,
+                    bad: t.value as u16,
+                };
+            }
+            seen[name] = 1;
+            stack[depth] = i as u16;
+            ends[depth] = end as u16;
+            depth += 1;
+            at = root as usize;
+            let u = Node::at(rows, at);
+            end = at + u.size;
+            continue;
         }
-        let t = Node::at(rows, i);
-        let name = t.value as usize;
-        let root = roots[name];
-        if root == Table::NONE {
-            v.stopped = true;
-            v.bad = t.value as u16;
-            return v;
+        if depth == 0 {
+            return Walk {
+                seen,
+                list,
+                len,
+                stopped: false,
+                bad: 0,
+            };
         }
-        v.seen[name] = 1;
-        let n = root as usize;
-        let u = Node::at(rows, n);
-        v = chase(rows, roots, n, n + u.size, depth - 1, v);
-        if v.stopped {
-            return v;
-        }
-        let len = v.len;
-        v.list[len] = t.value as u16;
-        v.len = len + 1;
-        at = i + 1;
+        depth -= 1;
+        let row = stack[depth] as usize;
+        let t = Node::at(rows, row);
+        list[len] = t.value as u16;
+        len += 1;
+        at = row + 1;
+        end = ends[depth] as usize;
     }
 }
 
@@ -104,7 +132,7 @@ fn fresh() -> Walk
     }
 }
 
-// `chase_types`: the trees from node `from` up to node `until`, where there are so many definitions.
+// `chase_types`: the trees from node `from` up to node `until`, where there are so many definitions; the contract alone uses their number.
 pub fn chase_types(
     rows: &[u8],
     roots: &[u16],
@@ -115,7 +143,7 @@ pub fn chase_types(
     requires { ⌜ Readable (now rows) (now roots) from until × Counted (now rows) (now roots) definitions ⌝ }
     ensures { λ r. ⌜ WalkedAs (now (rows .entry)) (now (roots .entry)) definitions (siblings (now (rows .entry)) from until) r ⌝ }
 {
-    chase(rows, roots, from, until, definitions + 1, fresh())
+    chase(rows, roots, from, until, fresh())
 }
 
 // An actor as written, where there is one.
@@ -162,7 +190,7 @@ pub fn chase_actor(rows: &[u8], roots: &[u16], actor: Actor, definitions: usize)
     while k < actor.count {
         let s = services[k] as usize;
         let t = Node::at(rows, s);
-        v = chase(rows, roots, s + 1, s + t.size, definitions + 1, v);
+        v = chase(rows, roots, s + 1, s + t.size, v);
         k += 1;
     }
     v

@@ -1,14 +1,14 @@
 // The names to be boxed: `infer_rec`. Asks for a book's nodes and its table of roots. A definition's rows are gone through in order, so
-// nothing recurses. A name listed again is passed over: all that its definition refers to is seen by then.
+// nothing recurses, and in the loop over the list itself, so that flags are copied once alone, into the answer. A name listed again is
+// passed over: all that its definition refers to is seen by then.
 ghost use mathlib.Core.Path.{_≡_};
-ghost use mathlib.Core.List.{List, []};
+ghost use mathlib.Core.List.{List};
 ghost use lib.ListN.{length, getD};
 ghost use Rattle.format.specs.Book.{Definition};
-ghost use Rattle.format.specs.Whole.{treeAt};
 ghost use Rattle.environment.specs.Tables.{Binds};
-ghost use Rattle.listing.specs.Recursive.{marking, inferRec};
+ghost use Rattle.listing.specs.Recursive.{inferRec};
 ghost use Rattle.analysis.specs.Book.{Rooted};
-ghost use Rattle.analysis.specs.Marking.{MarksHold, GoneThrough, NodeIn};
+ghost use Rattle.analysis.specs.Marking.{MarksHold};
 use book::kinds::Kind;
 use book::read::Node;
 use environment::Table;
@@ -19,20 +19,6 @@ pub struct Marks {
     pub marked: [u8; 1024],
     pub stopped: bool,
     pub bad: u16,
-}
-
-// Nothing seen and nothing marked.
-fn fresh() -> Marks
-    ensures { λ r. ⌜ MarksHold (marking [] []) r ⌝ }
-{
-    let seen = environment::empty::no_flags();
-    let marked = environment::empty::no_flags();
-    Marks {
-        seen,
-        marked,
-        stopped: false,
-        bad: 0,
-    }
 }
 
 // The root of a name's definition, or NONE; also of a number past the table.
@@ -47,38 +33,14 @@ fn root_of(roots: &[u16], name: u16) -> u16
     roots[n]
 }
 
-// Goes through the tree at a node: a name that was not seen is seen and marked.
-fn go(rows: &[u8], root: usize, m: Marks) -> Marks
-    requires { ⌜ NodeIn (now rows) root ⌝ }
-    ensures { λ r. ⌜ GoneThrough (treeAt (now (rows .entry)) root) m r ⌝ }
-{
-    let t = Node::at(rows, root);
-    let until = root + t.size;
-    let mut v = m;
-    let mut i = root;
-    while i < until {
-        let row = Node::at(rows, i);
-        i += 1;
-        if row.kind != Kind::VAR {
-            continue;
-        }
-        let n = row.value as usize;
-        if v.seen[n] == 1 {
-            continue;
-        }
-        v.seen[n] = 1;
-        v.marked[n] = 1;
-    }
-    v
-}
-
 // Name by name of the list: what its definition refers to is marked, save what was seen, that is, listed before or marked already.
 // The first listed name without definition stops it.
 pub fn infer_rec(rows: &[u8], roots: &[u16], list: &[u16]) -> Marks
     requires { ⌜ Rooted (now rows) (now roots) ⌝ }
     ensures { λ r. ⌜ ((ds : List Definition) → Binds (now (rows .entry)) (now (roots .entry)) ds → MarksHold (inferRec ds (now (list .entry))) r) ⌝ }
 {
-    let mut m = fresh();
+    let mut seen = environment::empty::no_flags();
+    let mut marked = environment::empty::no_flags();
     let mut done = environment::empty::no_flags();
     let mut i = 0;
     while i < list.len() {
@@ -86,17 +48,40 @@ pub fn infer_rec(rows: &[u8], roots: &[u16], list: &[u16]) -> Marks
         i += 1;
         let root = root_of(roots, name);
         if root == Table::NONE {
-            m.stopped = true;
-            m.bad = name;
-            return m;
+            return Marks {
+                seen,
+                marked,
+                stopped: true,
+                bad: name,
+            };
         }
         let n = name as usize;
         if done[n] == 1 {
             continue;
         }
-        m = go(rows, root as usize, m);
-        m.seen[n] = 1;
+        let mut k = root as usize;
+        let t = Node::at(rows, k);
+        let until = k + t.size;
+        while k < until {
+            let row = Node::at(rows, k);
+            k += 1;
+            if row.kind != Kind::VAR {
+                continue;
+            }
+            let met = row.value as usize;
+            if seen[met] == 1 {
+                continue;
+            }
+            seen[met] = 1;
+            marked[met] = 1;
+        }
+        seen[n] = 1;
         done[n] = 1;
     }
-    m
+    Marks {
+        seen,
+        marked,
+        stopped: false,
+        bad: 0,
+    }
 }

@@ -1,8 +1,7 @@
 -- Where the chain of the type at a node ends, by the table of alias ends; so that says what `asFunc` and `asService` say. Assumes nothing.
 --     stays, node-ends, name-ends     where it ends
 --     ends-func, ends-service         for a table without circles, whatever the definitions are that it was made of
-use mathlib.Core.Path.{_≡_, refl, sym, ap, subst, _∙_}
-use mathlib.Core.Logic.{inl, inr}
+use mathlib.Core.Path.{_≡_, refl, sym, ap, _∙_}
 use mathlib.Core.Bool.{Bool, true, false, cond}
 use mathlib.Core.List.{List}
 use Prim.Native.Nat.{ℕ, _<_}
@@ -17,10 +16,10 @@ use Rattle.format.specs.Layout.{rowAt, kinds, kindOf, nodeOf}
 use Rattle.format.specs.Whole.{WholeAt, treeAt}
 use Rattle.format.proofs.References.{kind-alone}
 use Rattle.format.proofs.Stored.{tree-opens}
-use Rattle.judgement.specs.Environment.{Found, missing, body, findType, named, other, head, End, unbound, circle, ends, chain, aliasEnd, isFuncKind, isServKind, rootPasses, asFunc, asService}
-use Rattle.judgement.proofs.Chains.{crosses, outcome, run-end}
-use Rattle.environment.specs.Tables.{Nodes, Binds, nameEnd, EndAt, Chains, AliasEndsAs, endIs}
-use Rattle.environment.proofs.Links.{chain-other, chain-unbound, head-var, head-other}
+use Rattle.judgement.specs.Environment.{findType, other, head, End, unbound, circle, ends, chain, aliasEnd, isFuncKind, isServKind, rootPasses, asFunc, asService}
+use Rattle.environment.specs.Tables.{Nodes, Binds, nameEnd, EndAt, AliasEndsAs, endIs}
+use Rattle.environment.proofs.Links.{chain-other, head-var, head-other}
+use Rattle.environment.proofs.Names.{to-name}
 use Rattle.environment.proofs.EndKinds.{is-other, is-none, is-end}
 
 -- ---- where a chain ends
@@ -29,30 +28,13 @@ module _ (ds : List Definition) where
   unfolding aliasEnd chain
   stays t h = chain-other ds t (length ds) h
 
-  module _ (t : Forest Node) (n : ℕ) (h : head t ≡ named n) where
-    goes-on : (u : Forest Node) → findType ds n ≡ body u → (aliasEnd ds u ≡ circle → ⊥) → aliasEnd ds t ≡ aliasEnd ds u
-    unfolding aliasEnd chain
-    goes-on u f c =
-        elim (outcome ds (length ds) u .either) [
-          | inl r ↦ run-end ds (crosses {u = u} (record { is-name = h; is-type = f }) r)
-          | inr p ↦ absurd (c (p .0))
-        ]
-
-    -- the end of a name's chain is that of its definition, if it has an end
-    by-found : (ns : List ℕ) (e : ℕ) (f : Found) → findType ds n ≡ f → EndAt ns e (nameEnd ds n f) → aliasEnd ds t ≡ nameEnd ds n f
-    unfolding nameEnd aliasEnd chain
-    by-found ns e missing f q = chain-unbound ds t n h (length ds) f
-    by-found ns e (body u) f q = goes-on u f (λ c. subst (EndAt ns e) c q)
-
 -- of a node
 module _ {ns : List ℕ} {names count : ℕ} (x : Nodes ns names count) (ds : List Definition) {n : ℕ} (h : n < count) where
   pub node-ends : (rowAt ns n .kind ≡ 18 → ⊥) → aliasEnd ds (treeAt ns n) ≡ ends (treeAt ns n)
   node-ends k = stays ds (treeAt ns n) (head-other (x .tree n h .whole) (rowAt ns n) refl k)
 
-  pub name-ends : (ends′ : List ℕ) → Chains ns ends′ names ds → rowAt ns n .kind ≡ 18 → aliasEnd ds (treeAt ns n) ≡ nameEnd ds (rowAt ns n .value) (findType ds (rowAt ns n .value))
-  name-ends ends′ c k =
-      let v = rowAt ns n .value in
-      by-found ds (treeAt ns n) v (head-var (x .tree n h .whole) (rowAt ns n) refl k) ns (getD ends′ v 65535) (findType ds v) refl (c v (x .row n h .name k))
+  pub name-ends : rowAt ns n .kind ≡ 18 → aliasEnd ds (treeAt ns n) ≡ nameEnd ds (rowAt ns n .value) (findType ds (rowAt ns n .value))
+  name-ends k = to-name ds (treeAt ns n) (rowAt ns n .value) (head-var (x .tree n h .whole) (rowAt ns n) refl k)
 
 -- ---- the kind at the end
 module _ (test : Kind → Bool) (kind : ℕ) (says : (k v : ℕ) → test (kindOf k v) ≡ eqb k kind) where
@@ -80,7 +62,7 @@ module _ (test : Kind → Bool) (kind : ℕ) (says : (k v : ℕ) → test (kindO
         go (yes k) =
             let v = rowAt ns n .value in
             let c = a .all refl ds b l in
-            by-end k (nameEnd ds v (findType ds v)) (c v (x .row n h .name k)) ∙ ap (rootPasses test) (sym (name-ends x ds h ends′ c k))
+            by-end k (nameEnd ds v (findType ds v)) (c v (x .row n h .name k)) ∙ ap (rootPasses test) (sym (name-ends x ds h k))
         go (no k) =
             sym (is-other kind ns ends′ n (rowAt ns n) refl k)
             ∙ sym (root-kind (x .tree n h .whole))

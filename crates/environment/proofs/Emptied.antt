@@ -1,9 +1,8 @@
 -- The walk of `replace_empty` over stored nodes, with its marks as bytes. Assumes nothing.
---     root-small, root-read, root-inside                                               a name's root
---     visit-none, visit-empty, visit-circle, visit-other, visit-missing, visit-type    the visit of a name, by its mark and its root
---     names-start, names-on, name-found, names-end                                     the next type that is a name
---     FieldsLeft, fields-start, fields-skip, fields-end, fields-stop, fields-on        the type at its root
---     key-missing, key-visited, KeysLeft, keys-start, ..                               all names
+--     root-small, root-read, root-inside                                      a name's root
+--     visit-empty, visit-circle, visit-other, visit-missing, visit-type, ..   the visit of a name, by its mark and its root
+--     Names, names-of                                                         the types by which the type at its root is visited
+--     key-missing, key-answered, key-visited, KeysLeft, keys-start, ..        all names
 use mathlib.Core.Path.{_≡_, refl, sym, ap, ap₂, subst, _∙_}
 use mathlib.Core.Bool.{Bool, true, false, cond, true≢false}
 use mathlib.Core.List.{List, [], _∷_, map}
@@ -14,8 +13,8 @@ use native.Mathlib.Decide.{ℕ-discrete}
 use native.Mathlib.Omega.{arith}
 use borrow.Author.Tests.{ne-eqb}
 use lib.Dec.{eqb}
-use lib.ListN.{length, getD, set, take, drop, replicate, length-replicate, List·getD-map}
-use lib.Seq.{set-set, take-set-lt, getD-take, drop-cons}
+use lib.ListN.{length, getD, set, take, drop, replicate, length-replicate, length-map, List·getD-map}
+use lib.Seq.{set-set, take-set-lt, set-getD, getD-take, drop-cons}
 use Rattle.format.specs.Forest.{Forest, end}
 use Rattle.format.specs.Node.{Kind, PrimT, VarT, OptT, VecT, RecordT, VariantT, FuncT, ServT, ClassT, InitT, Node}
 use Rattle.format.specs.Book.{Definition}
@@ -23,14 +22,14 @@ use Rattle.format.specs.Encode.{Row}
 use Rattle.format.specs.Layout.{rowAt, kinds, kindOf, nodeOf, siblings}
 use Rattle.format.specs.Whole.{Within, Whole, WholeAt, treeAt}
 use Rattle.format.proofs.References.{kind-alone}
-use Rattle.format.proofs.Rows.{opens, kids-whole, node-within, siblings-none, siblings-opens}
+use Rattle.format.proofs.Rows.{kids-whole, node-within}
 use Rattle.format.proofs.Stored.{tree-whole, tree-opens}
-use Rattle.judgement.specs.Environment.{Found, missing, body, findType, isMissing, Head, named, other, headKind, head}
+use Rattle.judgement.specs.Environment.{Found, missing, body, findType, isMissing, headKind, head}
 use Rattle.judgement.specs.Empty.{Mark, unvisited, visiting, answered, Visit, notEmpty, visitField, visitFields, visitType, visitFound, store, visitMarked, isEmpty, keysFrom, visitAll, isEmptyMark, emptyFrom, replaceEmpty}
 use Rattle.environment.specs.Tables.{foundAt, Binds}
 use Rattle.environment.specs.Flags.{noFlags, flagged}
-use Rattle.environment.specs.Emptying.{Environment, markOf, marksOf, Visited, namesFrom, PassedOver, NextName, visitKey, EmptiedAs}
-use Rattle.environment.proofs.Links.{head-var, head-other, found-none, found-some, in-table}
+use Rattle.environment.specs.Emptying.{Environment, markOf, marksOf, Visited, namesFrom, visitKey, isSettled, EmptiedAs}
+use Rattle.environment.proofs.Links.{found-none, found-some, in-table}
 
 -- ---- marks and their bytes
 map-set : {A B : Type 0} (f : A → B) (l : List A) (i : ℕ) (a : A) → map f (set l i a) ≡ set (map f l) i (f a)
@@ -43,7 +42,7 @@ module _ (names n : ℕ) (h : n < names) (bytes : List ℕ) where
   unfolding marksOf markOf
   mark-at = List·getD-map markOf (take names bytes) n 0 ∙ ap markOf (getD-take names bytes n 0 h)
 
-  mark-set : (b : ℕ) → marksOf names (set bytes n b) ≡ set (marksOf names bytes) n (markOf b)
+  pub mark-set : (b : ℕ) → marksOf names (set bytes n b) ≡ set (marksOf names bytes) n (markOf b)
   unfolding marksOf
   mark-set b = ap (map markOf) (take-set-lt names bytes n b h) ∙ map-set markOf (take names bytes) n b
 
@@ -59,6 +58,10 @@ pub mark-not-empty : {e : Bool} → e ≡ false → markOf 3 ≡ answered e
 unfolding markOf
 mark-not-empty n = ap answered (sym n)
 
+-- an array's length inside a struct
+pub plain-length : (l : List ℕ) (n : ℕ) → length (map (λ (v : ℕ). v) l) ≡ n → length l ≡ n
+plain-length l n h = sym (length-map l (λ (v : ℕ). v)) ∙ h
+
 -- ---- a name's root, as the table is read
 module _ {ns roots : List ℕ} {names : ℕ} (x : Environment ns roots names) {n : ℕ} (h : n < names) where
   pub root-small : n < 1024
@@ -71,6 +74,9 @@ module _ {ns roots : List ℕ} {names : ℕ} (x : Environment ns roots names) {n
   root-inside some = subst (λ (r : ℕ). r < x .count) (sym root-read) (x .table .node n (λ e. some (root-read ∙ e)))
 
 -- ---- one visit
+pub one-deep : (names : ℕ) → suc names ≡ 0 → ⊥
+one-deep names e = absurd (omega arith)
+
 deeper : (ds : List Definition) (depth n : ℕ) → (depth ≡ 0 → ⊥) → (marks : List Mark) →
     isEmpty ds depth n marks ≡ visitMarked (isEmpty ds (depth - 1)) n (findType ds n) (getD marks n unvisited) marks
 unfolding isEmpty
@@ -78,10 +84,6 @@ deeper ds zero n h marks = absurd (h refl)
 deeper ds (suc k) n h marks = rw (sub-one (suc k))
 
 module _ (ns roots : List ℕ) (names depth n : ℕ) (bytes : List ℕ) where
-  pub visit-none : depth ≡ 0 → Visited ns roots names (λ ds. isEmpty ds depth n) bytes false bytes
-  unfolding isEmpty
-  visit-none z = record { is = λ ds b. rw z }
-
   module _ (deep : depth ≡ 0 → ⊥) (h : n < names) where
     -- by the name's mark
     by-mark : (m : Mark) → markOf (getD bytes n 0) ≡ m → (ds : List Definition) →
@@ -103,9 +105,23 @@ module _ (ns roots : List ℕ) (names depth n : ℕ) (bytes : List ℕ) where
     unfolding visitMarked
     visit-other i j k = record { is = λ ds b. sym (by-mark (answered false) (mark-other (getD bytes n 0) i j k) ds) }
 
+    -- a name that is empty, or met while it is visited
+    pub visit-known : (getD bytes n 0 ≡ 0 → ⊥) → getD bytes n 0 < 3 → Visited ns roots names (λ ds. isEmpty ds depth n) bytes true (set bytes n 1)
+    visit-known some low = go (ℕ-discrete (getD bytes n 0) 1)
+      where
+        go : Dec (getD bytes n 0 ≡ 1) → Visited ns roots names (λ ds. isEmpty ds depth n) bytes true (set bytes n 1)
+        go (yes e) =
+            let as-it-is : set bytes n 1 ≡ bytes = ap (set bytes n) (sym e) ∙ set-getD bytes n 0 in
+            subst (Visited ns roots names (λ ds. isEmpty ds depth n) bytes true) (sym as-it-is) (visit-empty e)
+        go (no k) = visit-circle (omega arith)
+
+    -- one that is not empty
+    pub visit-dull : 3 ≤ getD bytes n 0 → Visited ns roots names (λ ds. isEmpty ds depth n) bytes false bytes
+    visit-dull high = visit-other (λ e. absurd (omega arith)) (λ e. absurd (omega arith)) (λ e. absurd (omega arith))
+
     module _ (new : getD bytes n 0 ≡ 0) where
       -- a name that is visited, by what the table has for it
-      by-root : (f : Found) → foundAt ns (getD roots n 65535) ≡ f → (ds : List Definition) → Binds ns roots ds →
+      pub by-root : (f : Found) → foundAt ns (getD roots n 65535) ≡ f → (ds : List Definition) → Binds ns roots ds →
           isEmpty ds depth n (marksOf names bytes) ≡ store n (visitFound (isEmpty ds (depth - 1)) f (marksOf names (set bytes n 2)))
       unfolding visitMarked markOf
       by-root f e ds b =
@@ -134,6 +150,11 @@ module _ (ns roots : List ℕ) (names depth n : ℕ) (bytes : List ℕ) where
                 ∙ ap (store n) (v .is ds b)
                 ∙ sym (by-root (body (treeAt ns root)) (ap (foundAt ns) (sym at) ∙ found-some ns root some) ds b);
           }
+
+-- what the types of a name's definition answer is stored with the byte for it
+abbrev pub Answered : (ns roots : List ℕ) (names n : ℕ) (before : List ℕ) (e : Bool) (after : List ℕ) → Type 0
+Answered ns roots names n before e after =
+    (byte : ℕ) → markOf byte ≡ answered e → Visited ns roots names (λ ds. isEmpty ds (suc names) n) before e (set after n byte)
 
 -- ---- the type at a node: of a type that is no record, the head
 abbrev isRecord : Kind → Bool
@@ -181,7 +202,7 @@ module _ (ns : List ℕ) (node : ℕ) (r : Row) (is : r ≡ rowAt ns node) where
   from-itself k = rw (← is, ne-eqb (r .kind) 21 k)
 
 module _ {ns : List ℕ} {node : ℕ} (w : WholeAt ns node) where
-  head-at : head (treeAt ns node) ≡ headKind (nodeOf (rowAt ns node) .kind)
+  pub head-at : head (treeAt ns node) ≡ headKind (nodeOf (rowAt ns node) .kind)
   unfolding head
   head-at = ap head (tree-opens w)
 
@@ -207,12 +228,12 @@ module _ {ns : List ℕ} {node : ℕ} (w : WholeAt ns node) where
       ∙ sym (type-at visit marks)
 
   -- the types from `from` on: they are whole trees, and they are visited as the type is
-  record Names (from : ℕ) : Type 0 where
-    whole : Whole ns from (node + rowAt ns node .size)
-    visited : (visit : ℕ → List Mark → Visit) (marks : List Mark) →
+  pub record Names (from : ℕ) : Type 0 where
+    pub whole : Whole ns from (node + rowAt ns node .size)
+    pub visited : (visit : ℕ → List Mark → Visit) (marks : List Mark) →
         visitFields visit (siblings ns from (node + rowAt ns node .size)) marks ≡ visitFound visit (body (treeAt ns node)) marks
 
-  names-of : Names (namesFrom (rowAt ns node .kind) node)
+  pub names-of : Names (namesFrom (rowAt ns node .kind) node)
   names-of = go (ℕ-discrete (rowAt ns node .kind) 21)
     where
       go : Dec (rowAt ns node .kind ≡ 21) → Names (namesFrom (rowAt ns node .kind) node)
@@ -220,7 +241,7 @@ module _ {ns : List ℕ} {node : ℕ} (w : WholeAt ns node) where
       go (no k) = subst Names (from-itself ns node _ refl k) (record { whole = tree-whole w; visited = itself k })
 
 module _ {ns roots : List ℕ} {names : ℕ} (x : Environment ns roots names) {node : ℕ} (inside : node < x .count) where
-  whole-here : WholeAt ns node
+  pub whole-here : WholeAt ns node
   whole-here = x .nodes .tree node inside .whole
 
   pub type-within : Within ns (node + 1)
@@ -229,138 +250,46 @@ module _ {ns roots : List ℕ} {names : ℕ} (x : Environment ns roots names) {n
   pub type-ends : (r : Row) → r ≡ rowAt ns node → node + r .size ≤ x .count
   type-ends r is = rw is (x .nodes .tree node inside .ends)
 
--- ---- the next type that is a name
-pub names-start : {ns : List ℕ} {from until : ℕ} → Whole ns from until → PassedOver ns from until from
-names-start w = record { later = omega arith; whole = w; same = λ visit marks. refl }
-
-module _ {ns : List ℕ} {from until i : ℕ} (p : PassedOver ns from until i) where
-  pub names-end : until ≤ i → NextName ns from until i
-  names-end h = record { passed = p; named = λ l. absurd (omega arith) }
-
-  module _ (h : i < until) where
-    pub name-within : Within ns (i + 1)
-    name-within = node-within (opens (p .whole) h .here)
-
-    module _ (r : Row) (is : r ≡ rowAt ns i) where
-      pub name-found : r .kind ≡ 18 → NextName ns from until i
-      name-found k = record { passed = p; named = λ l. ap (λ (q : Row). q .kind) (sym is) ∙ k }
-
-      pub name-size : (1 ≤ r .size) × (i + r .size ≤ until)
-      name-size = let o = opens (p .whole) h in rw is (o .here .one, o .rest .ordered)
-
-      pub names-on : (r .kind ≡ 18 → ⊥) → PassedOver ns from until (i + r .size)
-      unfolding visitFields visitField
-      names-on k =
-          let o = opens (p .whole) h in
-          let head : headKind (nodeOf (rowAt ns i) .kind) ≡ other = sym (head-at (o .here)) ∙ head-other (o .here) r is k in
-          record {
-            later = omega (arith, p .later);
-            whole = rw is (o .rest);
-            same = λ visit marks.
-                rw is
-                (sym
-                (ap (λ (f : Forest Node). visitFields visit f marks) (siblings-opens o)
-                ∙ ap (λ (q : Head). visitField visit q (visitFields visit (siblings ns (i + rowAt ns i .size) until)) marks) head)
-                ∙ p .same visit marks);
-          }
-
--- ---- the types by which the type at a node is visited, from node i up to node `until`: what is left of the walk answers as all of it does
-pub record FieldsLeft (ns roots : List ℕ) (names depth node : ℕ) (before : List ℕ) (until i : ℕ) (bytes : List ℕ) : Type 0 where
-  pub env : Environment ns roots names
-  pub inside : until ≤ env .count
-  pub whole : Whole ns i until
-  pub rest : (ds : List Definition) → Binds ns roots ds →
-      visitFields (isEmpty ds depth) (siblings ns i until) (marksOf names bytes) ≡ visitFound (isEmpty ds depth) (body (treeAt ns node)) (marksOf names before)
-
-pub fields-start : {ns roots : List ℕ} {names : ℕ} (x : Environment ns roots names) {node : ℕ} → node < x .count → (r : Row) → r ≡ rowAt ns node →
-    {from : ℕ} → from ≡ namesFrom (rowAt ns node .kind) node → (depth : ℕ) (before : List ℕ) →
-    FieldsLeft ns roots names depth node before (node + r .size) from before
-fields-start {ns} {roots} {names} x {node} inside r is {from} at depth before =
-    let t : Names (whole-here x inside) from = subst (Names (whole-here x inside)) (sym at) (names-of (whole-here x inside)) in
-    record {
-      env = x;
-      inside = type-ends x inside r is;
-      whole = rw is (t .whole);
-      rest = λ ds b. rw is (t .visited (isEmpty ds depth) (marksOf names before));
-    }
-
-module _ {ns roots : List ℕ} {names depth node : ℕ} {before : List ℕ} {until i : ℕ} {bytes : List ℕ} (l : FieldsLeft ns roots names depth node before until i bytes) where
-  pub fields-skip : {j : ℕ} → NextName ns i until j → FieldsLeft ns roots names depth node before until j bytes
-  fields-skip q =
-      record {
-        env = l .env;
-        inside = l .inside;
-        whole = q .passed .whole;
-        rest = λ ds b. q .passed .same (isEmpty ds depth) (marksOf names bytes) ∙ l .rest ds b;
-      }
-
-  pub fields-end : until ≤ i → {e : Bool} → e ≡ false → Visited ns roots names (λ ds. visitFound (isEmpty ds depth) (body (treeAt ns node))) before e bytes
-  unfolding visitFields
-  fields-end h n =
-      record {
-        is = λ ds b.
-            ap (λ (q : Bool). record { empty = q; marks = marksOf names bytes }) n
-            ∙ sym (ap (λ (f : Forest Node). visitFields (isEmpty ds depth) f (marksOf names bytes)) (siblings-none ns i until h))
-            ∙ l .rest ds b;
-      }
-
-  module _ (h : i < until) (r : Row) (is : r ≡ rowAt ns i) (k : rowAt ns i .kind ≡ 18) where
-    here-var : r .kind ≡ 18
-    here-var = ap (λ (q : Row). q .kind) is ∙ k
-
-    pub field-small : r .value < names
-    field-small = rw is (l .env .nodes .row i (omega (arith, l .inside)) .name k)
-
-    module _ {e : Bool} {after : List ℕ} (v : Visited ns roots names (λ ds. isEmpty ds depth (r .value)) bytes e after) where
-      -- the first field, and those after it
-      field-first : (ds : List Definition) → Binds ns roots ds →
-          visitFields (isEmpty ds depth) (siblings ns i until) (marksOf names bytes)
-          ≡ cond e (record { empty = e; marks = marksOf names after }) (visitFields (isEmpty ds depth) (siblings ns (i + rowAt ns i .size) until) (marksOf names after))
-      unfolding visitFields visitField
-      field-first ds b =
-          let o = opens (l .whole) h in
-          let next : List Mark → Visit = visitFields (isEmpty ds depth) (siblings ns (i + rowAt ns i .size) until) in
-          ap (λ (f : Forest Node). visitFields (isEmpty ds depth) f (marksOf names bytes)) (siblings-opens o)
-          ∙ ap (λ (q : Head). visitField (isEmpty ds depth) q next (marksOf names bytes)) (sym (head-at (o .here)) ∙ head-var (o .here) r is here-var)
-          ∙ ap (λ (u : Visit). cond (u .empty) u (next (u .marks))) (sym (v .is ds b))
-
-      pub fields-stop : e ≡ true → Visited ns roots names (λ ds. visitFound (isEmpty ds depth) (body (treeAt ns node))) before e after
-      fields-stop y =
-          record {
-            is = λ ds b.
-                sym
-                (field-first ds b
-                ∙ ap
-                (λ (q : Bool). cond q (record { empty = e; marks = marksOf names after }) (visitFields (isEmpty ds depth) (siblings ns (i + rowAt ns i .size) until) (marksOf names after))) y)
-                ∙ l .rest ds b;
-          }
-
-      pub fields-on : e ≡ false → FieldsLeft ns roots names depth node before until (i + r .size) after
-      fields-on n =
-          record {
-            env = l .env;
-            inside = l .inside;
-            whole = rw is (opens (l .whole) h .rest);
-            rest = λ ds b.
-                rw is
-                (sym
-                (field-first ds b
-                ∙ ap
-                (λ (q : Bool). cond q (record { empty = e; marks = marksOf names after }) (visitFields (isEmpty ds depth) (siblings ns (i + rowAt ns i .size) until) (marksOf names after))) n)
-                ∙ l .rest ds b);
-          }
-
 -- ---- all names
 module _ (ns roots : List ℕ) (names n : ℕ) (before : List ℕ) (ds : List Definition) (b : Binds ns roots ds) where
   pub key-missing : getD roots n 65535 ≡ 65535 → marksOf names before ≡ visitKey (isEmpty ds (suc names)) n (findType ds n) (marksOf names before)
   unfolding visitKey isMissing
   key-missing e = rw (b n ∙ found-none ns (getD roots n 65535) e)
 
-  pub key-visited : (getD roots n 65535 ≡ 65535 → ⊥) → (depth : ℕ) → depth ≡ suc names → {e : Bool} {after : List ℕ} → Visited ns roots names (λ ds′. isEmpty ds′ depth n) before e after →
+  pub key-visited : (getD roots n 65535 ≡ 65535 → ⊥) → {e : Bool} {after : List ℕ} → Visited ns roots names (λ ds′. isEmpty ds′ (suc names) n) before e after →
       marksOf names after ≡ visitKey (isEmpty ds (suc names)) n (findType ds n) (marksOf names before)
   unfolding visitKey isMissing
-  key-visited some depth d v =
-      rw (b n ∙ found-some ns (getD roots n 65535) some) (ap (λ (u : Visit). u .marks) (v .is ds b) ∙ ap (λ (k : ℕ). isEmpty ds k n (marksOf names before) .marks) d)
+  key-visited some v = rw (b n ∙ found-some ns (getD roots n 65535) some) (ap (λ (u : Visit). u .marks) (v .is ds b))
+
+  -- a name whose answer is known
+  key-answered : n < names → (e : Bool) → markOf (getD before n 0) ≡ answered e →
+      marksOf names before ≡ visitKey (isEmpty ds (suc names)) n (findType ds n) (marksOf names before)
+  unfolding visitKey isEmpty visitMarked
+  key-answered h e is =
+      rw (mark-at names n h before, is) (same (isMissing (findType ds n)))
+    where
+      same : (m : Bool) → marksOf names before ≡ cond m (marksOf names before) (marksOf names before)
+      same true = refl
+      same false = refl
+
+-- a name that is passed over, and one that is not
+module _ {ns roots : List ℕ} {names : ℕ} (x : Environment ns roots names) {n : ℕ} (h : n < names) (bytes : List ℕ) where
+  pub key-settled : isSettled roots bytes n ≡ true → (ds : List Definition) → Binds ns roots ds →
+      marksOf names bytes ≡ visitKey (isEmpty ds (suc names)) n (findType ds n) (marksOf names bytes)
+  unfolding isSettled markOf
+  key-settled s ds b = go (ℕ-discrete (getD roots n 0) 65535) (ℕ-discrete (getD bytes n 0) 1) (ℕ-discrete (getD bytes n 0) 3)
+    where
+      go : Dec (getD roots n 0 ≡ 65535) → Dec (getD bytes n 0 ≡ 1) → Dec (getD bytes n 0 ≡ 3) →
+          marksOf names bytes ≡ visitKey (isEmpty ds (suc names)) n (findType ds n) (marksOf names bytes)
+      go (yes e) q r = key-missing ns roots names n bytes ds b (sym (root-read x h) ∙ e)
+      go (no p) (yes e) r = key-answered ns roots names n bytes ds b h true (ap markOf e)
+      go (no p) (no q) (yes e) = key-answered ns roots names n bytes ds b h false (ap markOf e)
+      go (no p) (no q) (no r) =
+          absurd (true≢false (sym s ∙ rw (ne-eqb (getD roots n 0) 65535 p, ne-eqb (getD bytes n 0) 1 q, ne-eqb (getD bytes n 0) 3 r)))
+
+  pub key-open : isSettled roots bytes n ≡ false → getD roots n 65535 ≡ 65535 → ⊥
+  unfolding isSettled
+  key-open s e = true≢false (sym (rw (root-read x h, e)) ∙ s)
 
 keys-cons : (visit : ℕ → List Mark → Visit) (ds : List Definition) (n names : ℕ) (marks : List Mark) → n < names →
     visitAll visit (keysFrom ds n (names - n)) marks ≡ visitAll visit (keysFrom ds (n + 1) (names - (n + 1))) (visitKey visit n (findType ds n) marks)

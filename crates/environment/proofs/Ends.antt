@@ -1,42 +1,25 @@
--- The loop that makes the table of alias ends. Assumes nothing.
+-- The loops that make the table of alias ends. Assumes nothing.
 use mathlib.Core.Path.{_≡_, refl, sym, ap, subst, _∙_}
-use mathlib.Core.Bool.{Bool, true, false, cond, not, true≢false, false≢true}
-use mathlib.Core.List.{List, [], _∷_}
-use Prim.Native.Nat.{ℕ, zero, suc, _+_, _-_, _≤_, _<_}
+use mathlib.Core.Bool.{false, not}
+use mathlib.Core.List.{List}
+use Prim.Native.Nat.{ℕ, suc, _+_, _-_, _≤_, _<_}
 use native.Mathlib.Nat.{sub-zero}
 use native.Mathlib.Numerals.{add-one}
-use native.Mathlib.Decide.{ℕ-discrete}
+use native.Mathlib.Decide.{ℕ-discrete, decLt}
 use native.Mathlib.Omega.{arith}
 use borrow.Author.Tests.{eq-eqb, ne-eqb}
-use lib.Dec.{eqb}
 use lib.ListN.{length, getD, set, length-set}
 use lib.Seq.{getD-set-same, getD-set-other}
-use Rattle.format.specs.Forest.{Forest}
 use Rattle.format.specs.Book.{Definition}
-use Rattle.format.specs.Whole.{treeAt}
 use Rattle.book.specs.declared.refusal.Refusal as refusal
 use Rattle.book.specs.declared.refusal.Verdict.{Verdict}
-use Rattle.book.specs.declared.refusal.Verdict.the-variants.{Passed, Refused}
 use Rattle.book.specs.Refusal.{andThen, unless}
-use Rattle.judgement.specs.Environment.{Found, missing, body, findType, End, unbound, circle, ends, chain, chainFrom, aliasEnd}
+use Rattle.judgement.specs.Environment.{Found, missing, body, findType, End, unbound, circle, ends}
 use Rattle.judgement.specs.Check.{eachName, isCircle, circleVerdict}
-use Rattle.environment.specs.declared.Alias.{Alias}
-use Rattle.environment.specs.declared.Alias.the-variants.{Unbound, Circle, Ends}
-use Rattle.environment.specs.Tables.{blankTable, Nodes, Roots, foundAt, Binds, asEnd, InRange, nameEnd, NameEndAs, aliasCircles, aliasNode, EndNodes, EndAt, AliasEndsAs}
-use Rattle.environment.proofs.Links.{found-none, found-some}
+use Rattle.environment.specs.Tables.{blankTable, Binds, nameEnd, EndAt, EndKnown, FollowedAs, Unfinished, endBefore, Unbegun, NotedAs, AliasEndsAs, endsIf}
+use Rattle.environment.proofs.Links.{getD-within}
+use Rattle.environment.proofs.Names.{none-known}
 use Rattle.environment.proofs.Defines.{blank-length, blank-at}
-
--- ---- the end of a name's chain
-pub name-unbound : (ns roots : List ℕ) (count definitions n : ℕ) → getD roots n 65535 ≡ 65535 → NameEndAs ns roots count definitions n (Unbound n)
-unfolding asEnd nameEnd
-name-unbound ns roots count definitions n e =
-    record { within = tt; is = λ ds b l. rw (b n ∙ found-none ns (getD roots n 65535) e) }
-
-pub name-bound : (ns roots : List ℕ) (count definitions n : ℕ) (a : Alias) → (getD roots n 65535 ≡ 65535 → ⊥) → InRange count a →
-    ((ds : List Definition) → Binds ns roots ds → asEnd ns a ≡ chainFrom definitions ds (treeAt ns (getD roots n 65535)) .last) → NameEndAs ns roots count definitions n a
-unfolding nameEnd aliasEnd chain
-name-bound ns roots count definitions n a h r f =
-    record { within = r; is = λ ds b l. f ds b ∙ rw (b n ∙ found-some ns (getD roots n 65535) h, ← l) }
 
 -- ---- the verdict on a name, by the end of its chain
 by-end : (ds : List Definition) (n : ℕ) (f : Found) → circleVerdict ds n f ≡ unless (not (isCircle (nameEnd ds n f))) (refusal.Refusal.Circle n)
@@ -44,32 +27,70 @@ unfolding circleVerdict nameEnd isCircle
 by-end ds n missing = refl
 by-end ds n (body t) = refl
 
-circles-as : (ns : List ℕ) (a : Alias) → isCircle (asEnd ns a) ≡ aliasCircles a
-unfolding isCircle asEnd
-circles-as ns (Unbound n) = refl
-circles-as ns Circle = refl
-circles-as ns (Ends n) = refl
-
-module _ {ns roots : List ℕ} {count definitions n : ℕ} {a : Alias} (x : NameEndAs ns roots count definitions n a) (ds : List Definition) (b : Binds ns roots ds) (l : length ds ≡ definitions) where
-  verdict-as : circleVerdict ds n (findType ds n) ≡ unless (not (aliasCircles a)) (refusal.Refusal.Circle n)
-  verdict-as = by-end ds n (findType ds n) ∙ ap (λ (e : End). unless (not (isCircle e)) (refusal.Refusal.Circle n)) (sym (x .is ds b l)) ∙ ap (λ (c : Bool). unless (not c) (refusal.Refusal.Circle n)) (circles-as ns a)
-
--- what the table gets for an end that is no circle
-end-node : (ns : List ℕ) (count : ℕ) (a : Alias) → count ≤ 4096 → InRange count a → aliasCircles a ≡ false → EndAt ns (aliasNode a) (asEnd ns a)
-unfolding asEnd
-end-node ns count (Unbound n) h r c = refl
-end-node ns count Circle h r c = absurd (true≢false c)
-end-node ns count (Ends n) h r c = (λ e. let f : ⊥ = omega arith in f, refl)
-
-node-small : (count : ℕ) (a : Alias) → InRange count a → (aliasNode a ≡ 65535 → ⊥) → aliasNode a < count
-node-small count (Unbound n) r h = absurd (h refl)
-node-small count Circle r h = absurd (h refl)
-node-small count (Ends n) r h = r
+-- a chain whose end the table has ends
+ended-passes : (ns : List ℕ) (e : ℕ) (x : End) → EndAt ns e x → isCircle x ≡ false
+unfolding isCircle
+ended-passes ns e (unbound n) q = refl
+ended-passes ns e circle q = absurd q
+ended-passes ns e (ends t) q = refl
 
 -- what is said of the names from n on: of n, and of those after it
 pub each-cons : (f : ℕ → Verdict) (n names : ℕ) → n < names → eachName f n (names - n) ≡ andThen (f n) (eachName f (n + 1) (names - (n + 1)))
 unfolding eachName
 each-cons f n names h = let z : names - n ≡ suc (names - (n + 1)) = omega arith in rw (z, add-one n)
+
+-- ---- the table before any chain is followed
+pub begun-none : (root : ℕ) → root ≡ 65535 → 65535 ≡ endBefore root
+unfolding endBefore
+begun-none root e = rw e
+
+pub begun-open : (root : ℕ) → (root ≡ 65535 → ⊥) → 65534 ≡ endBefore root
+unfolding endBefore
+begun-open root h = rw (ne-eqb root 65535 h)
+
+pub record Begun (roots : List ℕ) (names : ℕ) (ends′ : List ℕ) (n : ℕ) : Type 0 where
+  pub passed : n ≤ names
+  pub table : Unbegun roots n ends′
+
+pub begun-start : (roots : List ℕ) (names : ℕ) (ends′ : List ℕ) → ends′ ≡ blankTable → Begun roots names ends′ 0
+begun-start roots names ends′ e =
+    record {
+      passed = omega arith;
+      table =
+          record { long = ap length e ∙ blank-length; before = λ m h. absurd (omega arith); beyond = λ m h. ap (λ (l : List ℕ). getD l m 65535) e ∙ blank-at m };
+    }
+
+module _ {roots : List ℕ} {names : ℕ} (long : length roots ≡ 1024) (few : names ≤ 1024) {ends′ : List ℕ} {n : ℕ} (s : Begun roots names ends′ n) where
+  pub begun-end : names ≤ n → Unbegun roots names ends′
+  begun-end h = let e : n ≡ names = omega (arith, s .passed) in subst (λ (m : ℕ). Unbegun roots m ends′) e (s .table)
+
+  pub begun-on : n < names → (e : ℕ) → e ≡ endBefore (getD roots n 0) → Begun roots names (set ends′ n e) (n + 1)
+  begun-on h e i =
+      record {
+        passed = omega arith;
+        table =
+            record {
+              long = simp length-set (s .table .long);
+              before = λ m j. before′ m j (ℕ-discrete m n);
+              beyond = λ m j. getD-set-other ends′ n m e 65535 (λ z. let f : ⊥ = omega arith in f) ∙ s .table .beyond m (omega arith);
+            };
+      }
+    where
+      here : getD (set ends′ n e) n 65535 ≡ endBefore (getD roots n 65535)
+      here = getD-set-same ends′ n e 65535 (omega (arith, s .table .long)) ∙ i ∙ ap endBefore (getD-within roots n 0 65535 (omega arith))
+
+      before′ : (m : ℕ) → m < n + 1 → Dec (m ≡ n) → getD (set ends′ n e) m 65535 ≡ endBefore (getD roots m 65535)
+      before′ m j (yes z) = rw z here
+      before′ m j (no z) = getD-set-other ends′ n m e 65535 z ∙ s .table .before m (omega arith)
+
+-- ---- the table that is made
+pub ends-none : (circle′ : ℕ) (ends′ : List ℕ) → (circle′ ≡ 65535 → ⊥) → endsIf circle′ ends′ ≡ blankTable
+unfolding endsIf
+ends-none circle′ ends′ h = rw (ne-eqb circle′ 65535 h) refl
+
+pub ends-some : (circle′ : ℕ) (ends′ : List ℕ) → circle′ ≡ 65535 → endsIf circle′ ends′ ≡ ends′
+unfolding endsIf
+ends-some circle′ ends′ h = rw (eq-eqb circle′ 65535 h) refl
 
 -- ---- the loop
 abbrev verdicts : List Definition → ℕ → Verdict
@@ -77,63 +98,70 @@ verdicts ds n = circleVerdict ds n (findType ds n)
 
 pub record EndsLeft (ns roots : List ℕ) (names count definitions : ℕ) (ends′ : List ℕ) (n : ℕ) : Type 0 where
   pub passed : n ≤ names
-  pub nodes : EndNodes ends′ count
+  pub table : Unfinished ns roots names count ends′
   pub rest : (ds : List Definition) → Binds ns roots ds → length ds ≡ definitions →
       eachName (λ m. circleVerdict ds m (findType ds m)) n (names - n) ≡ eachName (λ m. circleVerdict ds m (findType ds m)) 0 names
-  pub done : (ds : List Definition) → Binds ns roots ds → length ds ≡ definitions → (m : ℕ) → m < n → EndAt ns (getD ends′ m 65535) (nameEnd ds m (findType ds m))
+  pub done : (m : ℕ) → m < n → getD ends′ m 65535 ≡ 65534 → ⊥
 
-pub ends-start : (ns roots : List ℕ) (names count definitions : ℕ) → EndsLeft ns roots names count definitions blankTable 0
-ends-start ns roots names count definitions =
+pub ends-start : (ns roots : List ℕ) (names count definitions : ℕ) (ends′ : List ℕ) → Unbegun roots names ends′ → EndsLeft ns roots names count definitions ends′ 0
+ends-start ns roots names count definitions ends′ u =
     record {
       passed = omega arith;
-      nodes = record { long = blank-length; node = λ n h. absurd (h (blank-at n)) };
+      table =
+          record {
+            long = u .long;
+            bound = λ n h q e. let z : _≡_ {A = ℕ} 65535 65534 = begun-none (getD roots n 65535) e ∙ sym (u .before n h) ∙ q in omega arith;
+            known = λ n h q. known′ n h q (ℕ-discrete (getD roots n 65535) 65535);
+            beyond = u .beyond;
+          };
       rest = λ ds b l. rw (sub-zero names);
-      done = λ ds b l m h. absurd (omega arith);
+      done = λ m h. absurd (omega arith);
     }
+  where
+    known′ : (n : ℕ) → n < names → (getD ends′ n 65535 ≡ 65534 → ⊥) → Dec (getD roots n 65535 ≡ 65535) → EndKnown ns roots count n (getD ends′ n 65535)
+    known′ n h q (yes e) = subst (EndKnown ns roots count n) (begun-none (getD roots n 65535) e ∙ sym (u .before n h)) (none-known e)
+    known′ n h q (no e) = absurd (q (u .before n h ∙ sym (begun-open (getD roots n 65535) e)))
 
-module _ {ns roots : List ℕ} {names count definitions : ℕ} (few : count ≤ 4096) (few′ : names ≤ 1024) {ends′ : List ℕ} {n : ℕ} (s : EndsLeft ns roots names count definitions ends′ n) where
-  pub ends-end : names ≤ n → AliasEndsAs ns roots names count definitions ends′ 65535
+module _ {ns roots : List ℕ} {names count definitions : ℕ} (few : names ≤ 1024) {ends′ : List ℕ} {n : ℕ} (s : EndsLeft ns roots names count definitions ends′ n) where
+  ends-now : names ≤ n → AliasEndsAs ns roots names count definitions ends′ 65535
   unfolding eachName
-  ends-end h =
+  ends-now h =
       let z : names - n ≡ 0 = omega arith in
       record {
-        nodes = s .nodes;
+        nodes = record { long = s .table .long; node = λ m q. node′ m q (decLt m names) };
         lowest = λ ds b l. sym (s .rest ds b l) ∙ rw z;
-        all = λ e ds b l m i. s .done ds b l m (omega arith);
+        all = λ e ds b l m i. s .table .known m i (s .done m (omega arith)) .is ds b;
       }
+    where
+      node′ : (m : ℕ) → (getD ends′ m 65535 ≡ 65535 → ⊥) → Dec (m < names) → getD ends′ m 65535 < count
+      node′ m q (yes i) = s .table .known m i (s .done m (omega arith)) .node q
+      node′ m q (no i) = absurd (q (s .table .beyond m (omega arith)))
 
-  module _ (h : n < names) (a : Alias) (x : NameEndAs ns roots count definitions n a) where
-    pub ends-circle : aliasCircles a ≡ true → AliasEndsAs ns roots names count definitions ends′ n
+  pub ends-end : names ≤ n → AliasEndsAs ns roots names count definitions (endsIf 65535 ends′) 65535
+  ends-end h = rw (ends-some 65535 ends′ refl) (ends-now h)
+
+  module _ (h : n < names) (e : ℕ) (x : FollowedAs ns roots count definitions n e) where
+    pub ends-circle : e ≡ 65534 → AliasEndsAs ns roots names count definitions (endsIf n ends′) n
+    unfolding isCircle
     ends-circle c =
         let never : n ≡ 65535 → ⊥ = λ e. let f : ⊥ = omega arith in f in
         record {
-          nodes = s .nodes;
-          lowest = λ ds b l. sym (s .rest ds b l) ∙ each-cons (verdicts ds) n names h ∙ rw (verdict-as x ds b l, c, ne-eqb n 65535 never);
+          nodes = rw (ends-none n ends′ never) (record { long = blank-length; node = λ m q. absurd (q (blank-at m)) });
+          lowest = λ ds b l. sym (s .rest ds b l) ∙ each-cons (verdicts ds) n names h ∙ rw (by-end ds n (findType ds n), x .never c ds b l, ne-eqb n 65535 never);
           all = λ e. absurd (never e);
         }
 
-    pub ends-on : aliasCircles a ≡ false → EndsLeft ns roots names count definitions (set ends′ n (aliasNode a)) (n + 1)
-    ends-on c =
+    pub ends-on : (e ≡ 65534 → ⊥) → (after : List ℕ) → NotedAs ns roots names count n ends′ after → EndsLeft ns roots names count definitions after (n + 1)
+    ends-on c after w =
         record {
           passed = omega arith;
-          nodes = record { long = simp length-set (s .nodes .long); node = λ m q. node′ m q (ℕ-discrete m n) };
-          rest = λ ds b l. sym (each-cons (verdicts ds) n names h ∙ rw (verdict-as x ds b l, c)) ∙ s .rest ds b l;
-          done = λ ds b l m i. done′ ds b l m i (ℕ-discrete m n);
+          table = w .table;
+          rest = λ ds b l.
+              sym (each-cons (verdicts ds) n names h ∙ rw (by-end ds n (findType ds n), ended-passes ns e (nameEnd ds n (findType ds n)) (x .known c .is ds b)))
+              ∙ s .rest ds b l;
+          done = λ m i. done′ m i (ℕ-discrete m n);
         }
       where
-        here : getD (set ends′ n (aliasNode a)) n 65535 ≡ aliasNode a
-        here = getD-set-same ends′ n (aliasNode a) 65535 (omega (arith, s .nodes .long))
-
-        node′ : (m : ℕ) → (getD (set ends′ n (aliasNode a)) m 65535 ≡ 65535 → ⊥) → Dec (m ≡ n) → getD (set ends′ n (aliasNode a)) m 65535 < count
-        node′ m q (yes e) = rw (e, here) (node-small count a (x .within) (λ z. q (rw (e, here) z)))
-        node′ m q (no e) = rw (getD-set-other ends′ n m (aliasNode a) 65535 e) (s .nodes .node m (λ z. q (getD-set-other ends′ n m (aliasNode a) 65535 e ∙ z)))
-
-        done′ : (ds : List Definition) → Binds ns roots ds → length ds ≡ definitions → (m : ℕ) → m < n + 1 → Dec (m ≡ n) → EndAt ns (getD (set ends′ n (aliasNode a)) m 65535) (nameEnd ds m (findType ds m))
-        done′ ds b l m i (yes e) = rw (e, here) (subst (EndAt ns (aliasNode a)) (x .is ds b l) (end-node ns count a few (x .within) c))
-        done′ ds b l m i (no e) = rw (getD-set-other ends′ n m (aliasNode a) 65535 e) (s .done ds b l m (omega arith))
-
--- a node of a book is below 4,096
-pub in-small : (count : ℕ) (a : Alias) → count ≤ 4096 → InRange count a → InRange 4096 a
-in-small count (Unbound n) h r = tt
-in-small count Circle h r = tt
-in-small count (Ends n) h r = omega arith
+        done′ : (m : ℕ) → m < n + 1 → Dec (m ≡ n) → getD after m 65535 ≡ 65534 → ⊥
+        done′ m i (yes z) q = w .known (ap (λ (a : ℕ). getD after a 65535) (sym z) ∙ q)
+        done′ m i (no z) q = let o = s .done m (omega arith) in o (sym (w .kept m o) ∙ q)

@@ -1,5 +1,6 @@
 -- Laws that the proofs of the functions cite.
 pub mod Links
+pub mod Names
 pub mod Defines
 pub mod Ends
 pub mod EndKinds
@@ -9,3 +10,4 @@ pub mod Hashes
 pub mod Same
 pub mod Merges
 pub mod Emptied
+pub mod EmptyFields

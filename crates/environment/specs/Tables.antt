@@ -86,20 +86,6 @@ unfoldable pub nameEnd : List Definition → ℕ → Found → End
 nameEnd ds n missing = unbound n
 nameEnd ds n (body t) = aliasEnd ds t
 
-pub record NameEndAs (ns roots : List ℕ) (count definitions n : ℕ) (a : Alias) : Type 0 where
-  pub within : InRange count a
-  pub is : (ds : List Definition) → Binds ns roots ds → length ds ≡ definitions → asEnd ns a ≡ nameEnd ds n (findType ds n)
-
-abbrev pub aliasCircles : Alias → Bool
-aliasCircles (Unbound n) = false
-aliasCircles Circle = true
-aliasCircles (Ends n) = false
-
-abbrev pub aliasNode : Alias → ℕ
-aliasNode (Unbound n) = 65535
-aliasNode Circle = 65535
-aliasNode (Ends n) = n
-
 -- A table of nodes by name, 65,535 for none.
 abbrev pub EndNodes : List ℕ → ℕ → Type 0
 EndNodes ends′ count = Roots ends′ count
@@ -114,12 +100,49 @@ EndAt ns e (ends t) = (e ≡ 65535 → ⊥) × (t ≡ treeAt ns e)
 abbrev pub Chains : List ℕ → List ℕ → ℕ → List Definition → Type 0
 Chains ns ends′ names ds = (n : ℕ) → n < names → EndAt ns (getD ends′ n 65535) (nameEnd ds n (findType ds n))
 
+-- What a table of alias ends has for a name whose chain ends.
+pub record EndKnown (ns roots : List ℕ) (count n e : ℕ) : Type 0 where
+  pub node : (e ≡ 65535 → ⊥) → e < count
+  pub is : (ds : List Definition) → Binds ns roots ds → EndAt ns e (nameEnd ds n (findType ds n))
+
+-- The end of a name's chain; 65,534 if it never ends.
+pub record FollowedAs (ns roots : List ℕ) (count definitions n e : ℕ) : Type 0 where
+  pub never : e ≡ 65534 → (ds : List Definition) → Binds ns roots ds → length ds ≡ definitions → nameEnd ds n (findType ds n) ≡ circle
+  pub known : (e ≡ 65534 → ⊥) → EndKnown ns roots count n e
+
+-- A table of alias ends that is being made: 65,534 for a name with a definition whose end is not known yet.
+pub record Unfinished (ns roots : List ℕ) (names count : ℕ) (ends′ : List ℕ) : Type 0 where
+  pub long : length ends′ ≡ 1024
+  pub bound : (n : ℕ) → n < names → getD ends′ n 65535 ≡ 65534 → getD roots n 65535 ≡ 65535 → ⊥
+  pub known : (n : ℕ) → n < names → (getD ends′ n 65535 ≡ 65534 → ⊥) → EndKnown ns roots count n (getD ends′ n 65535)
+  pub beyond : (n : ℕ) → names ≤ n → getD ends′ n 65535 ≡ 65535
+
+-- What the table has for a name of this root before any chain is followed: a name without definition is unbound.
+unfoldable pub endBefore : ℕ → ℕ
+endBefore root = cond (eqb root 65535) 65535 65534
+
+-- The table before any chain is followed.
+pub record Unbegun (roots : List ℕ) (names : ℕ) (ends′ : List ℕ) : Type 0 where
+  pub long : length ends′ ≡ 1024
+  pub before : (n : ℕ) → n < names → getD ends′ n 65535 ≡ endBefore (getD roots n 65535)
+  pub beyond : (n : ℕ) → names ≤ n → getD ends′ n 65535 ≡ 65535
+
+-- The end of name n is known, and what was known is as it was.
+pub record NotedAs (ns roots : List ℕ) (names count n : ℕ) (before after : List ℕ) : Type 0 where
+  pub table : Unfinished ns roots names count after
+  pub kept : (m : ℕ) → (getD before m 65535 ≡ 65534 → ⊥) → getD after m 65535 ≡ getD before m 65535
+  pub known : getD after n 65535 ≡ 65534 → ⊥
+
 -- The lowest name whose chain never ends, as the check refuses it; and, where there is none, all ends.
 pub record AliasEndsAs (ns roots : List ℕ) (names count definitions : ℕ) (ends′ : List ℕ) (circle′ : ℕ) : Type 0 where
   pub nodes : EndNodes ends′ count
   pub lowest : (ds : List Definition) → Binds ns roots ds → length ds ≡ definitions →
       eachName (λ n. circleVerdict ds n (findType ds n)) 0 names ≡ cond (eqb circle′ 65535) Passed (Refused (refusal.Refusal.Circle circle′))
   pub all : circle′ ≡ 65535 → (ds : List Definition) → Binds ns roots ds → length ds ≡ definitions → Chains ns ends′ names ds
+
+-- The table that is made of them, which has nothing to say where a chain never ends.
+unfoldable pub endsIf : ℕ → List ℕ → List ℕ
+endsIf circle′ ends′ = cond (eqb circle′ 65535) ends′ blankTable
 
 -- A node of a book, with a table of alias ends.
 pub record Ended (ns ends′ : List ℕ) (node : ℕ) : Type 0 where

@@ -3,10 +3,11 @@
 ghost use mathlib.Core.Path.{_≡_};
 ghost use mathlib.Core.List.{List};
 ghost use Prim.Native.Nat.{_≤_, _<_};
+ghost use lib.ListN.{length};
 ghost use Rattle.format.specs.Book.{Definition};
 ghost use Rattle.format.specs.Whole.{treeAt};
 ghost use Rattle.judgement.specs.Environment.{chainFrom};
-ghost use Rattle.environment.specs.Tables.{blankTable, Nodes, Entries, Roots, Binds, asEnd, InRange, DefinesAs, NameEndAs, aliasCircles, aliasNode, Ended, AliasEndsAs, endIs};
+ghost use Rattle.environment.specs.Tables.{blankTable, Nodes, Entries, Roots, Binds, asEnd, InRange, DefinesAs, Ended, EndKnown, FollowedAs, Unfinished, endBefore, Unbegun, NotedAs, AliasEndsAs, endsIf, endIs};
 
 pub mod empty;
 pub mod merge;
@@ -36,29 +37,39 @@ pub fn blank() -> ByName
     [65535u16; 1024]
 }
 
+// Enters the definitions of entries `from` up to `to` in a table that has nothing: the first name defined twice, or NONE.
+pub fn enter(
+    entries: &[u8],
+    names: usize,
+    nodes: usize,
+    from: usize,
+    to: usize,
+    roots: &mut [u16],
+) -> u16
+    requires { ⌜ Entries (now entries) names nodes from to × (names ≤ 1024) × (nodes ≤ 4096) × (now roots ≡ blankTable) ⌝ }
+    ensures { λ r. ⌜ DefinesAs (now (entries .entry)) nodes from to (now (roots .exit)) r ⌝ }
+{
+    let mut d = from;
+    while d < to {
+        let e = Entry::at(entries, d);
+        let n = e.name as usize;
+        if roots[n] != Table::NONE {
+            return e.name;
+        }
+        roots[n] = e.root;
+        d += 1;
+    }
+    Table::NONE
+}
+
 // The table of the definitions of entries `from` up to `to`.
 pub fn define(entries: &[u8], names: usize, nodes: usize, from: usize, to: usize) -> Table
     requires { ⌜ Entries (now entries) names nodes from to × (names ≤ 1024) × (nodes ≤ 4096) ⌝ }
     ensures { λ r. ⌜ DefinesAs (now (entries .entry)) nodes from to (r .roots) (r .twice) ⌝ }
 {
     let mut roots = blank();
-    let mut d = from;
-    while d < to {
-        let e = Entry::at(entries, d);
-        let n = e.name as usize;
-        if roots[n] != Table::NONE {
-            return Table {
-                roots,
-                twice: e.name,
-            };
-        }
-        roots[n] = e.root;
-        d += 1;
-    }
-    Table {
-        roots,
-        twice: Table::NONE,
-    }
+    let twice = enter(entries, names, nodes, from, to, &mut roots);
+    Table { roots, twice }
 }
 
 // Where an alias chain ends: at a name without definition, never, or at a node that is no name.
@@ -102,57 +113,125 @@ pub fn alias_end(
     }
 }
 
-// The end of the chain from a name's definition.
-pub fn name_end(
-    rows: &[u8],
-    roots: &[u16],
-    names: usize,
-    nodes: usize,
-    definitions: usize,
-    n: usize,
-) -> Alias
-    requires { ⌜ Nodes (now rows) names nodes × Roots (now roots) nodes × (n < names) ⌝ }
-    ensures { λ r. ⌜ NameEndAs (now (rows .entry)) (now (roots .entry)) nodes definitions n r ⌝ }
-{
-    let root = roots[n];
-    if root == Table::NONE {
-        return Alias::Unbound(n as u16);
-    }
-    alias_end(rows, roots, names, nodes, definitions, root as usize)
-}
-
-impl Alias {
-    // Whether the chain never ends.
-    pub fn circles(self) -> bool
-        ensures { λ r. ⌜ r ≡ aliasCircles self ⌝ }
-    {
-        match self {
-            Alias::Unbound(_) => false,
-            Alias::Circle => true,
-            Alias::Ends(_) => false,
-        }
-    }
-
-    // The node at which the chain ends, or NONE.
-    pub fn node(self) -> u16
-        requires { ⌜ InRange 4096 self ⌝ }
-        ensures { λ r. ⌜ r ≡ aliasNode self ⌝ }
-    {
-        match self {
-            Alias::Unbound(_) => Table::NONE,
-            Alias::Circle => Table::NONE,
-            Alias::Ends(e) => e as u16,
-        }
-    }
-}
-
 // A node for each name: where the chain of its definition ends. `circle` is the lowest name whose chain never ends, or NONE.
 pub struct AliasEnds {
     pub ends: [u16; 1024],
     pub circle: u16,
 }
 
-// The alias ends of all names, found once.
+impl AliasEnds {
+    // An end that is not known yet, in a table that is being made; and that of a chain that never ends.
+    const OPEN: u16 = 65534;
+}
+
+// What the table has for a name of this root before any chain is followed.
+fn end_before(root: u16) -> u16
+    ensures { λ r. ⌜ r ≡ endBefore root ⌝ }
+{
+    if root == Table::NONE {
+        return Table::NONE;
+    }
+    AliasEnds::OPEN
+}
+
+// Opens the ends of all names that have a definition, in a table that has nothing.
+fn open_ends(roots: &[u16], names: usize, ends: &mut [u16])
+    requires { ⌜ (length (now roots) ≡ 1024) × (names ≤ 1024) × (now ends ≡ blankTable) ⌝ }
+    ensures { λ r. ⌜ Unbegun (now (roots .entry)) names (now (ends .exit)) ⌝ }
+{
+    let mut n = 0;
+    while n < names {
+        ends[n] = end_before(roots[n]);
+        n += 1;
+    }
+}
+
+// Follows the chain of a name as far as the first name on it whose end is known; `OPEN` if it never ends.
+fn follow(
+    rows: &[u8],
+    roots: &[u16],
+    ends: &[u16],
+    names: usize,
+    nodes: usize,
+    definitions: usize,
+    n: usize,
+) -> u16
+    requires { ⌜ Nodes (now rows) names nodes × Roots (now roots) nodes ×
+        Unfinished (now rows) (now roots) names nodes (now ends) × (n < names) ⌝ }
+    ensures { λ r. ⌜ FollowedAs (now (rows .entry)) (now (roots .entry)) nodes definitions n r ⌝ }
+{
+    let mut m = n;
+    let mut k = definitions;
+    loop {
+        let known = ends[m];
+        if known != AliasEnds::OPEN {
+            return known;
+        }
+        if k == 0 {
+            return AliasEnds::OPEN;
+        }
+        k -= 1;
+        let root = roots[m];
+        let t = Node::at(rows, root as usize);
+        if t.kind != Kind::VAR {
+            return root;
+        }
+        m = t.value as usize;
+    }
+}
+
+// Writes the end of a name's chain down for each name on it, as far as the first whose end is known.
+fn note(
+    rows: &[u8],
+    roots: &[u16],
+    names: usize,
+    nodes: usize,
+    n: usize,
+    end: u16,
+    ends: &mut [u16],
+)
+    requires { ⌜ Nodes (now rows) names nodes × Roots (now roots) nodes ×
+        Unfinished (now rows) (now roots) names nodes (now ends) × (n < names) × EndKnown (now rows) (now roots) nodes n end ⌝ }
+    ensures { λ r. ⌜ NotedAs (now (rows .entry)) (now (roots .entry)) names nodes n (now (ends .entry)) (now (ends .exit)) ⌝ }
+{
+    let mut m = n;
+    while ends[m] == AliasEnds::OPEN {
+        ends[m] = end;
+        let t = Node::at(rows, roots[m] as usize);
+        if t.kind != Kind::VAR {
+            return;
+        }
+        m = t.value as usize;
+    }
+}
+
+// Finds the alias ends of all names once, in a table that has nothing. The names that a chain crosses are noted with it, so that no later
+// chain is followed beyond them.
+pub fn find_ends(
+    rows: &[u8],
+    roots: &[u16],
+    names: usize,
+    nodes: usize,
+    definitions: usize,
+    ends: &mut [u16],
+) -> u16
+    requires { ⌜ Nodes (now rows) names nodes × Roots (now roots) nodes × (now ends ≡ blankTable) ⌝ }
+    ensures { λ r. ⌜ AliasEndsAs (now (rows .entry)) (now (roots .entry)) names nodes definitions (endsIf r (now (ends .exit))) r ⌝ }
+{
+    open_ends(roots, names, ends);
+    let mut n = 0;
+    while n < names {
+        let end = follow(rows, roots, ends, names, nodes, definitions, n);
+        if end == AliasEnds::OPEN {
+            return n as u16;
+        }
+        note(rows, roots, names, nodes, n, end, ends);
+        n += 1;
+    }
+    Table::NONE
+}
+
+// The same by value.
 pub fn alias_ends(
     rows: &[u8],
     roots: &[u16],
@@ -164,22 +243,14 @@ pub fn alias_ends(
     ensures { λ r. ⌜ AliasEndsAs (now (rows .entry)) (now (roots .entry)) names nodes definitions (r .ends) (r .circle) ⌝ }
 {
     let mut ends = blank();
-    let mut n = 0;
-    while n < names {
-        let a = name_end(rows, roots, names, nodes, definitions, n);
-        if a.circles() {
-            return AliasEnds {
-                ends,
-                circle: n as u16,
-            };
-        }
-        ends[n] = a.node();
-        n += 1;
+    let circle = find_ends(rows, roots, names, nodes, definitions, &mut ends);
+    if circle != Table::NONE {
+        return AliasEnds {
+            ends: blank(),
+            circle,
+        };
     }
-    AliasEnds {
-        ends,
-        circle: Table::NONE,
-    }
+    AliasEnds { ends, circle }
 }
 
 // Whether the chain from a node ends at a function: `as_func`, by the table of alias ends.

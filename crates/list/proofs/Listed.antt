@@ -6,13 +6,13 @@ use Prim.Native.Nat.{ℕ, suc, _+_, _≤_, _<_}
 use native.Mathlib.Nat.{add-zero}
 use native.Mathlib.Numerals.{add-one}
 use native.Mathlib.Omega.{arith}
-use lib.ListN.{length, getD, take, drop}
-use lib.Seq.{take-suc, take-all, take-length, length-take-le}
+use borrow.Author.Tests.{eq-eqb, ne-eqb}
+use lib.ListN.{length, getD, take, drop, drop-of-length-le}
+use lib.Seq.{take-suc, take-all, drop-cons, length-take-le}
 use Rattle.format.specs.Layout.{layout}
 use Rattle.book.specs.declared.refusal.Refusal.{Refusal}
 use Rattle.book.specs.Reading.{nameIn}
 use Rattle.judgement.specs.Check.{member}
-use Rattle.typing.proofs.Hashing.{member-none, member-here, member-later}
 use Rattle.listing.specs.Questions.{given, list, marksOver, onLayout}
 use Rattle.analysis.specs.declared.hand.Answer.{Answer}
 use Rattle.analysis.specs.declared.hand.Answer.the-variants.{Given, Refused}
@@ -33,21 +33,34 @@ unfolding markOf
 mark-none n marked e f = rw (sym e ∙ f)
 
 -- ---- Whether a name is among the marked ones: the search goes on among those that are left
+module _ (n : ℕ) (l : List ℕ) (i : ℕ) where
+  member-here : i < length l → getD l i 0 ≡ n → member n (drop i l) ≡ true
+  unfolding member
+  member-here h e = rw (drop-cons l i 0 h, eq-eqb n (getD l i 0) (sym e))
+
+  member-later : i < length l → (getD l i 0 ≡ n → ⊥) → member n (drop (i + 1) l) ≡ member n (drop i l)
+  unfolding member
+  member-later h e = rw (add-one i, drop-cons l i 0 h, ne-eqb n (getD l i 0) (λ q. e (sym q)))
+
+  member-none : length l ≤ i → member n (drop i l) ≡ false
+  unfolding member
+  member-none h = rw (drop-of-length-le l {i = i} h)
+
 pub record Left (n : ℕ) (marked : List ℕ) (i : ℕ) : Type 0 where
-  pub same : member n (drop i (take (length marked) marked)) ≡ member n marked
+  pub same : member n (drop i marked) ≡ member n marked
 
 pub left-start : (n : ℕ) (marked : List ℕ) → Left n marked 0
-left-start n marked = record { same = rw (take-length marked) }
+left-start n marked = record { same = refl }
 
 module _ {n : ℕ} {marked : List ℕ} {i : ℕ} (k : Left n marked i) where
   pub left-here : i < length marked → getD marked i 0 ≡ n → true ≡ member n marked
-  left-here h e = sym (member-here n marked (length marked) i (omega arith) h e) ∙ k .same
+  left-here h e = sym (member-here n marked i h e) ∙ k .same
 
   pub left-on : i < length marked → (getD marked i 0 ≡ n → ⊥) → Left n marked (i + 1)
-  left-on h e = record { same = member-later n marked (length marked) i (omega arith) h e ∙ k .same }
+  left-on h e = record { same = member-later n marked i h e ∙ k .same }
 
   pub left-none : length marked ≤ i → false ≡ member n marked
-  left-none h = sym (member-none n marked (length marked) i (omega arith) h) ∙ k .same
+  left-none h = sym (member-none n marked i h) ∙ k .same
 
 -- ---- The lines so far: at the start, and after one more
 module _ (bs marked : List ℕ) where

@@ -11,6 +11,7 @@ use Rattle.book.specs.declared.refusal.Verdict.the-variants.{Passed}
 use Rattle.judgement.specs.Check.{check}
 use Rattle.environment.specs.Tables.{Entries}
 use Rattle.typing.specs.declared.check.Checked.{Checked}
+use Rattle.typing.specs.declared.check.Found.{Found}
 use Rattle.typing.specs.Actors.{AllTrees}
 use Rattle.typing.specs.Books.{Admitted}
 use Rattle.typing.specs.Checking.{Passes, BookAs}
@@ -26,6 +27,10 @@ pub record Passing (rows entries : List ℕ) (names nodes : ℕ) (b : Book) (r :
   pub few : r .main ≤ 512
   pub names-are : names ≡ length (b .names)
   pub nodes-are : nodes ≡ count (trees b)
+
+-- What the check found, with the tables that it was lent.
+abbrev pub passedWith : Found → List ℕ → List ℕ → Checked
+passedWith f roots ends′ = record { verdict = f .verdict; main = f .main; roots = roots; ends = ends′; actor = f .actor }
 
 -- An admitted book, of which the check found r and passed it.
 pub record PassedBook (bs : List ℕ) (c : Contents) (r : Checked) : Type 0 where

@@ -15,7 +15,7 @@ ghost use Rattle.analysis.specs.Handed.{HandedAs};
 ghost use Rattle.analysis.specs.Entries.{Offered};
 ghost use Rattle.questions.specs.Answers.{WalkSays};
 ghost use Rattle.questions.specs.Drafts.{DraftOf, OwnAs};
-ghost use Rattle.questions.specs.Passing.{PassedBook};
+ghost use Rattle.questions.specs.Passing.{PassedBook, passedWith};
 ghost use Rattle.questions.specs.Uses.{UsesAs, UsesHanded};
 use analysis::chase::Walk;
 use analysis::hand::Answer;
@@ -30,6 +30,7 @@ use book::refusal::Verdict;
 use environment::Table;
 use typing::actor::Actor;
 use typing::check::Checked;
+use typing::check::Found;
 
 // Whether a book has an actor.
 fn has_actor(actor: Actor) -> bool
@@ -56,23 +57,18 @@ fn hand_walk(w: Walk, out: &mut [u16]) -> Answer
 // ---- The definition list
 
 // Of a book that passed: `chase_actor`.
-fn list_passed(book: &[u8], c: Contents, checked: Checked, out: &mut [u16]) -> Answer
-    requires { ⌜ PassedBook (now book) c checked ⌝ }
-    ensures { λ r. ⌜ ((p : PassedBook (now (book .entry)) c checked) → HandedAs (list (p .admitted .book)) (now (out .entry)) (now (out .exit)) r) ⌝ }
+fn list_passed(book: &[u8], c: Contents, found: Found, roots: &[u16], out: &mut [u16]) -> Answer
+    requires { ⌜ ((ends : List ℕ) × PassedBook (now book) c (passedWith found (now roots) ends)) ⌝ }
+    ensures { λ r. ⌜ ((ends : List ℕ) (p : PassedBook (now (book .entry)) c (passedWith found (now (roots .entry)) ends)) →
+        HandedAs (list (p .admitted .book)) (now (out .entry)) (now (out .exit)) r) ⌝ }
 {
-    let actor = checked.actor;
+    let actor = found.actor;
     if !has_actor(actor) {
         return Answer::Refused(Refusal::NoActor);
     }
     let nodes_at = c.nodes_at;
     let definitions_at = c.definitions_at;
-    let roots = checked.roots;
-    let w = analysis::chase::chase_actor(
-        &book[nodes_at..definitions_at],
-        &roots,
-        actor,
-        checked.main,
-    );
+    let w = analysis::chase::chase_actor(&book[nodes_at..definitions_at], roots, actor, found.main);
     hand_walk(w, out)
 }
 
@@ -81,11 +77,13 @@ pub fn list_book(book: &[u8], c: Contents, out: &mut [u16]) -> Answer
     requires { ⌜ Admitted (now book) c ⌝ }
     ensures { λ r. ⌜ ((a : Admitted (now (book .entry)) c) → HandedAs (list (a .book)) (now (out .entry)) (now (out .exit)) r) ⌝ }
 {
-    let checked = typing::check::check_book(book, c);
-    let v = checked.verdict;
+    let mut roots = environment::blank();
+    let mut ends = environment::blank();
+    let found = typing::check::find_book(book, c, &mut roots, &mut ends);
+    let v = found.verdict;
     match v {
         Verdict::Refused(why) => Answer::Refused(why),
-        Verdict::Passed => list_passed(book, c, checked, out),
+        Verdict::Passed => list_passed(book, c, found, &roots, out),
     }
 }
 

@@ -17,8 +17,9 @@ use Rattle.book.specs.declared.refusal.Verdict.the-variants.{Passed, Refused}
 use Rattle.book.specs.Refusal.{isPassed, andThen, unless}
 use Rattle.judgement.specs.Environment.{findType}
 use Rattle.judgement.specs.Check.{onceVerdict, bodiesVerdict, eachName, circleVerdict, bodiesFit, decsVerdict}
-use Rattle.environment.specs.Tables.{blankTable, Nodes, Entries, Roots, Binds, EndNodes, DefinesAs, AliasEndsAs, definitionsIn}
+use Rattle.environment.specs.Tables.{blankTable, Nodes, Entries, Roots, Binds, EndNodes, DefinesAs, AliasEndsAs, endsIf, definitionsIn}
 use Rattle.environment.proofs.Defines.{blank-length, blank-at}
+use Rattle.environment.proofs.Ends.{ends-some}
 use Rattle.environment.proofs.Laws.{defined-length, defined-binds, defined-once}
 use Rattle.environment.proofs.AsFunc.{ends-func, ends-service}
 use Rattle.typing.specs.Walk.{Env}
@@ -30,6 +31,12 @@ use Rattle.typing.proofs.Definitions.{bodies-in}
 -- a table that has nothing
 pub blank-nodes : (count : ℕ) (ends′ : List ℕ) → ends′ ≡ blankTable → EndNodes ends′ count
 blank-nodes count ends′ e = rw e (record { long = blank-length; node = λ n h. absurd (h (blank-at n)) })
+
+-- the table that is found where every chain ends
+pub ends-found : {ns roots ends′ : List ℕ} {names count definitions circle′ : ℕ} → circle′ ≡ 65535 →
+    AliasEndsAs ns roots names count definitions (endsIf circle′ ends′) circle′ → AliasEndsAs ns roots names count definitions ends′ circle′
+ends-found {ns} {roots} {ends′} {names} {count} {definitions} {circle′} e a =
+    subst (λ (t : List ℕ). AliasEndsAs ns roots names count definitions t circle′) (ends-some circle′ ends′ e) a
 
 -- a refusal is not passed
 pub never-passed : {A : Type 0} {r : Refusal} (v : Verdict) → v ≡ Refused r → v ≡ Passed → A
@@ -88,9 +95,10 @@ module _ {es ns : List ℕ} {names count from to : ℕ} (x : Bodies es ns names 
       lowest : eachName (λ n. circleVerdict ds n (findType ds n)) 0 names ≡ cond (eqb circle′ 65535) Passed (Refused (refusal.Refusal.Circle circle′))
       lowest = a .lowest ds binds (defined-length ns (x .entries))
 
-      pub decs-circle : (circle′ ≡ 65535 → ⊥) → DecsAs es ns names count from to (Refused (refusal.Refusal.Circle circle′)) roots ends′
+      pub decs-circle : (left : List ℕ) → (circle′ ≡ 65535 → ⊥) →
+          DecsAs es ns names count from to (Refused (refusal.Refusal.Circle circle′)) roots left
       unfolding decsVerdict
-      decs-circle n =
+      decs-circle left n =
           record {
             verdict = sym (rw (once-passed, bodies-passed, lowest) (rw (ne-eqb circle′ 65535 n) refl));
             checked = λ e. never-passed (Refused (refusal.Refusal.Circle circle′)) refl e;

@@ -2,17 +2,15 @@
 --     node-tree, service-methods       each node of an admitted book is the root of a tree that fits, and below a service stand methods
 --     services-in                      the services of a resolved actor
 --     left-cons, left-none             what is left of a part of a list
---     member-here, member-later, ..    a number among those that are left
 --     HashesLeft                       the loop over methods: `hash-room` is why there is room for one more hash
 --     ServiceLeft                      the same inside a service
 use mathlib.Core.Path.{_≡_, refl, sym, ap, ap₂, subst, _∙_}
 use mathlib.Core.Bool.{Bool, true, false, _||_}
 use mathlib.Core.List.{List, [], _∷_, _++_, List·Memᴰ, List·Memᴰ·head, List·Memᴰ·tail, List·Memᴰ·cases-cons, List·Memᴰ·not-nil, Memᴰ·cast}
 use mathlib.Core.Logic.{⊎-elim}
-use Prim.Native.Nat.{ℕ, zero, suc, _+_, _≤_, _<_}
+use Prim.Native.Nat.{ℕ, zero, suc, _+_, _%_, _≤_, _<_}
 use native.Mathlib.Decide.{decLt}
 use native.Mathlib.Omega.{arith}
-use borrow.Author.Tests.{eq-eqb, ne-eqb}
 use lib.Dec.{T, eqb}
 use lib.ListN.{length, getD, set, take, drop, length-set, drop-of-length-le}
 use lib.Seq.{length-take-le, drop-cons, take-suc-set, getD-take}
@@ -39,6 +37,7 @@ use Rattle.typing.specs.Actors.{AllTrees, IsService, methodsIn, ActorNod
 use Rattle.typing.specs.Hashed.{ServicesIn}
 use Rattle.typing.proofs.Walk.{opened, ends-inside, one-at-least, rest-trees, kids-trees, this-tree, method-label, kids-methods, rest-methods}
 use Rattle.typing.proofs.Checks.{blank-nodes}
+use Rattle.typing.proofs.Buckets.{Buckets, buckets-start, buckets-on}
 
 -- ---- Each node is the root of a tree that fits
 
@@ -98,19 +97,6 @@ left-none : (l : List ℕ) (k i : ℕ) → k ≤ length l → k ≤ i → drop i
 left-none l k i h m = drop-of-length-le (take k l) {i = i} (omega (arith, length-take-le k l h))
 
 -- ---- A number in a list
-pub member-none : (x : ℕ) (l : List ℕ) (k i : ℕ) → k ≤ length l → k ≤ i → member x (drop i (take k l)) ≡ false
-unfolding member
-member-none x l k i h m = rw (left-none l k i h m)
-
-module _ (x : ℕ) (l : List ℕ) (k i : ℕ) (h : k ≤ length l) (m : i < k) where
-  pub member-here : getD l i 0 ≡ x → member x (drop i (take k l)) ≡ true
-  unfolding member
-  member-here e = rw (left-cons l k i h m, eq-eqb x (getD l i 0) (sym e))
-
-  pub member-later : (getD l i 0 ≡ x → ⊥) → member x (drop (i + 1) (take k l)) ≡ member x (drop i (take k l))
-  unfolding member
-  member-later n = rw (left-cons l k i h m, ne-eqb x (getD l i 0) (λ e. n (sym e)))
-
 member-snoc : (x : ℕ) (l : List ℕ) (a : ℕ) → member x (l ++ (a ∷ [])) ≡ (eqb x a || member x l)
 unfolding member
 member-snoc x [] a = refl
@@ -127,8 +113,9 @@ listed-at (x ∷ l) zero d h = List·Memᴰ·head refl
 listed-at (x ∷ l) (suc n) d h = List·Memᴰ·tail (listed-at l n d (omega arith))
 
 -- ---- The loop over methods: `met` are the hashes so far, the last first
-pub record HashesLeft (hs : List ℕ) (all left : Forest Node) (list : List ℕ) (k : ℕ) : Type 0 where
+pub record HashesLeft (hs : List ℕ) (all left : Forest Node) (list last link : List ℕ) (k : ℕ) : Type 0 where
   pub long : length list ≡ 1024
+  pub buckets : Buckets (take k list) last link k
   pub met : List ℕ
   pub once : Distinct met
   pub counted : length met ≡ k
@@ -136,10 +123,12 @@ pub record HashesLeft (hs : List ℕ) (all left : Forest Node) (list : List ℕ)
   pub marks : (x : ℕ) → member x met ≡ member x (take k list)
   pub same : (names : List (List ℕ)) → HashesAgree hs names → hashesVerdict names met left ≡ hashesVerdict names [] all
 
-pub hashes-start : (hs : List ℕ) (all : Forest Node) (list : List ℕ) → list ≡ zeroTable → HashesLeft hs all all list 0
-hashes-start hs all list e =
+pub hashes-start : (hs : List ℕ) (all : Forest Node) (list last link : List ℕ) → list ≡ zeroTable → last ≡ zeroTable → link ≡ zeroTable →
+    HashesLeft hs all all list last link 0
+hashes-start hs all list last link e f g =
     record {
       long = ap length e ∙ zero-length;
+      buckets = buckets-start last link f g;
       met = [];
       once = none;
       counted = refl;
@@ -148,12 +137,13 @@ hashes-start hs all list e =
       same = λ names f. refl;
     }
 
-pub hashes-end : {hs : List ℕ} {all : Forest Node} {list : List ℕ} {k : ℕ} → HashesLeft hs all end list k →
+pub hashes-end : {hs : List ℕ} {all : Forest Node} {list last link : List ℕ} {k : ℕ} → HashesLeft hs all end list last link k →
     (names : List (List ℕ)) → HashesAgree hs names → Passed ≡ hashesVerdict names [] all
 unfolding hashesVerdict
 hashes-end l names f = l .same names f
 
-module _ {hs : List ℕ} (size : length hs ≡ 1024) {all left : Forest Node} {list : List ℕ} {k : ℕ} (l : HashesLeft hs all left list k) where
+module _ {hs : List ℕ} (size : length hs ≡ 1024) {all left : Forest Node} {list last link : List ℕ} {k : ℕ}
+    (l : HashesLeft hs all left list last link k) where
   pub hashes-few : k ≤ 1024
   hashes-few = omega (arith, pigeonhole (l .once) hs (l .listed), l .counted, size)
 
@@ -183,11 +173,13 @@ module _ {hs : List ℕ} (size : length hs ≡ 1024) {all left : Forest Node} {l
       longer : take (k + 1) (set list k (getD hs v 0)) ≡ take k list ++ (getD hs v 0 ∷ [])
       longer = let one : k + 1 ≡ suc k = omega arith in rw one (take-suc-set list k (getD hs v 0) (omega (arith, hash-room, l .long)))
 
-      pub hash-on : HashesLeft hs all next (set list k (getD hs v 0)) (k + 1)
+      pub hash-on : HashesLeft hs all next
+          (set list k (getD hs v 0)) (set last (getD hs v 0 % 1024) (k + 1)) (set link k (getD last (getD hs v 0 % 1024) 0)) (k + 1)
       unfolding hashesVerdict member
       hash-on =
           record {
             long = simp length-set (l .long);
+            buckets = rw longer (buckets-on (take k list) (getD hs v 0) (l .buckets) hash-room);
             met = getD hs v 0 ∷ l .met;
             once = more new (l .once);
             counted = omega (arith, l .counted);
@@ -197,39 +189,43 @@ module _ {hs : List ℕ} (size : length hs ≡ 1024) {all left : Forest Node} {l
           }
 
 -- ---- The methods of a service, from node i on, and then other methods
-pub record ServiceLeft (ns hs : List ℕ) (all next : Forest Node) (list : List ℕ) (k i until : ℕ) : Type 0 where
+pub record ServiceLeft (ns hs : List ℕ) (all next : Forest Node) (list last link : List ℕ) (k i until : ℕ) : Type 0 where
   pub methods : Methods ns blankTable blankTable i until
-  pub left : HashesLeft hs all (beside (siblings ns i until) next) list k
+  pub left : HashesLeft hs all (beside (siblings ns i until) next) list last link k
 
 -- ---- The loop over services
 abbrev pub restMethods : List ℕ → List ℕ → ℕ → ℕ → Forest Node
 restMethods ns services count s = methodsIn ns (drop s (take count services))
 
 module _ {ns services : List ℕ} {count : ℕ} (x : ServicesIn ns services count) (long : length services ≡ 16)
-    {hs : List ℕ} {all : Forest Node} {list : List ℕ} {k s : ℕ} (l : HashesLeft hs all (restMethods ns services count s) list k) where
+    {hs : List ℕ} {all : Forest Node} {list last link : List ℕ} {k s : ℕ}
+    (l : HashesLeft hs all (restMethods ns services count s) list last link k) where
   pub services-end : count ≤ s → (names : List (List ℕ)) → HashesAgree hs names → Passed ≡ hashesVerdict names [] all
   unfolding methodsIn
-  services-end h = hashes-end (subst (λ (q : Forest Node). HashesLeft hs all q list k) (ap (methodsIn ns) (left-none services count s (omega (arith, x .few)) h)) l)
+  services-end h =
+      hashes-end (subst (λ (q : Forest Node). HashesLeft hs all q list last link k)
+      (ap (methodsIn ns) (left-none services count s (omega (arith, x .few)) h)) l)
 
   module _ (h : s < count) (r : Row) (is : r ≡ rowAt ns (getD services s 0)) where
     abbrev node : ℕ
     node = getD services s 0
 
-    pub service-start : ServiceLeft ns hs all (restMethods ns services count (s + 1)) list k (node + 1) (node + r .size)
+    pub service-start : ServiceLeft ns hs all (restMethods ns services count (s + 1)) list last link k (node + 1) (node + r .size)
     unfolding methodsIn
     service-start =
         rw is
         record {
           methods = service-methods (x .all) node (x .service s h);
           left =
-              subst (λ (q : Forest Node). HashesLeft hs all q list k)
+              subst (λ (q : Forest Node). HashesLeft hs all q list last link k)
               (ap (methodsIn ns) (left-cons services count s (omega (arith, x .few)) h) ∙ ap (λ (q : Forest Node). beside q (restMethods ns services count (s + 1))) (service-kids (x .all) node (x .service s h))) l;
         }
 
-module _ {ns hs : List ℕ} {all next : Forest Node} {list : List ℕ} {k i until : ℕ} (l : ServiceLeft ns hs all next list k i until) where
-  pub service-end : until ≤ i → HashesLeft hs all next list k
+module _ {ns hs : List ℕ} {all next : Forest Node} {list last link : List ℕ} {k i until : ℕ}
+    (l : ServiceLeft ns hs all next list last link k i until) where
+  pub service-end : until ≤ i → HashesLeft hs all next list last link k
   unfolding beside
-  service-end h = subst (λ (q : Forest Node). HashesLeft hs all (beside q next) list k) (siblings-none ns i until h) (l .left)
+  service-end h = subst (λ (q : Forest Node). HashesLeft hs all (beside q next) list last link k) (siblings-none ns i until h) (l .left)
 
   module _ (size : length hs ≡ 1024) (h : i < until) (r : Row) (is : r ≡ rowAt ns i) where
     pub name-small : r .label < 1024
@@ -249,11 +245,16 @@ module _ {ns hs : List ℕ} {all next : Forest Node} {list : List ℕ} {k i unti
       pub method-room : b ≡ false → k < 1024
       method-room = hash-room size (l .left) _ _ _ opened-as (r .label) named-as name-small b tested
 
-      pub method-on : b ≡ false → ServiceLeft ns hs all next (set list k (getD hs (r .label) 0)) (k + 1) (i + r .size) until
+      abbrev hash : ℕ
+      hash = getD hs (r .label) 0
+
+      pub method-on : b ≡ false → ServiceLeft ns hs all next
+          (set list k hash) (set last (hash % 1024) (k + 1)) (set link k (getD last (hash % 1024) 0)) (k + 1) (i + r .size) until
       method-on t =
           record {
             methods = rw is (rest-methods (l .methods) h);
             left =
-                subst (λ (z : ℕ). HashesLeft hs all (beside (siblings ns (i + z) until) next) (set list k (getD hs (r .label) 0)) (k + 1)) (ap (λ (q : Row). q .size) (sym is))
-                (hash-on size (l .left) _ _ _ opened-as (r .label) named-as name-small b tested t);
+                subst (λ (z : ℕ). HashesLeft hs all (beside (siblings ns (i + z) until) next)
+                (set list k hash) (set last (hash % 1024) (k + 1)) (set link k (getD last (hash % 1024) 0)) (k + 1))
+                (ap (λ (q : Row). q .size) (sym is)) (hash-on size (l .left) _ _ _ opened-as (r .label) named-as name-small b tested t);
           }

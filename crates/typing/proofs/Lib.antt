@@ -4,6 +4,7 @@ pub mod Walk
 pub mod Modes
 pub mod Definitions
 pub mod Fitting
+pub mod Founds
 pub mod Split
 pub mod Checks
 pub mod Order
@@ -16,4 +17,5 @@ pub mod Merging
 pub mod ActorWalk
 pub mod Parts
 pub mod Inits
+pub mod Buckets
 pub mod Hashing

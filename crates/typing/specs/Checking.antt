@@ -17,6 +17,7 @@ use Rattle.judgement.specs.Check.{hashesVerdict, check}
 use Rattle.environment.specs.Tables.{blankTable, Chains, definitionsIn}
 use Rattle.typing.specs.declared.actor.Actor.{Actor}
 use Rattle.typing.specs.declared.check.Checked.{Checked}
+use Rattle.typing.specs.declared.check.Found.{Found}
 use Rattle.typing.specs.Actors.{AllTrees, resolvedNone, methodsIn, actorTree, ActorStored}
 use Rattle.typing.specs.Split.{initAt, SplitAs}
 use Rattle.typing.specs.Books.{Admitted}
@@ -43,6 +44,14 @@ HashedAs names ns a v = v ≡ cond (a .merged) (hashesVerdict (namesOf (length n
 -- A refused book.
 abbrev pub refusedNone : Verdict → Checked
 refusedNone v = record { verdict = v; main = 0; roots = blankTable; ends = blankTable; actor = resolvedNone 65535 v .actor }
+
+-- What is found beside the tables, and what it is with them.
+abbrev pub foundNone : Verdict → Found
+foundNone v = record { verdict = v; main = 0; actor = resolvedNone 65535 v .actor }
+
+unfoldable pub checkedOf : Found → List ℕ → List ℕ → Checked
+checkedOf f roots ends′ =
+    cond (isPassed (f .verdict)) (record { verdict = f .verdict; main = f .main; roots = roots; ends = ends′; actor = f .actor }) (refusedNone (f .verdict))
 
 -- The verdict is that of the check; and where the book passes, the tables are those of its definitions and the actor is the resolved one.
 pub record Passes (rows entries : List ℕ) (b : Book) (r : Checked) : Type 0 where

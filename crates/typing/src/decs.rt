@@ -1,5 +1,6 @@
 // The definitions of a book, or of its init file: `check_decs`.
-ghost use Rattle.environment.specs.Tables.{Nodes, Entries};
+ghost use mathlib.Core.Path.{_≡_};
+ghost use Rattle.environment.specs.Tables.{blankTable, Nodes, Entries};
 ghost use Rattle.typing.specs.Decs.{Bodies, DecsAs};
 use book::refusal::Refusal;
 use book::refusal::Verdict;
@@ -12,7 +13,39 @@ pub struct Decs {
     pub ends: [u16; 1024],
 }
 
-// 2, the bodies (3, 4, 5, 6), 7 and 8, of the definitions of entries `from` up to `to`.
+// 2, the bodies (3, 4, 5, 6), 7 and 8, of the definitions of entries `from` up to `to`, into tables that have nothing.
+pub fn decs_in(
+    entries: &[u8],
+    rows: &[u8],
+    names: usize,
+    nodes: usize,
+    from: usize,
+    to: usize,
+    roots: &mut [u16],
+    ends: &mut [u16],
+) -> Verdict
+    requires { ⌜ Bodies (now entries) (now rows) names nodes from to × (now roots ≡ blankTable) × (now ends ≡ blankTable) ⌝ }
+    ensures { λ r. ⌜ DecsAs (now (entries .entry)) (now (rows .entry)) names nodes from to r (now (roots .exit)) (now (ends .exit)) ⌝ }
+{
+    let twice = environment::enter(entries, names, nodes, from, to, roots);
+    if twice != Table::NONE {
+        return Verdict::Refused(Refusal::Twice(twice));
+    }
+    let v = crate::bodies::bodies(entries, rows, roots, ends, from, to);
+    if !v.passed() {
+        return v;
+    }
+    let circle = environment::find_ends(rows, roots, names, nodes, to - from, ends);
+    if circle != Table::NONE {
+        return Verdict::Refused(Refusal::Circle(circle));
+    }
+    if !crate::bodies::bodies_fit(entries, rows, ends, from, to) {
+        return Verdict::Refused(Refusal::NoFunction);
+    }
+    Verdict::Passed
+}
+
+// The same with tables of their own.
 pub fn check_decs(
     entries: &[u8],
     rows: &[u8],
@@ -24,44 +57,11 @@ pub fn check_decs(
     requires { ⌜ Bodies (now entries) (now rows) names nodes from to ⌝ }
     ensures { λ r. ⌜ DecsAs (now (entries .entry)) (now (rows .entry)) names nodes from to (r .verdict) (r .roots) (r .ends) ⌝ }
 {
-    let table = environment::define(entries, names, nodes, from, to);
-    let roots = table.roots;
-    let none = environment::blank();
-    let twice = table.twice;
-    if twice != Table::NONE {
-        return Decs {
-            verdict: Verdict::Refused(Refusal::Twice(twice)),
-            roots,
-            ends: none,
-        };
-    }
-    let v = crate::bodies::bodies(entries, rows, &roots, &none, from, to);
-    if !v.passed() {
-        return Decs {
-            verdict: v,
-            roots,
-            ends: none,
-        };
-    }
-    let chains = environment::alias_ends(rows, &roots, names, nodes, to - from);
-    let ends = chains.ends;
-    let circle = chains.circle;
-    if circle != Table::NONE {
-        return Decs {
-            verdict: Verdict::Refused(Refusal::Circle(circle)),
-            roots,
-            ends,
-        };
-    }
-    if !crate::bodies::bodies_fit(entries, rows, &ends, from, to) {
-        return Decs {
-            verdict: Verdict::Refused(Refusal::NoFunction),
-            roots,
-            ends,
-        };
-    }
+    let mut roots = environment::blank();
+    let mut ends = environment::blank();
+    let verdict = decs_in(entries, rows, names, nodes, from, to, &mut roots, &mut ends);
     Decs {
-        verdict: Verdict::Passed,
+        verdict,
         roots,
         ends,
     }

@@ -1,27 +1,36 @@
 // The hashes of the methods of a merged actor, which have to differ: `resolve_actor` of syntax/mod.rs.
+// A hash is looked for in its bucket alone. Names may be chosen that all fall into one: each is then compared with all before it, which are at
+// most 1,024, so that half a million comparisons are the most.
 ghost use mathlib.Core.Path.{_≡_};
 ghost use mathlib.Core.List.{List, []};
-ghost use Prim.Native.Nat.{ℕ, _≤_};
+ghost use Prim.Native.Nat.{ℕ, _%_};
 ghost use lib.ListN.{length, take};
 ghost use Rattle.judgement.specs.Check.{member, hashesVerdict};
-ghost use Rattle.environment.specs.Merging.{HashesAgree};
+ghost use Rattle.environment.specs.Merging.{zeroTable, HashesAgree};
 ghost use Rattle.typing.specs.Actors.{methodsIn};
-ghost use Rattle.typing.specs.Hashed.{ServicesIn};
+ghost use Rattle.typing.specs.Hashed.{ServicesIn, LastIn, LinksIn};
 use book::read::Node;
 use book::refusal::Refusal;
 use book::refusal::Verdict;
 
-// Whether a hash is among the first `k`.
-fn has(met: &[u32], k: usize, hash: u32) -> bool
-    requires { ⌜ k ≤ length (now met) ⌝ }
-    ensures { λ r. ⌜ r ≡ member hash (take k (now (met .entry))) ⌝ }
+fn no_links() -> environment::ByName
+    ensures { λ r. ⌜ r ≡ zeroTable ⌝ }
 {
-    let mut i = 0;
-    while i < k {
-        if met[i] == hash {
+    [0u16; 1024]
+}
+
+// Whether a hash is among those met, by the links from the last one of its bucket.
+fn has(met: &[u32], link: &[u16], last: u16, hash: u32) -> bool
+    requires { ⌜ LinksIn (now met) (now link) × LastIn (now met) (hash % 1024) (length (now met)) last ⌝ }
+    ensures { λ r. ⌜ r ≡ member hash (now (met .entry)) ⌝ }
+{
+    let mut x = last as usize;
+    while 0 < x {
+        let place = x - 1;
+        if met[place] == hash {
             return true;
         }
-        i += 1;
+        x = link[place] as usize;
     }
     false
 }
@@ -33,6 +42,8 @@ pub fn hashes(rows: &[u8], table: &[u32], services: [u16; 16], count: usize) -> 
         r ≡ hashesVerdict names [] (methodsIn (now (rows .entry)) (take count services))) ⌝ }
 {
     let mut met = environment::merge::zeros();
+    let mut link = no_links();
+    let mut last = no_links();
     let mut k = 0;
     let mut s = 0;
     while s < count {
@@ -44,11 +55,15 @@ pub fn hashes(rows: &[u8], table: &[u32], services: [u16; 16], count: usize) -> 
             let m = Node::at(rows, i);
             let name = m.label as usize;
             let hash = table[name];
-            if has(&met, k, hash) {
+            let bucket = (hash % 1024) as usize;
+            let head = last[bucket];
+            if has(&met[..k], &link, head, hash) {
                 return Verdict::Refused(Refusal::SameHash(m.label as u16));
             }
             met[k] = hash;
+            link[k] = head;
             k += 1;
+            last[bucket] = k as u16;
             i += m.size;
         }
         s += 1;

@@ -1,87 +1,48 @@
--- `alias_ends` meets its contract. Assumes nothing.
-use Prim.Native.Nat.{ℕ, _+_, _-_, _<_}
-use mathlib.Core.Path.{_≡_, sym, ap, subst, _∙_}
+-- `alias_ends` meets its contract: a table that has nothing where a chain never ends. Assumes nothing.
+use mathlib.Core.Path.{sym, _∙_, subst}
 use mathlib.Core.List.{List}
-use native.Mathlib.Omega.{arith}
-use lib.ListN.{length, set}
-use borrow.Author.Tests.{not-true, not-false}
-use Rattle.environment.specs.Tables.{InRange}
-use Rattle.environment.proofs.Ends.{EndsLeft, ends-start, ends-end, ends-circle, ends-on, in-small}
+use Prim.Native.Nat.{ℕ}
+use borrow.Author.Needs.{needs}
+use Rattle.environment.specs.Tables.{AliasEndsAs}
+use Rattle.environment.proofs.Ends.{ends-none, ends-some}
 use Rattle.environment.proofs.alias_ends.Statement.{statement}
 use Rattle.environment.proofs.alias_ends.Tie as tie
 use Rattle.environment.proofs.alias_ends.Reads as reads
 use Rattle.environment.proofs.alias_ends.Lts as lts
-use Rattle.environment.proofs.Alias.circles.Reads as circles-reads
-use Rattle.environment.proofs.Alias.node.Reads as node-reads
 use Rattle.environment.proofs.blank.Reads as blank-reads
-use Rattle.environment.proofs.name_end.Reads as name-end-reads
+use Rattle.environment.proofs.find_ends.Reads as find-ends-reads
 
-abbrev Inv-loop : tie.InvT-loop
-Inv-loop rows roots names nodes definitions ends₀ n₀ ends n = EndsLeft rows roots names nodes definitions ends n
+blank-requires : tie.Need-blank-requires
+blank-requires c κs = search needs
 
-abbrev μ-loop : tie.MeasureT-loop
-μ-loop rows roots names nodes definitions ends₀ n₀ ends n = names - n
+slice-aggregate-find-ends : tie.Need-slice-aggregate-find-ends
+slice-aggregate-find-ends c = search needs
 
-blank-requires : tie.Need-blank-requires Inv-loop μ-loop
-blank-requires c κs = tt
+find-ends-requires : tie.Need-find-ends-requires
+find-ends-requires c κs = search needs
 
-loop-holds : tie.Need-loop-holds Inv-loop μ-loop
-loop-holds c =
-    let a = c .before .before .before .args in
-    subst (λ (l : List ℕ). EndsLeft (a .rows .now) (a .roots .now) (a .names) (a .nodes) (a .definitions) l 0) (sym (c .blank .ensures)) (ends-start _ _ _ _ _)
+blank-requires-2 : tie.Need-blank-requires-2
+blank-requires-2 c κs = search needs
 
-name-end-requires : tie.Need-name-end-requires Inv-loop μ-loop
-name-end-requires c κs = (c .before .before .before .before .before .pre .0, c .before .before .before .before .before .pre .1, c .loop-test .taken)
+returns : tie.Need-returns
+returns c =
+    let a = c .before .before .before .before .before .before .before .before .args in
+    subst (λ (t : List ℕ). AliasEndsAs (a .rows .now) (a .roots .now) (a .names) (a .nodes) (a .definitions) t (c .before .before .before .find-ends .result))
+    (ends-none _ _ (c .before .if1 .taken) ∙ sym (c .blank2 .ensures)) (c .before .before .before .find-ends .ensures)
 
-circles-requires : tie.Need-circles-requires Inv-loop μ-loop
-circles-requires c κs = tt
-
-cast-t13 : tie.Need-cast-t13 Inv-loop μ-loop
-cast-t13 c = omega (arith, c .before .before .before .loop-test .taken, c .before .before .before .before .before .before .before .before .pre .0 .fewNames)
-
-returns : tie.Need-returns Inv-loop μ-loop
-returns c = ends-circle (c .before .before .before .before .before .before .before .before .pre .0 .fewNodes) (c .before .before .before .before .before .before .before .before .pre .0 .fewNames) (c .before .before .before .before .loop .inv) (c .before .before .before .loop-test .taken) _ (c .before .before .name-end .ensures) (sym (c .before .circles .ensures) ∙ c .if1 .taken)
-
-node-requires : tie.Need-node-requires Inv-loop μ-loop
-node-requires c κs = in-small _ (c .before .before .name-end .result) (c .before .before .before .before .before .before .before .before .pre .0 .fewNodes) (c .before .before .name-end .ensures .within)
-
-mul-ends : tie.Need-mul-ends Inv-loop μ-loop
-mul-ends c = omega (arith, c .before .before .before .before .loop-test .taken, c .before .before .before .before .before .before .before .before .before .pre .0 .fewNames)
-
-array-write-ends : tie.Need-array-write-ends Inv-loop μ-loop
-array-write-ends c = omega (arith, c .before .before .before .before .loop-test .taken, c .before .before .before .before .before .before .before .before .before .pre .0 .fewNames)
-
-add-n : tie.Need-add-n Inv-loop μ-loop
-add-n c = omega (arith, c .before .before .before .before .loop-test .taken, c .before .before .before .before .before .before .before .before .before .pre .0 .fewNames)
-
-loop-less : tie.Need-loop-less Inv-loop μ-loop
-loop-less c = omega (arith, c .before .before .before .before .loop-test .taken)
-
-loop-again : tie.Need-loop-again Inv-loop μ-loop
-loop-again c =
-    let a = c .before .before .before .before .before .before .before .before .before .args in
-    subst (λ (m : ℕ). EndsLeft (a .rows .now) (a .roots .now) (a .names) (a .nodes) (a .definitions) (set (c .before .before .before .before .before .loop .ends) (c .before .before .before .before .before .loop .n) m) (c .before .before .before .before .before .loop .n + 1)) (sym (c .node .ensures))
-    (ends-on (c .before .before .before .before .before .before .before .before .before .pre .0 .fewNodes) (c .before .before .before .before .before .before .before .before .before .pre .0 .fewNames) (c .before .before .before .before .before .loop .inv) (c .before .before .before .before .loop-test .taken) _ (c .before .before .before .name-end .ensures) (sym (c .before .before .circles .ensures) ∙ c .before .if1 .left))
-
-returns-2 : tie.Need-returns-2 Inv-loop μ-loop
-returns-2 c = ends-end (c .before .before .before .before .before .pre .0 .fewNodes) (c .before .before .before .before .before .pre .0 .fewNames) (c .before .loop .inv) (c .loop-test .left)
+returns-2 : tie.Need-returns-2
+returns-2 c =
+    let a = c .before .before .before .before .before .before .before .args in
+    subst (λ (t : List ℕ). AliasEndsAs (a .rows .now) (a .roots .now) (a .names) (a .nodes) (a .definitions) t (c .before .before .find-ends .result))
+    (ends-some _ _ (c .if1 .left)) (c .before .before .find-ends .ensures)
 
 pub alias-ends-spec : {M : Type 1} → statement M
 alias-ends-spec =
     tie.close
     (tie.spec
-    Inv-loop
-    μ-loop
     blank-requires
-    loop-holds
-    name-end-requires
-    circles-requires
-    cast-t13
+    slice-aggregate-find-ends
+    find-ends-requires
+    blank-requires-2
     returns
-    node-requires
-    mul-ends
-    array-write-ends
-    add-n
-    loop-less
-    loop-again
     returns-2)

@@ -20,34 +20,31 @@ has-actor-requires : tie.Need-has-actor-requires
 has-actor-requires c κs = search needs
 
 returns : tie.Need-returns
-returns c = λ p. answered-refused _ (list-lacks (passed-book p) (c .before .has-actor .ensures) (not-true _ (c .if1 .taken)))
+returns c = λ e p. answered-refused _ (list-lacks (passed-book p) (c .before .has-actor .ensures) (not-true _ (c .if1 .taken)))
 
 sub-chase-actor : tie.Need-sub-chase-actor
-sub-chase-actor c = bounds (c .before .before .before .before .before .before .pre .admitted) .two
+sub-chase-actor c = bounds (c .before .before .before .before .before .before .pre .1 .admitted) .two
 
 part-chase-actor-start : tie.Need-part-chase-actor-start
-part-chase-actor-start c = bounds (c .before .before .before .before .before .before .pre .admitted) .two
+part-chase-actor-start c = bounds (c .before .before .before .before .before .before .pre .1 .admitted) .two
 
 part-chase-actor-end : tie.Need-part-chase-actor-end
-part-chase-actor-end c = let b = bounds (c .before .before .before .before .before .before .pre .admitted) in omega (arith, b .three, b .four)
-
-slice-aggregate-chase-actor : tie.Need-slice-aggregate-chase-actor
-slice-aggregate-chase-actor c = search needs
+part-chase-actor-end c = let b = bounds (c .before .before .before .before .before .before .pre .1 .admitted) in omega (arith, b .three, b .four)
 
 chase-actor-requires : tie.Need-chase-actor-requires
 unfolding part
-chase-actor-requires c κs = let p = passed-book (c .before .before .before .before .before .before .before .before .pre) in (actor-in p, counted p)
+chase-actor-requires c κs = let p = passed-book (c .before .before .before .before .before .before .before .pre .1) in (actor-in p, counted p)
 
 hand-walk-requires : tie.Need-hand-walk-requires
 unfolding part
-hand-walk-requires c κs = let p = passed-book (c .before .before .before .before .before .before .before .before .before .before .pre) in walk-short (list-walks p (c .before .before .before .before .before .before .has-actor .ensures) (c .before .chase-actor .ensures))
+hand-walk-requires c κs = let p = passed-book (c .before .before .before .before .before .before .before .before .before .pre .1) in walk-short (list-walks p (c .before .before .before .before .has-actor .ensures) (c .before .chase-actor .ensures))
 
 same-length : tie.Need-same-length
 same-length c = search needs
 
 returns-2 : tie.Need-returns-2
 unfolding part
-returns-2 c = λ p. let q = passed-book p in let h = c .before .before .before .before .before .before .before .before .before .has-actor .ensures in c .before .before .hand-walk .ensures _ (list-says q h (not-false _ (c .before .before .before .before .before .before .before .before .if1 .left)) (list-walks q h (c .before .before .before .before .chase-actor .ensures)))
+returns-2 c = λ e p. let q = passed-book p in let h = c .before .before .before .before .before .before .before .has-actor .ensures in c .before .before .hand-walk .ensures _ (list-says q h (not-false _ (c .before .before .before .before .before .before .if1 .left)) (list-walks q h (c .before .before .before .before .chase-actor .ensures)))
 
 pub list-passed-spec : {M : Type 1} → statement M
 list-passed-spec =
@@ -58,7 +55,6 @@ list-passed-spec =
     sub-chase-actor
     part-chase-actor-start
     part-chase-actor-end
-    slice-aggregate-chase-actor
     chase-actor-requires
     hand-walk-requires
     same-length

@@ -59,9 +59,6 @@ add-chase-2 c =
     let s = c .before .before .before .before .before .before .before .before .before .before .before .pre .0 in
     omega (arith, here-small (s .rooted) (s .nodes .service _ (c .before .before .if2 .taken) .0) (ap (λ (q : Row). q .size) (c .before .at .ensures)))
 
-add-chase-3 : tie.Need-add-chase-3 Inv-loop μ-loop
-add-chase-3 c = omega (arith, c .before .before .before .before .before .before .before .before .before .before .before .pre .1 .few)
-
 chase-requires : tie.Need-chase-requires Inv-loop μ-loop
 chase-requires c κs =
     let s = c .before .before .before .before .before .before .before .before .before .before .before .pre in
@@ -98,7 +95,6 @@ chase-actor-spec =
     at-requires
     add-chase
     add-chase-2
-    add-chase-3
     chase-requires
     add-k
     loop-less

@@ -7,9 +7,6 @@ use Rattle.analysis.proofs.chase.chase_types.Lts as lts
 use Rattle.analysis.proofs.chase.chase.Reads as chase-reads
 use Rattle.analysis.proofs.chase.fresh.Reads as fresh-reads
 
-add-chase : tie.Need-add-chase
-add-chase c = search needs
-
 fresh-requires : tie.Need-fresh-requires
 fresh-requires c κs = search needs
 
@@ -20,4 +17,4 @@ returns : tie.Need-returns
 returns c = fresh-chased (c .before .before .before .before .pre .1) _ _ _ _ (c .before .fresh .ensures) (c .chase .ensures)
 
 pub chase-types-spec : {M : Type 1} → statement M
-chase-types-spec = tie.close (tie.spec add-chase fresh-requires chase-requires returns)
+chase-types-spec = tie.close (tie.spec fresh-requires chase-requires returns)

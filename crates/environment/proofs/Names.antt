@@ -1,0 +1,273 @@
+-- The end of a name's chain, found at the names that the chain crosses. Assumes nothing.
+--     to-name, name-next                  a type that is a name has that name's end
+--     Follows, follow-start, ..           the loop that follows a name's chain as far as a name whose end is known
+--     Notes, note-start, ..               the loop that writes the end down for the names on it
+use mathlib.Core.Path.{_≡_, refl, sym, ap, subst, _∙_}
+use mathlib.Core.Logic.{⊎-elim, inl, inr}
+use mathlib.Core.Bool.{cond}
+use mathlib.Core.List.{List, [], _∷_}
+use Prim.Native.Nat.{ℕ, zero, suc, _+_, _-_, _≤_, _<_}
+use native.Mathlib.Decide.{ℕ-discrete}
+use native.Mathlib.Omega.{arith}
+use borrow.Author.Tests.{ne-eqb}
+use lib.Dec.{eqb}
+use lib.ListN.{length, getD, set, length-set}
+use lib.Seq.{getD-set-same, getD-set-other}
+use Rattle.format.specs.Forest.{Forest, end, tree}
+use Rattle.format.specs.Node.{VarT, unlabelled, Node}
+use Rattle.format.specs.Book.{Definition}
+use Rattle.format.specs.Encode.{Row}
+use Rattle.format.specs.Layout.{rowAt}
+use Rattle.format.specs.Whole.{Within, treeAt}
+use Rattle.judgement.specs.Environment.{Found, missing, body, findType, named, other, headKind, head, unbound, circle, ends, link, chainFrom, chain, aliasEnd}
+use Rattle.judgement.proofs.Chains.{crosses, outcome, run-end}
+use Rattle.environment.specs.Tables.{Nodes, Roots, Binds, nameEnd, EndAt, EndKnown, FollowedAs, Unfinished, NotedAs}
+use Rattle.environment.proofs.Links.{chain-other, chain-unbound, chain-circle, chain-on, head-var, head-other, found-none, found-some, getD-within, in-table}
+
+module _ (ds : List Definition) where
+  -- a chain that never ends does not end where it crosses fewer names
+  never-sooner : (k : ℕ) (u : Forest Node) → aliasEnd ds u ≡ circle → chainFrom k ds u .last ≡ circle
+  never-sooner k u c = ⊎-elim (λ r. sym (run-end ds r) ∙ c) (λ p. p .0) (outcome ds k u .either)
+
+  -- ---- a type that is a name
+  module _ (t : Forest Node) (n : ℕ) (h : head t ≡ named n) where
+    never-on : (u : Forest Node) → findType ds n ≡ body u → aliasEnd ds u ≡ circle → (k : ℕ) → chainFrom k ds t .last ≡ circle
+    never-on u f c zero = chain-circle ds t n h u f
+    never-on u f c (suc k) = chain-on ds t n h u (suc k) f (omega arith) ∙ never-sooner (suc k - 1) u c
+
+    goes-on : (u : Forest Node) → findType ds n ≡ body u → aliasEnd ds t ≡ aliasEnd ds u
+    unfolding aliasEnd chain
+    goes-on u f =
+        elim (outcome ds (length ds) u .either) [
+          | inl r ↦ run-end ds (crosses {u = u} (record { is-name = h; is-type = f }) r)
+          | inr p ↦ never-on u f (p .0) (length ds) ∙ sym (p .0)
+        ]
+
+    by-found : (f : Found) → findType ds n ≡ f → aliasEnd ds t ≡ nameEnd ds n f
+    unfolding nameEnd aliasEnd chain
+    by-found missing f = chain-unbound ds t n h (length ds) f
+    by-found (body u) f = goes-on u f
+
+    pub to-name : aliasEnd ds t ≡ nameEnd ds n (findType ds n)
+    to-name = by-found (findType ds n) refl
+
+  -- ---- a name by its definition
+  name-missing : (n : ℕ) → findType ds n ≡ missing → nameEnd ds n (findType ds n) ≡ unbound n
+  unfolding nameEnd
+  name-missing n f = rw f
+
+  name-body : (n : ℕ) (u : Forest Node) → findType ds n ≡ body u → nameEnd ds n (findType ds n) ≡ aliasEnd ds u
+  unfolding nameEnd
+  name-body n u f = rw f
+
+  name-next : (n m : ℕ) (u : Forest Node) → findType ds n ≡ body u → head u ≡ named m → nameEnd ds n (findType ds n) ≡ nameEnd ds m (findType ds m)
+  name-next n m u f h = name-body n u f ∙ to-name u m h
+
+  name-stops : (n : ℕ) (u : Forest Node) → findType ds n ≡ body u → head u ≡ other → nameEnd ds n (findType ds n) ≡ ends u
+  unfolding aliasEnd chain
+  name-stops n u f h = name-body n u f ∙ chain-other ds u (length ds) h
+
+-- ---- a type that is a name and no more
+abbrev nameTree : ℕ → Forest Node
+nameTree n = tree (record { kind = VarT n; label = unlabelled }) end end
+
+is-named : (n : ℕ) → head (nameTree n) ≡ named n
+unfolding head headKind
+is-named n = refl
+
+same-chain : (ds : List Definition) (t : Forest Node) (n : ℕ) → head t ≡ named n → (k : ℕ) → chainFrom k ds t .last ≡ chainFrom k ds (nameTree n) .last
+unfolding chainFrom link head headKind
+same-chain ds t n h zero = rw h
+same-chain ds t n h (suc k) = rw h
+
+name-end : (ds : List Definition) (n : ℕ) → nameEnd ds n (findType ds n) ≡ chainFrom (length ds) ds (nameTree n) .last
+unfolding aliasEnd chain
+name-end ds n = sym (to-name ds (nameTree n) n (is-named n))
+
+-- ---- following: what is left of the chain, from name m on, ends where all of it does
+pub record Follows (ns roots : List ℕ) (names definitions n m k : ℕ) : Type 0 where
+  pub inside : m < names
+  pub fuel : (ds : List Definition) → Binds ns roots ds → chainFrom k ds (nameTree m) .last ≡ chainFrom definitions ds (nameTree n) .last
+  pub same : (ds : List Definition) → Binds ns roots ds → nameEnd ds m (findType ds m) ≡ nameEnd ds n (findType ds n)
+
+pub follow-start : (ns roots : List ℕ) (names definitions n : ℕ) → n < names → Follows ns roots names definitions n n definitions
+follow-start ns roots names definitions n h = record { inside = h; fuel = λ ds b. refl; same = λ ds b. refl }
+
+-- an end that is known of a later name
+known-same : {ns roots : List ℕ} {count n m e : ℕ} → EndKnown ns roots count m e →
+    ((ds : List Definition) → Binds ns roots ds → nameEnd ds m (findType ds m) ≡ nameEnd ds n (findType ds n)) → EndKnown ns roots count n e
+known-same {ns} {e = e} q s = record { node = q .node; is = λ ds b. subst (EndAt ns e) (s ds b) (q .is ds b) }
+
+-- the marker is no end
+known-no-marker : {ns roots : List ℕ} {count n e : ℕ} → count ≤ 4096 → EndKnown ns roots count n e → e ≡ 65534 → ⊥
+known-no-marker few q e = let z = q .node (λ i. let f : ⊥ = omega arith in f) in omega arith
+
+-- a name without definition
+pub none-known : {ns roots : List ℕ} {count n : ℕ} → getD roots n 65535 ≡ 65535 → EndKnown ns roots count n 65535
+none-known {ns} {roots} {n = n} e =
+    record {
+      node = λ h. absurd (h refl);
+      is = λ ds b. subst (EndAt ns 65535) (sym (name-missing ds n (b n ∙ found-none ns (getD roots n 65535) e))) refl;
+    }
+
+-- what is read of the tables
+module _ {ns : List ℕ} {names count : ℕ} (x : Nodes ns names count) {m : ℕ} (inside : m < names) where
+  pub name-small : m < 1024
+  name-small = omega (arith, x .fewNames)
+
+  module _ {roots ends′ : List ℕ} (u : Unfinished ns roots names count ends′) where
+    in-ends : getD ends′ m 0 ≡ getD ends′ m 65535
+    in-ends = getD-within ends′ m 0 65535 (omega (arith, name-small, u .long))
+
+    pub open-bound : getD ends′ m 0 ≡ 65534 → getD roots m 65535 ≡ 65535 → ⊥
+    open-bound h = u .bound m inside (sym in-ends ∙ h)
+
+-- the definition of a name
+module _ {ns roots : List ℕ} {names count : ℕ} (x : Nodes ns names count) (y : Roots roots count) {m : ℕ} (inside : m < names)
+    (some : getD roots m 65535 ≡ 65535 → ⊥) where
+  in-roots : getD roots m 0 ≡ getD roots m 65535
+  in-roots = in-table y (name-small x inside)
+
+  root-inside : getD roots m 0 < count
+  root-inside = rw in-roots (y .node m some)
+
+  pub root-within : Within ns (getD roots m 0 + 1)
+  root-within = record { held = omega (arith, x .within .held, root-inside); few = x .within .few }
+
+  root-body : (ds : List Definition) → Binds ns roots ds → findType ds m ≡ body (treeAt ns (getD roots m 0))
+  root-body ds b = b m ∙ found-some ns (getD roots m 65535) some ∙ ap (λ (i : ℕ). body (treeAt ns i)) (sym in-roots)
+
+  module _ (r : Row) (is : r ≡ rowAt ns (getD roots m 0)) where
+    type-known : (r .kind ≡ 18 → ⊥) → EndKnown ns roots count m (getD roots m 0)
+    type-known k =
+        let t = treeAt ns (getD roots m 0) in
+        record {
+          node = λ h. root-inside;
+          is = λ ds b.
+              subst (EndAt ns (getD roots m 0)) (sym (name-stops ds m t (root-body ds b) (head-other (x .tree (getD roots m 0) root-inside .whole) r is k)))
+              (λ e. some (sym in-roots ∙ e), refl);
+        }
+
+    module _ (k : r .kind ≡ 18) where
+      pub next-inside : r .value < names
+      next-inside = rw is (x .row (getD roots m 0) root-inside .name (ap (λ (q : Row). q .kind) (sym is) ∙ k))
+
+      next-head : head (treeAt ns (getD roots m 0)) ≡ named (r .value)
+      next-head = head-var (x .tree (getD roots m 0) root-inside .whole) r is k
+
+      next-same : (ds : List Definition) → Binds ns roots ds → nameEnd ds m (findType ds m) ≡ nameEnd ds (r .value) (findType ds (r .value))
+      next-same ds b = name-next ds m (r .value) (treeAt ns (getD roots m 0)) (root-body ds b) next-head
+
+-- of a chain that ends
+found : {ns roots : List ℕ} {count definitions n e : ℕ} → count ≤ 4096 → EndKnown ns roots count n e → FollowedAs ns roots count definitions n e
+found few q = record { never = λ e. absurd (known-no-marker few q e); known = λ h. q }
+
+module _ {ns roots : List ℕ} {names count definitions n m k : ℕ} (x : Nodes ns names count) (y : Roots roots count)
+    {ends′ : List ℕ} (u : Unfinished ns roots names count ends′) (l : Follows ns roots names definitions n m k) where
+  pub follow-known : (getD ends′ m 0 ≡ 65534 → ⊥) → FollowedAs ns roots count definitions n (getD ends′ m 0)
+  follow-known h = let i = in-ends x (l .inside) u in found (x .fewNodes) (known-same (rw i (u .known m (l .inside) (λ z. h (i ∙ z)))) (l .same))
+
+  module _ (h : getD ends′ m 0 ≡ 65534) where
+    some′ : getD roots m 65535 ≡ 65535 → ⊥
+    some′ = open-bound x (l .inside) u h
+
+    pub follow-never : k ≡ 0 → FollowedAs ns roots count definitions n 65534
+    follow-never z =
+        record {
+          never = λ e ds b s.
+              name-end ds n ∙ ap (λ (i : ℕ). chainFrom i ds (nameTree n) .last) s ∙ sym (l .fuel ds b) ∙ ap (λ (i : ℕ). chainFrom i ds (nameTree m) .last) z
+              ∙ chain-circle ds (nameTree m) m (is-named m) (treeAt ns (getD roots m 0)) (root-body x y (l .inside) some′ ds b);
+          known = λ i. absurd (i refl);
+        }
+
+    module _ (r : Row) (is : r ≡ rowAt ns (getD roots m 0)) where
+      pub follow-ends : (r .kind ≡ 18 → ⊥) → FollowedAs ns roots count definitions n (getD roots m 0)
+      follow-ends i = found (x .fewNodes) (known-same (type-known x y (l .inside) some′ r is i) (l .same))
+
+      pub follow-on : r .kind ≡ 18 → (k ≡ 0 → ⊥) → Follows ns roots names definitions n (r .value) (k - 1)
+      follow-on i z =
+          let t = treeAt ns (getD roots m 0) in
+          record {
+            inside = next-inside x y (l .inside) some′ r is i;
+            fuel = λ ds b.
+                sym (same-chain ds t (r .value) (next-head x y (l .inside) some′ r is i) (k - 1))
+                ∙ sym (chain-on ds (nameTree m) m (is-named m) t k (root-body x y (l .inside) some′ ds b) (omega arith))
+                ∙ l .fuel ds b;
+            same = λ ds b. sym (next-same x y (l .inside) some′ r is i ds b) ∙ l .same ds b;
+          }
+
+-- ---- writing down: how many ends are not known yet
+unfoldable pub toFind : List ℕ → ℕ
+toFind [] = 0
+toFind (x ∷ xs) = cond (eqb x 65534) 1 0 + toFind xs
+
+to-find-less : (l : List ℕ) (n e : ℕ) → n < length l → getD l n 65535 ≡ 65534 → (e ≡ 65534 → ⊥) → toFind (set l n e) < toFind l
+unfolding toFind
+to-find-less [] n e l i h = absurd (omega arith)
+to-find-less (x ∷ xs) zero e l i h = rw (i, ne-eqb e 65534 h) (omega arith)
+to-find-less (x ∷ xs) (suc n) e l i h = omega (arith, to-find-less xs n e (omega arith) i h)
+
+pub record Notes (ns roots : List ℕ) (names count n e : ℕ) (before now′ : List ℕ) (m : ℕ) : Type 0 where
+  pub inside : m < names
+  pub is : EndKnown ns roots count m e
+  pub table : Unfinished ns roots names count now′
+  pub kept : (j : ℕ) → (getD before j 65535 ≡ 65534 → ⊥) → getD now′ j 65535 ≡ getD before j 65535
+  pub waits : getD now′ n 65535 ≡ 65534 → n ≡ m
+
+pub note-start : {ns roots : List ℕ} {names count n e : ℕ} {before : List ℕ} → n < names → EndKnown ns roots count n e → Unfinished ns roots names count before →
+    Notes ns roots names count n e before before n
+note-start h q u = record { inside = h; is = q; table = u; kept = λ j i. refl; waits = λ i. refl }
+
+module _ {ns roots : List ℕ} {names count n e m : ℕ} {before now′ : List ℕ} (x : Nodes ns names count) (y : Roots roots count) (l : Notes ns roots names count n e before now′ m) where
+  pub note-inside : m < length now′
+  note-inside = omega (arith, name-small x (l .inside), l .table .long)
+
+  in-now : getD now′ m 0 ≡ getD now′ m 65535
+  in-now = in-ends x (l .inside) (l .table)
+
+  pub note-end : (getD now′ m 0 ≡ 65534 → ⊥) → NotedAs ns roots names count n before now′
+  note-end h = record { table = l .table; kept = l .kept; known = λ i. h (in-now ∙ ap (λ (j : ℕ). getD now′ j 65535) (sym (l .waits i)) ∙ i) }
+
+  module _ (h : getD now′ m 0 ≡ 65534) where
+    pub note-less : toFind (set now′ m e) < toFind now′
+    note-less = to-find-less now′ m e note-inside (sym in-now ∙ h) (known-no-marker (x .fewNodes) (l .is))
+
+    pub note-set : NotedAs ns roots names count n before (set now′ m e)
+    note-set =
+        record {
+          table =
+              record {
+                long = simp length-set (l .table .long);
+                bound = λ j i q. bound′ j i q (ℕ-discrete j m);
+                known = λ j i q. known′ j i q (ℕ-discrete j m);
+                beyond = λ j i. getD-set-other now′ m j e 65535 (λ z. let f : ⊥ = omega (arith, l .inside) in f) ∙ l .table .beyond j i;
+              };
+          kept = λ j i. getD-set-other now′ m j e 65535 (λ z. i (sym (l .kept j i) ∙ ap (λ (a : ℕ). getD now′ a 65535) z ∙ sym in-now ∙ h)) ∙ l .kept j i;
+          known = λ i. new i (ℕ-discrete n m);
+        }
+      where
+        here : getD (set now′ m e) m 65535 ≡ e
+        here = getD-set-same now′ m e 65535 note-inside
+
+        bound′ : (j : ℕ) → j < names → getD (set now′ m e) j 65535 ≡ 65534 → Dec (j ≡ m) → getD roots j 65535 ≡ 65535 → ⊥
+        bound′ j i q (yes z) = absurd (known-no-marker (x .fewNodes) (l .is) (sym here ∙ ap (λ (a : ℕ). getD (set now′ m e) a 65535) (sym z) ∙ q))
+        bound′ j i q (no z) = l .table .bound j i (sym (getD-set-other now′ m j e 65535 z) ∙ q)
+
+        known′ : (j : ℕ) → j < names → (getD (set now′ m e) j 65535 ≡ 65534 → ⊥) → Dec (j ≡ m) → EndKnown ns roots count j (getD (set now′ m e) j 65535)
+        known′ j i q (yes z) = rw (z, here) (l .is)
+        known′ j i q (no z) = let o = getD-set-other now′ m j e 65535 z in rw o (l .table .known j i (λ a. q (o ∙ a)))
+
+        new : getD (set now′ m e) n 65535 ≡ 65534 → Dec (n ≡ m) → ⊥
+        new i (yes z) = known-no-marker (x .fewNodes) (l .is) (sym here ∙ ap (λ (a : ℕ). getD (set now′ m e) a 65535) (sym z) ∙ i)
+        new i (no z) = z (l .waits (sym (getD-set-other now′ m n e 65535 z) ∙ i))
+
+    pub note-on : (r : Row) (is : r ≡ rowAt ns (getD roots m 0)) → r .kind ≡ 18 → Notes ns roots names count n e before (set now′ m e) (r .value)
+    note-on r is k =
+        let some = open-bound x (l .inside) (l .table) h in
+        record {
+          inside = next-inside x y (l .inside) some r is k;
+          is = known-same (l .is) (next-same x y (l .inside) some r is k);
+          table = note-set .table;
+          kept = note-set .kept;
+          waits = λ i. absurd (note-set .known i);
+        }

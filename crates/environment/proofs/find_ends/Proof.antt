@@ -1,0 +1,75 @@
+-- `find_ends` meets its contract. Assumes nothing.
+use Prim.Native.Nat.{_-_}
+use mathlib.Core.Path.{sym, ap, _∙_}
+use native.Mathlib.Omega.{arith}
+use lib.ListN.{length}
+use Rattle.environment.proofs.Defines.{blank-length}
+use Rattle.environment.proofs.Ends.{EndsLeft, ends-start, ends-end, ends-circle, ends-on}
+use Rattle.environment.proofs.find_ends.Statement.{statement}
+use Rattle.environment.proofs.find_ends.Tie as tie
+use Rattle.environment.proofs.find_ends.Reads as reads
+use Rattle.environment.proofs.find_ends.Lts as lts
+use Rattle.environment.proofs.follow.Reads as follow-reads
+use Rattle.environment.proofs.note.Reads as note-reads
+use Rattle.environment.proofs.open_ends.Reads as open-ends-reads
+
+abbrev Inv-loop : tie.InvT-loop
+Inv-loop rows roots names nodes definitions ends₀ n₀ ends n = EndsLeft rows roots names nodes definitions ends n
+
+abbrev μ-loop : tie.MeasureT-loop
+μ-loop rows roots names nodes definitions ends₀ n₀ ends n = names - n
+
+open-ends-requires : tie.Need-open-ends-requires Inv-loop μ-loop
+open-ends-requires c κs = (c .before .before .before .before .pre .1 .long, c .before .before .before .before .pre .0 .fewNames, c .before .before .before .before .pre .2)
+
+loop-holds : tie.Need-loop-holds Inv-loop μ-loop
+loop-holds c = ends-start _ _ _ _ _ _ (c .before .before .open-ends .ensures)
+
+follow-requires : tie.Need-follow-requires Inv-loop μ-loop
+follow-requires c κs = (c .before .before .before .before .before .before .before .before .before .before .pre .0, c .before .before .before .before .before .before .before .before .before .before .pre .1, c .before .before .loop .inv .table, c .before .loop-test .taken)
+
+cast-result : tie.Need-cast-result Inv-loop μ-loop
+cast-result c = omega (arith, c .before .before .before .loop-test .taken, c .before .before .before .before .before .before .before .before .before .before .before .before .pre .0 .fewNames)
+
+same-length : tie.Need-same-length Inv-loop μ-loop
+same-length c = c .before .before .before .before .loop .inv .table .long ∙ sym (ap length (c .before .before .before .before .before .before .before .before .before .before .before .before .pre .2) ∙ blank-length)
+
+returns : tie.Need-returns Inv-loop μ-loop
+returns c = ends-circle (c .before .before .before .before .before .before .before .before .before .before .before .before .pre .0 .fewNames) (c .before .before .before .before .loop .inv) (c .before .before .before .loop-test .taken) _ (c .before .follow .ensures) (c .if1 .taken)
+
+note-requires : tie.Need-note-requires Inv-loop μ-loop
+note-requires c κs = (c .before .before .before .before .before .before .before .before .before .before .before .before .before .pre .0, c .before .before .before .before .before .before .before .before .before .before .before .before .before .pre .1, c .before .before .before .before .before .loop .inv .table, c .before .before .before .before .loop-test .taken, c .before .before .follow .ensures .known (c .before .if1 .left))
+
+add-n : tie.Need-add-n Inv-loop μ-loop
+add-n c = omega (arith, c .before .before .before .before .before .before .before .loop-test .taken, c .before .before .before .before .before .before .before .before .before .before .before .before .before .before .before .before .pre .0 .fewNames)
+
+loop-less : tie.Need-loop-less Inv-loop μ-loop
+loop-less c = omega (arith, c .before .before .before .before .before .before .before .loop-test .taken)
+
+loop-again : tie.Need-loop-again Inv-loop μ-loop
+loop-again c = ends-on (c .before .before .before .before .before .before .before .before .before .before .before .before .before .before .before .before .pre .0 .fewNames) (c .before .before .before .before .before .before .before .before .loop .inv) (c .before .before .before .before .before .before .before .loop-test .taken) _ (c .before .before .before .before .before .follow .ensures) (c .before .before .before .before .if1 .left) _ (c .before .before .note .ensures)
+
+same-length-2 : tie.Need-same-length-2 Inv-loop μ-loop
+same-length-2 c = c .before .loop .inv .table .long ∙ sym (ap length (c .before .before .before .before .before .before .before .before .before .pre .2) ∙ blank-length)
+
+returns-2 : tie.Need-returns-2 Inv-loop μ-loop
+returns-2 c = ends-end (c .before .before .before .before .before .before .before .before .before .pre .0 .fewNames) (c .before .loop .inv) (c .loop-test .left)
+
+pub find-ends-spec : {M : Type 1} → statement M
+find-ends-spec =
+    tie.close
+    (tie.spec
+    Inv-loop
+    μ-loop
+    open-ends-requires
+    loop-holds
+    follow-requires
+    cast-result
+    same-length
+    returns
+    note-requires
+    add-n
+    loop-less
+    loop-again
+    same-length-2
+    returns-2)
