@@ -1,5 +1,5 @@
 #!/usr/bin/env bash
-# Measures stack and time of check, init_check and list as C calls them:  c/measure.sh [SOURCE.did ..]
+# Measures stack and time of every question as C asks it:  c/measure.sh [SOURCE.did ..]
 #
 # Without a source: a small book, a full-size one, and those that take the most stack or time. It needs what c/build.sh needs.
 set -eu

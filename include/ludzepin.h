@@ -1,9 +1,9 @@
 /* Declaration books for programs in C and C++. Link target/staticlib/libexports.a, which `rt staticlib exports` writes for x86-64 Linux.
  *
  * A slice crosses as a pointer and a number of elements. Nothing is asked of a book's bytes. What a caller owes is what C cannot say:
- * that many elements are there, and `out` overlaps no book. An empty slice is never read, so its pointer may be NULL. The functions keep
- * nothing between calls, allocate nothing and call only memcpy, memmove and memset. They need stack: 1 MiB for a check, 3 MiB for a list
- * (docs/MEASURED.md), which is more than some systems give to a thread by default.
+ * that many elements are there, and `out` overlaps nothing else that is lent. An empty slice is never read, so its pointer may be NULL. The
+ * functions keep nothing between calls, allocate nothing and call only memcpy, memmove and memset. They need stack: 1 MiB is enough for
+ * each of them on every book (docs/MEASURED.md has the figures), which is more than some systems give to a thread by default.
  *
  * crates/exports/specs/Coded.antt defines the answers, crates/exports/src/lib.rt has the promises. Nothing compares this file with them
  * but c/build.sh, which tries it. */
@@ -17,14 +17,19 @@
 extern "C" {
 #endif
 
-/* The most bytes and definitions of a book; so many places are always enough for a list. */
+/* The most bytes, definitions and nodes of a book. As many places as definitions are always enough for a list, an init list, a draft list,
+ * marks and emptiness, and as many as nodes for a projection; uses may need more. */
 #define LUDZEPIN_BYTES 65536
 #define LUDZEPIN_DEFINITIONS 512
+#define LUDZEPIN_NODES 4096
 
 /* The name number of a refusal that names nothing. */
 #define LUDZEPIN_NO_NAME 65535
 
-/* Refusals: rows of document 01. 15 is of projection, which C has not. */
+/* The first number of a use by an argument of the actor's class, where others have a method's position. */
+#define LUDZEPIN_OF_CLASS 65535
+
+/* Refusals: rows of document 01. */
 enum {
     LUDZEPIN_BROKEN = 1,
     LUDZEPIN_TWICE = 2,
@@ -40,6 +45,7 @@ enum {
     LUDZEPIN_IMPORT_WITHOUT_ACTOR = 12,
     LUDZEPIN_IMPORT_NO_SERVICE = 13,
     LUDZEPIN_SAME_HASH = 14,
+    LUDZEPIN_ABSENT = 15,
     LUDZEPIN_SHORT = 16,
     LUDZEPIN_NO_ACTOR = 17
 };
@@ -52,14 +58,35 @@ uint32_t ludzepin_init_check(const uint8_t *book, size_t bytes);
  * of the check, 17, 16), with `out` as it was. */
 uint32_t ludzepin_list(const uint8_t *book, size_t bytes, uint16_t *out, size_t places);
 
+/* The same of what the init arguments lead to (a refusal of the init check, 16), and of a draft, unchecked (1, 17, 2, 3, 16). */
+uint32_t ludzepin_init_list(const uint8_t *book, size_t bytes, uint16_t *out, size_t places);
+uint32_t ludzepin_draft_list(const uint8_t *book, size_t bytes, uint16_t *out, size_t places);
+
+/* The same of names, ascending: those to be marked where the `names` definitions of `list` are laid out in this order (a refusal of the check;
+ * 3, a listed name has no definition; 16), and those that become empty (a refusal of the check, 16). */
+uint32_t ludzepin_marks(const uint8_t *book, size_t bytes, const uint16_t *list, size_t names, uint16_t *out, size_t places);
+uint32_t ludzepin_emptiness(const uint8_t *book, size_t bytes, uint16_t *out, size_t places);
+
+/* The same of positions of methods, ascending: those that take the `names` asked names (a refusal of the check, 17, 15, 16). */
+uint32_t ludzepin_project(const uint8_t *book, size_t bytes, const uint16_t *asked, size_t names, uint16_t *out, size_t places);
+
+/* The number of entries of a name's uses; each is three numbers of `out`: a method's position or LUDZEPIN_OF_CLASS, 0 for an argument and 1
+ * for a result, an index. The other numbers are as they were. Or a refusal (those of the check, 17, 16), with `out` as it was. */
+uint64_t ludzepin_uses(const uint8_t *book, size_t bytes, uint16_t name, uint16_t *out, size_t numbers);
+
 /* The refusal in an answer, 0 if it is none. */
 static inline uint32_t ludzepin_refusal(uint32_t answer) { return answer >> 16; }
 
 /* The name number of a refusal other than LUDZEPIN_SHORT: a place in the book's table of names, or LUDZEPIN_NO_NAME. */
 static inline uint32_t ludzepin_name(uint32_t answer) { return answer & 65535; }
 
-/* The entries of a list: those given if it is no refusal, those needed if it is LUDZEPIN_SHORT. */
+/* The entries: those given if it is no refusal, those needed if it is LUDZEPIN_SHORT. */
 static inline uint32_t ludzepin_entries(uint32_t answer) { return answer & 65535; }
+
+/* The same of an answer of ludzepin_uses. */
+static inline uint32_t ludzepin_uses_refusal(uint64_t answer) { return (uint32_t)(answer >> 32); }
+static inline uint32_t ludzepin_uses_name(uint64_t answer) { return (uint32_t)answer; }
+static inline uint32_t ludzepin_uses_entries(uint64_t answer) { return (uint32_t)answer; }
 
 #ifdef __cplusplus
 }

@@ -1,11 +1,15 @@
 -- Verdicts and answers as one number each. Definitions; assumes nothing.
 use mathlib.Core.Bool.{cond}
+use mathlib.Core.List.{List}
 use Prim.Native.Nat.{ℕ, _+_, _*_, _<_}
 use lib.Dec.{eqb}
 use Rattle.book.specs.declared.refusal.Refusal.{Refusal}
 use Rattle.book.specs.declared.refusal.Verdict.{Verdict}
 use Rattle.book.specs.declared.refusal.Verdict.the-variants.{Passed, Refused}
 use Rattle.book.specs.Refusal.{numberOf, nameOf, neededOf}
+use Rattle.format.specs.Book.{Book}
+use Rattle.format.specs.Layout.{layout}
+use Rattle.listing.specs.Questions.{Outcome, fit, onLayout}
 use Rattle.analysis.specs.declared.hand.Answer.{Answer}
 use Rattle.analysis.specs.declared.hand.Answer.the-variants.{Given, Refused as RefusedAnswer}
 
@@ -18,12 +22,29 @@ coded (Refused r) = numberOf r * 65536 + nameOf r
 unfoldable pub lowOf : Refusal → ℕ
 lowOf r = cond (eqb (numberOf r) 16) (neededOf r) (nameOf r)
 
--- The number of entries; or the refusal's row in the high 16 bits.
-unfoldable pub codedAnswer : Answer → ℕ
-codedAnswer (Given n) = n
-codedAnswer (RefusedAnswer r) = numberOf r * 65536 + lowOf r
+-- The number of entries; or the refusal's row times a unit that is above entries and names alike, and the low bits.
+unfoldable pub codedBy : ℕ → Answer → ℕ
+codedBy unit (Given n) = n
+codedBy unit (RefusedAnswer r) = numberOf r * unit + lowOf r
 
--- Entries that are given, or needed, and fit 16 bits.
-abbrev pub Small : Answer → Type 0
-Small (Given n) = n < 65536
-Small (RefusedAnswer r) = neededOf r < 65536
+-- Entries that are given, or needed, are below it.
+abbrev pub Below : ℕ → Answer → Type 0
+Below unit (Given n) = n < unit
+Below unit (RefusedAnswer r) = neededOf r < unit
+
+-- In 32 bits, of which a refusal's row takes the high 16; and in 64 for uses, of which a book may have 4,186,116.
+abbrev pub small : ℕ
+small = 65536
+
+abbrev pub wide : ℕ
+wide = 4294967296
+
+abbrev pub codedAnswer : Answer → ℕ
+codedAnswer a = codedBy small a
+
+abbrev pub codedUses : Answer → ℕ
+codedUses a = codedBy wide a
+
+-- What a question is answered on bytes, with so many places.
+abbrev pub onBytes : {A : Type 0} → (Book → Outcome (List A)) → List ℕ → ℕ → Outcome (List A)
+onBytes question bs places = fit places (onLayout question (layout bs))

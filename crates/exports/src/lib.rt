@@ -1,13 +1,13 @@
 // What programs in other languages link: `#[no_mangle] pub extern "C"` functions over byte slices, with numbers for answers.
 ghost use mathlib.Core.Path.{_≡_};
-ghost use Prim.Native.Nat.{_<_};
+ghost use Prim.Native.Nat.{_<_, _/_};
 ghost use lib.ListN.{length};
-ghost use Rattle.format.specs.Layout.{layout};
 ghost use Rattle.book.specs.Refusal.{neededOf};
 ghost use Rattle.judgement.specs.Check.{checkBytes, initCheckBytes};
-ghost use Rattle.listing.specs.Questions.{list, fit, onLayout};
+ghost use Rattle.listing.specs.Questions.{list, initList, draftList, marksOver, uses, project, emptiness};
 ghost use Rattle.analysis.specs.Handed.{answerOf, leftIn};
-ghost use Rattle.exports.specs.Coded.{coded, lowOf, codedAnswer, Small};
+ghost use Rattle.questions.specs.Uses.{usesIn};
+ghost use Rattle.exports.specs.Coded.{coded, lowOf, codedAnswer, codedUses, Below, small, wide, onBytes};
 use analysis::hand::Answer;
 use book::refusal::Refusal;
 use book::refusal::Verdict;
@@ -51,7 +51,7 @@ fn low(why: Refusal) -> u32
 
 // An answer as one number.
 fn answer_code(a: Answer) -> u32
-    requires { ⌜ Small a ⌝ }
+    requires { ⌜ Below small a ⌝ }
     ensures { λ r. ⌜ r ≡ codedAnswer a ⌝ }
 {
     match a {
@@ -60,11 +60,81 @@ fn answer_code(a: Answer) -> u32
     }
 }
 
+// The same for uses. What is asked keeps entries apart from refusals.
+fn uses_code(a: Answer) -> u64
+    requires { ⌜ Below wide a ⌝ }
+    ensures { λ r. ⌜ r ≡ codedUses a ⌝ }
+{
+    match a {
+        Answer::Given(n) => n as u64,
+        Answer::Refused(why) => why.number() as u64 * 4294967296 + low(why) as u64,
+    }
+}
+
 // The definition list of a book, into a lent list of name numbers; 512 places are always enough.
 #[no_mangle]
 pub extern "C" fn ludzepin_list(book: &[u8], out: &mut [u16]) -> u32
-    ensures answer { λ r. ⌜ r ≡ codedAnswer (answerOf (fit (length (now (out .entry))) (onLayout list (layout (now (book .entry)))))) ⌝ }
-    ensures left { λ _. ⌜ now (out .exit) ≡ leftIn (fit (length (now (out .entry))) (onLayout list (layout (now (book .entry))))) (now (out .entry)) ⌝ }
+    ensures answer { λ r. ⌜ r ≡ codedAnswer (answerOf (onBytes list (now (book .entry)) (length (now (out .entry))))) ⌝ }
+    ensures left { λ _. ⌜ now (out .exit) ≡ leftIn (onBytes list (now (book .entry)) (length (now (out .entry)))) (now (out .entry)) ⌝ }
 {
     answer_code(questions::list(book, out))
+}
+
+// The definition list of its init arguments; 512 places are always enough.
+#[no_mangle]
+pub extern "C" fn ludzepin_init_list(book: &[u8], out: &mut [u16]) -> u32
+    ensures answer { λ r. ⌜ r ≡ codedAnswer (answerOf (onBytes initList (now (book .entry)) (length (now (out .entry))))) ⌝ }
+    ensures left { λ _. ⌜ now (out .exit) ≡ leftIn (onBytes initList (now (book .entry)) (length (now (out .entry)))) (now (out .entry)) ⌝ }
+{
+    answer_code(questions::init_list(book, out))
+}
+
+// The definition list of a draft; 512 places are always enough.
+#[no_mangle]
+pub extern "C" fn ludzepin_draft_list(book: &[u8], out: &mut [u16]) -> u32
+    ensures answer { λ r. ⌜ r ≡ codedAnswer (answerOf (onBytes draftList (now (book .entry)) (length (now (out .entry))))) ⌝ }
+    ensures left { λ _. ⌜ now (out .exit) ≡ leftIn (onBytes draftList (now (book .entry)) (length (now (out .entry)))) (now (out .entry)) ⌝ }
+{
+    answer_code(questions::draft_list(book, out))
+}
+
+// The names to be marked where these definitions are laid out in this order; 512 places are always enough.
+#[no_mangle]
+pub extern "C" fn ludzepin_marks(book: &[u8], list: &[u16], out: &mut [u16]) -> u32
+    ensures answer { λ r. ⌜ r ≡
+        codedAnswer (answerOf (onBytes (λ b. marksOver b (now (list .entry))) (now (book .entry)) (length (now (out .entry))))) ⌝ }
+    ensures left { λ _. ⌜ now (out .exit) ≡
+        leftIn (onBytes (λ b. marksOver b (now (list .entry))) (now (book .entry)) (length (now (out .entry)))) (now (out .entry)) ⌝ }
+{
+    answer_code(questions::marks(book, list, out))
+}
+
+// The names that become empty; 512 places are always enough.
+#[no_mangle]
+pub extern "C" fn ludzepin_emptiness(book: &[u8], out: &mut [u16]) -> u32
+    ensures answer { λ r. ⌜ r ≡ codedAnswer (answerOf (onBytes emptiness (now (book .entry)) (length (now (out .entry))))) ⌝ }
+    ensures left { λ _. ⌜ now (out .exit) ≡ leftIn (onBytes emptiness (now (book .entry)) (length (now (out .entry)))) (now (out .entry)) ⌝ }
+{
+    answer_code(questions::emptiness(book, out))
+}
+
+// The positions of the asked methods; 4,096 places are always enough.
+#[no_mangle]
+pub extern "C" fn ludzepin_project(book: &[u8], asked: &[u16], out: &mut [u16]) -> u32
+    ensures answer { λ r. ⌜ r ≡
+        codedAnswer (answerOf (onBytes (λ b. project b (now (asked .entry))) (now (book .entry)) (length (now (out .entry))))) ⌝ }
+    ensures left { λ _. ⌜ now (out .exit) ≡
+        leftIn (onBytes (λ b. project b (now (asked .entry))) (now (book .entry)) (length (now (out .entry)))) (now (out .entry)) ⌝ }
+{
+    answer_code(questions::project(book, asked, out))
+}
+
+// The uses of a name, three numbers for each entry; the answer counts entries.
+#[no_mangle]
+pub extern "C" fn ludzepin_uses(book: &[u8], name: u16, out: &mut [u16]) -> u64
+    ensures answer { λ r. ⌜ r ≡ codedUses (answerOf (onBytes (λ b. uses b name) (now (book .entry)) (length (now (out .entry)) / 3))) ⌝ }
+    ensures left { λ _. ⌜ now (out .exit) ≡
+        usesIn (onBytes (λ b. uses b name) (now (book .entry)) (length (now (out .entry)) / 3)) (now (out .entry)) ⌝ }
+{
+    uses_code(questions::uses(book, name, out))
 }

@@ -1,7 +1,7 @@
 -- `answer_code` meets its contract. Assumes nothing.
 use mathlib.Core.Path.{subst}
 use native.Mathlib.Omega.{arith}
-use Rattle.exports.specs.Coded.{Small}
+use Rattle.exports.specs.Coded.{Below, small}
 use Rattle.exports.proofs.Codes.{given-code, answer-refused}
 use borrow.Author.Needs.{needs}
 use Rattle.exports.proofs.answer_code.Statement.{statement}
@@ -15,7 +15,7 @@ enum-known-a : tie.Need-enum-known-a
 enum-known-a c = search needs
 
 cast-result : tie.Need-cast-result
-cast-result c = omega (arith, subst Small (c .before .a .given .1) (c .before .before .before .pre))
+cast-result c = omega (arith, subst (Below small) (c .before .a .given .1) (c .before .before .before .pre))
 
 enum-known-a-2 : tie.Need-enum-known-a-2
 enum-known-a-2 c = search needs
@@ -33,13 +33,13 @@ low-requires : tie.Need-low-requires
 low-requires c κs = search needs
 
 add-result : tie.Need-add-result
-add-result c = let h = c .low .ensures .1 (subst Small (c .before .before .before .a2 .given .1) (c .before .before .before .before .before .pre)) in search needs
+add-result c = let h = c .low .ensures .1 (subst (Below small) (c .before .before .before .a2 .given .1) (c .before .before .before .before .before .pre)) in search needs
 
 returns : tie.Need-returns
-returns c = given-code (c .before .a .given .1)
+returns c = given-code 65536 (c .before .a .given .1)
 
 returns-2 : tie.Need-returns-2
-returns-2 c = answer-refused (c .before .before .before .a2 .given .1) (c .before .number .ensures) (c .low .ensures .0)
+returns-2 c = answer-refused 65536 (c .before .before .before .a2 .given .1) (c .before .number .ensures) (c .low .ensures .0)
 
 pub answer-code-spec : {M : Type 1} → statement M
 answer-code-spec =

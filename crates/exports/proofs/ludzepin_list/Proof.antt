@@ -1,7 +1,8 @@
 -- `ludzepin_list` meets its contract. Assumes nothing.
 use mathlib.Core.Path.{sym, ap, subst, _∙_}
-use Rattle.exports.specs.Coded.{codedAnswer, Small}
-use Rattle.exports.proofs.Codes.{list-small}
+use lib.ListN.{length}
+use Rattle.exports.specs.Coded.{codedAnswer, Below, small}
+use Rattle.exports.proofs.Small.{list-small}
 use borrow.Author.Needs.{needs}
 use Rattle.exports.proofs.ludzepin_list.Statement.{statement}
 use Rattle.exports.proofs.ludzepin_list.Tie as tie
@@ -14,13 +15,15 @@ list-requires : tie.Need-list-requires
 list-requires c κs = search needs
 
 answer-code-requires : tie.Need-answer-code-requires
-answer-code-requires c κs = subst Small (sym (c .before .before .list .ensures .answer)) (list-small (c .before .before .before .before .before .before .args .book .now) (c .before .before .before .before .before .before .args .out .now))
+answer-code-requires c κs =
+    let start = c .before .before .before .before .before .before .args in
+    subst (Below small) (sym (c .before .before .list .ensures .answer)) (list-small (start .book .now) (length (start .out .now)))
 
 same-length : tie.Need-same-length
 same-length c = search needs
 
 returns : tie.Need-returns
-returns c = (c .answer-code .ensures ∙ ap codedAnswer (c .before .before .before .list .ensures .answer), c .before .before .before .list .ensures .left)
+returns c = let said = c .before .before .before .list .ensures in (c .answer-code .ensures ∙ ap codedAnswer (said .answer), said .left)
 
 pub ludzepin-list-spec : {M : Type 1} → statement M
 ludzepin-list-spec = tie.close (tie.spec list-requires answer-code-requires same-length returns)

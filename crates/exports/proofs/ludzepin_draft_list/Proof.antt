@@ -1,0 +1,29 @@
+-- `ludzepin_draft_list` meets its contract. Assumes nothing.
+use mathlib.Core.Path.{sym, ap, subst, _∙_}
+use lib.ListN.{length}
+use Rattle.exports.specs.Coded.{codedAnswer, Below, small}
+use Rattle.exports.proofs.Small.{draft-small}
+use borrow.Author.Needs.{needs}
+use Rattle.exports.proofs.ludzepin_draft_list.Statement.{statement}
+use Rattle.exports.proofs.ludzepin_draft_list.Tie as tie
+use Rattle.exports.proofs.ludzepin_draft_list.Reads as reads
+use Rattle.exports.proofs.ludzepin_draft_list.Lts as lts
+use Rattle.exports.proofs.answer_code.Reads as answer-code-reads
+use Rattle.questions.proofs.draft_list.Reads as draft-list-reads
+
+draft-list-requires : tie.Need-draft-list-requires
+draft-list-requires c κs = search needs
+
+answer-code-requires : tie.Need-answer-code-requires
+answer-code-requires c κs =
+    let start = c .before .before .before .before .before .before .args in
+    subst (Below small) (sym (c .before .before .draft-list .ensures .answer)) (draft-small (start .book .now) (length (start .out .now)))
+
+same-length : tie.Need-same-length
+same-length c = search needs
+
+returns : tie.Need-returns
+returns c = let said = c .before .before .before .draft-list .ensures in (c .answer-code .ensures ∙ ap codedAnswer (said .answer), said .left)
+
+pub ludzepin-draft-list-spec : {M : Type 1} → statement M
+ludzepin-draft-list-spec = tie.close (tie.spec draft-list-requires answer-code-requires same-length returns)

@@ -1,0 +1,30 @@
+-- `ludzepin_marks` meets its contract. Assumes nothing.
+use mathlib.Core.Path.{sym, ap, subst, _∙_}
+use lib.ListN.{length}
+use Rattle.exports.specs.Coded.{codedAnswer, Below, small}
+use Rattle.exports.proofs.Small.{marks-small}
+use borrow.Author.Needs.{needs}
+use Rattle.exports.proofs.ludzepin_marks.Statement.{statement}
+use Rattle.exports.proofs.ludzepin_marks.Tie as tie
+use Rattle.exports.proofs.ludzepin_marks.Reads as reads
+use Rattle.exports.proofs.ludzepin_marks.Lts as lts
+use Rattle.exports.proofs.answer_code.Reads as answer-code-reads
+use Rattle.questions.proofs.marks.Reads as marks-reads
+
+marks-requires : tie.Need-marks-requires
+marks-requires c κs = search needs
+
+answer-code-requires : tie.Need-answer-code-requires
+answer-code-requires c κs =
+    let start = c .before .before .before .before .before .before .before .args in
+    subst (Below small) (sym (c .before .before .marks .ensures .answer))
+    (marks-small (start .book .now) (length (start .out .now)) (start .list .now))
+
+same-length : tie.Need-same-length
+same-length c = search needs
+
+returns : tie.Need-returns
+returns c = let said = c .before .before .before .marks .ensures in (c .answer-code .ensures ∙ ap codedAnswer (said .answer), said .left)
+
+pub ludzepin-marks-spec : {M : Type 1} → statement M
+ludzepin-marks-spec = tie.close (tie.spec marks-requires answer-code-requires same-length returns)

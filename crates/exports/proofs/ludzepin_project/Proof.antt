@@ -1,0 +1,30 @@
+-- `ludzepin_project` meets its contract. Assumes nothing.
+use mathlib.Core.Path.{sym, ap, subst, _∙_}
+use lib.ListN.{length}
+use Rattle.exports.specs.Coded.{codedAnswer, Below, small}
+use Rattle.exports.proofs.Small.{project-small}
+use borrow.Author.Needs.{needs}
+use Rattle.exports.proofs.ludzepin_project.Statement.{statement}
+use Rattle.exports.proofs.ludzepin_project.Tie as tie
+use Rattle.exports.proofs.ludzepin_project.Reads as reads
+use Rattle.exports.proofs.ludzepin_project.Lts as lts
+use Rattle.exports.proofs.answer_code.Reads as answer-code-reads
+use Rattle.questions.proofs.project.Reads as project-reads
+
+project-requires : tie.Need-project-requires
+project-requires c κs = search needs
+
+answer-code-requires : tie.Need-answer-code-requires
+answer-code-requires c κs =
+    let start = c .before .before .before .before .before .before .before .args in
+    subst (Below small) (sym (c .before .before .project .ensures .answer))
+    (project-small (start .book .now) (length (start .out .now)) (start .asked .now))
+
+same-length : tie.Need-same-length
+same-length c = search needs
+
+returns : tie.Need-returns
+returns c = let said = c .before .before .before .project .ensures in (c .answer-code .ensures ∙ ap codedAnswer (said .answer), said .left)
+
+pub ludzepin-project-spec : {M : Type 1} → statement M
+ludzepin-project-spec = tie.close (tie.spec project-requires answer-code-requires same-length returns)

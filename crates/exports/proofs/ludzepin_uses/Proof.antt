@@ -1,0 +1,30 @@
+-- `ludzepin_uses` meets its contract. Assumes nothing.
+use mathlib.Core.Path.{sym, ap, subst, _∙_}
+use Prim.Native.Nat.{_/_}
+use lib.ListN.{length}
+use Rattle.exports.specs.Coded.{codedUses, Below, wide}
+use Rattle.exports.proofs.Small.{uses-wide}
+use borrow.Author.Needs.{needs}
+use Rattle.exports.proofs.ludzepin_uses.Statement.{statement}
+use Rattle.exports.proofs.ludzepin_uses.Tie as tie
+use Rattle.exports.proofs.ludzepin_uses.Reads as reads
+use Rattle.exports.proofs.ludzepin_uses.Lts as lts
+use Rattle.exports.proofs.uses_code.Reads as uses-code-reads
+use Rattle.questions.proofs.uses.Reads as uses-reads
+
+uses-requires : tie.Need-uses-requires
+uses-requires c κs = search needs
+
+uses-code-requires : tie.Need-uses-code-requires
+uses-code-requires c κs =
+    let start = c .before .before .before .before .before .before .args in
+    subst (Below wide) (sym (c .before .before .uses .ensures .answer)) (uses-wide (start .book .now) (length (start .out .now) / 3) (start .name))
+
+same-length : tie.Need-same-length
+same-length c = search needs
+
+returns : tie.Need-returns
+returns c = let said = c .before .before .before .uses .ensures in (c .uses-code .ensures ∙ ap codedUses (said .answer), said .left)
+
+pub ludzepin-uses-spec : {M : Type 1} → statement M
+ludzepin-uses-spec = tie.close (tie.spec uses-requires uses-code-requires same-length returns)

@@ -1,0 +1,54 @@
+-- `uses_code` meets its contract. Assumes nothing.
+use Rattle.exports.proofs.Codes.{given-code, answer-refused}
+use borrow.Author.Needs.{needs}
+use Rattle.exports.proofs.uses_code.Statement.{statement}
+use Rattle.exports.proofs.uses_code.Tie as tie
+use Rattle.exports.proofs.uses_code.Reads as reads
+use Rattle.exports.proofs.uses_code.Lts as lts
+use Rattle.book.proofs.refusal.Refusal.number.Reads as number-reads
+use Rattle.exports.proofs.low.Reads as low-reads
+
+enum-known-a : tie.Need-enum-known-a
+enum-known-a c = search needs
+
+enum-known-a-2 : tie.Need-enum-known-a-2
+enum-known-a-2 c = search needs
+
+number-requires : tie.Need-number-requires
+number-requires c κs = search needs
+
+cast-result : tie.Need-cast-result
+cast-result c = search needs
+
+mul-result : tie.Need-mul-result
+mul-result c = search needs
+
+low-requires : tie.Need-low-requires
+low-requires c κs = search needs
+
+cast-result-2 : tie.Need-cast-result-2
+cast-result-2 c = search needs
+
+add-result : tie.Need-add-result
+add-result c = search needs
+
+returns : tie.Need-returns
+returns c = given-code 4294967296 (c .before .a .given .1)
+
+returns-2 : tie.Need-returns-2
+returns-2 c = answer-refused 4294967296 (c .before .before .before .a2 .given .1) (c .before .number .ensures) (c .low .ensures .0)
+
+pub uses-code-spec : {M : Type 1} → statement M
+uses-code-spec =
+    tie.close
+    (tie.spec
+    enum-known-a
+    enum-known-a-2
+    number-requires
+    cast-result
+    mul-result
+    low-requires
+    cast-result-2
+    add-result
+    returns
+    returns-2)
