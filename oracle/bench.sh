@@ -1,27 +1,39 @@
 #!/bin/sh
-# Times the reader's exported functions and the customer's Rust on the same books:  oracle/bench.sh [SOURCES]
+# Times and measures the reader's exported functions and the customer's Rust on the same books:  oracle/bench.sh [SOURCES]
 # `rt staticlib exports` comes before. SOURCES is as for oracle/build.sh, which is run if it was not. The oracle is compiled anew as cargo's
-# release profile does, in one unit, without the assertions that it has in comparisons. The figures, in nanoseconds, stay in
-# target/oracle/bench: books.tsv (tools/benchbooks.py; five processes, since one differs from another) and sweep.tsv (every book of
-# tests/check and tests/list that the Rust answers). tools/plot.py makes tables and docs/benchmarks.svg of them.
+# release profile does, in one unit, without the assertions that it has in comparisons; and once more with an allocator that counts, for
+# measuring alone. The figures stay in target/oracle/bench: books.tsv (nanoseconds; tools/benchbooks.py; five processes, since one differs
+# from another), sweep.tsv (every book of tests/check and tests/list that the Rust answers), measure.tsv (bytes of stack and heap; these books
+# and all of the tests) and undefined (what the library calls). tools/plot.py makes tables and docs/benchmarks.svg of them.
 set -eu
 root=$(cd "$(dirname "$0")/.." && pwd)
 out=$root/target/oracle/bench
 tree=$root/target/oracle/tree
+crates=$root/crates
 [ -d "$tree" ] || "$root/oracle/build.sh" "$@"
 mkdir -p "$out"
 export ORACLE_TREE=$tree
 compile() {
     rustc --edition 2021 -C opt-level=3 -C codegen-units=1 -L "$out" --out-dir "$out" "$@"
 }
+oracle() {
+    compile --check-cfg 'cfg(exports, counted)' --cfg exports -L "$root/target/staticlib" -l static=exports \
+        --extern anyhow --extern stacker --extern candid "$@" "$root/oracle/src/main.rs"
+}
 compile --cap-lints allow --crate-type rlib --crate-name anyhow "$root/oracle/standins/anyhow.rs"
 compile --cap-lints allow --crate-type rlib --crate-name stacker "$root/oracle/standins/stacker.rs"
 compile --cap-lints allow --crate-type rlib --crate-name candid --extern stacker "$tree/candid/lib.rs"
-compile --crate-name oracle --check-cfg 'cfg(exports)' --cfg exports -L "$root/target/staticlib" -l static=exports \
-    --extern anyhow --extern stacker --extern candid "$root/oracle/src/main.rs"
+oracle --crate-name oracle
+oracle --crate-name measure --cfg counted
 python3 "$root/tools/benchbooks.py" >"$out/books"
+python3 "$root/tools/benchbooks.py" uses >"$out/books-uses"
 for run in 1 2 3 4 5; do
-    "$out/oracle" bench 41 1000 <"$out/books" >"$out/run-$run.tsv"
+    "$out/oracle" bench 21 1000 <"$out/books" >"$out/run-$run.tsv"
+    "$out/oracle" bench-uses 7 1000 <"$out/books-uses" >"$out/uses.tsv"
+    tail -n +2 "$out/uses.tsv" >>"$out/run-$run.tsv"
 done
 (head -n 1 "$out/run-1.tsv" && tail -q -n +2 "$out"/run-?.tsv) >"$out/books.tsv"
-cat "$root/crates/check_batch/stdin" "$root/crates/answer_batch/stdin" | "$out/oracle" bench 21 20 >"$out/sweep.tsv"
+python3 "$root/tools/mkbatch.py" "$root/tests/list" "$out/books-list" /dev/null
+cat "$crates/check_batch/stdin" "$out/books-list" | "$out/oracle" bench 21 20 >"$out/sweep.tsv"
+cat "$crates/layout_batch/stdin" "$crates/check_batch/stdin" "$out/books-list" "$out/books" | "$out/measure" measure >"$out/measure.tsv"
+nm --undefined-only --format=just-symbols "$root/target/staticlib/libexports.a" | grep -v ':$' | sort -u | xargs >"$out/undefined"

@@ -44,4 +44,4 @@ if [ -f "$root/target/staticlib/libexports.a" ]; then
     exports="--cfg exports -L $root/target/staticlib -l static=exports"
 fi
 # shellcheck disable=SC2086
-compile --crate-name oracle --check-cfg 'cfg(exports)' $exports --extern anyhow --extern stacker --extern candid "$root/oracle/src/main.rs"
+compile --crate-name oracle --check-cfg 'cfg(exports, counted)' $exports --extern anyhow --extern stacker --extern candid "$root/oracle/src/main.rs"

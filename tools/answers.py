@@ -4,16 +4,28 @@ r"""Answers document 01's questions on a book, by the paper alone:  python3 tool
 This is a second reading of document 01 and of the Rust functions that it names, for the tests; tools/layout.py reads the
 bytes. It prints, one line each, what the program answer_batch prints of the book after its name:
 
+    check OUTCOME           the check
+    init-check OUTCOME      the init check
     list OUTCOME            the definition list
     marks OUTCOME           the marks over that list, over no names where it is refused
+    marks-back OUTCOME      over it from its end
+    marks-outside OUTCOME   over it and then a number outside every table
     init OUTCOME            the init list
     draft OUTCOME           the draft list
     empty OUTCOME           the names that are empty
     uses "NAME" OUTCOME     for each name of the table: its uses, METHOD.KIND.INDEX,
     project "NAME" OUTCOME  the positions of the methods projected when it is asked for once
     twice "NAME" OUTCOME    and twice
+    uses-outside OUTCOME    the uses of a number outside every table
+    project-outside OUTCOME the methods projected when it is asked for,
+    project-none OUTCOME    when nothing is asked for,
+    project-all OUTCOME     when all names are whose own projection is given, the last name first,
+    project-every OUTCOME   and when every name of the table is, the last name first
 
-OUTCOME is `given`, the number of entries and these, or `refused`, the number and the name or `-`.
+OUTCOME is `passed` of a check, `given`, the number of entries and these, or `refused`, the number and the name or `-`. After list,
+marks, init, draft, empty, uses and project-all, if entries were given, it is asked again with one place fewer than they take:
+
+    QUESTION-short needs N refused 16 -
 """
 
 import functools
@@ -29,6 +41,7 @@ NAME, OPT, VEC, RECORD, VARIANT, FUNC, SERVICE, CLASS, ARGS = range(18, 27)
 MAIN, TYPE_IMPORT, SERVICE_IMPORT, INIT = range(4)
 ONEWAY = 1
 OF_CLASS = 65535  # stands for the method in a use by an argument of the actor's class
+OUTSIDE = 1024  # the first number outside every name table
 MOST_USES = 4096  # entries in the list that answer_batch lends for uses; its other lists are long enough for all
 
 Tree = namedtuple("Tree", "kind label_kind label value kids")
@@ -37,10 +50,10 @@ File = namedtuple("File", "name role type")  # type is None without a root
 
 
 class Refused(Exception):
-    """A refusal: document 01's number, and a name number where its row has one."""
+    """A refusal: document 01's number, a name number where its row has one, and the entries needed where it is 16."""
 
-    def __init__(self, number, name=None):
-        self.number, self.name = number, name
+    def __init__(self, number, name=None, needed=None):
+        self.number, self.name, self.needed = number, name, needed
 
 
 class Book:
@@ -241,6 +254,13 @@ def init_check(book):
 
 # The questions
 
+def handed(entries, places):
+    """16: entries, if a lent list of so many places has room for them."""
+    if len(entries) > places:
+        raise Refused(16, needed=len(entries))
+    return entries
+
+
 def chase_types(env, trees):
     """The names met, each after those first met inside its definition; 3."""
     seen, found = set(), []
@@ -322,10 +342,7 @@ def chase_def_use(book):
 
 
 def uses(book, name):
-    found = chase_def_use(book).get(name, [])
-    if len(found) > MOST_USES:
-        raise Refused(16)
-    return found
+    return handed(chase_def_use(book).get(name, []), MOST_USES)
 
 
 def project(book, asked):
@@ -357,36 +374,116 @@ def emptiness(book):
 
 # Lines
 
+OF_BOOK = ("check", "init-check", "list", "marks", "marks-back", "marks-outside", "init", "draft", "empty")
+
+
+class Lines:
+    """The questions of answer_batch on a whole book, each with its outcome as it is printed."""
+
+    def __init__(self, book):
+        self.book, self.found = book, {}
+
+    def name(self, number):
+        return layout.quoted(self.book.names[number] if number < len(self.book.names) else b"")
+
+    def refusal(self, refused):
+        return f"refused {refused.number} {'-' if refused.name is None else self.name(refused.name)}"
+
+    def verdict(self, word, question):
+        try:
+            question(self.book)
+            self.found[word] = "passed"
+        except Refused as refused:
+            self.found[word] = self.refusal(refused)
+
+    def ask(self, word, spelled, question, *asked):
+        """The entries that a question gives, None where it is refused."""
+        try:
+            entries = question(self.book, *asked)
+        except Refused as refused:
+            self.found[word] = self.refusal(refused)
+            return None
+        self.found[word] = " ".join([f"given {len(entries)}", *map(spelled, entries)])
+        return entries
+
+    def ask_twice(self, word, spelled, question, *asked):
+        """Asks, and again with too short a list."""
+        entries = self.ask(word, spelled, question, *asked)
+        if entries:
+            first, *name = word.split(" ", 1)
+            try:
+                handed(entries, len(entries) - 1)
+            except Refused as refused:
+                self.found[" ".join([f"{first}-short", *name])] = f"needs {refused.needed} {self.refusal(refused)}"
+        return entries
+
+    def all(self):
+        self.verdict("check", check)
+        self.verdict("init-check", init_check)
+        listed = self.ask_twice("list", self.name, definition_list) or []
+        self.ask_twice("marks", self.name, marks, listed)
+        self.ask("marks-back", self.name, marks, listed[::-1])
+        self.ask("marks-outside", self.name, marks, [*listed, OUTSIDE])
+        self.ask_twice("init", self.name, init_list)
+        self.ask_twice("draft", self.name, draft_list)
+        self.ask_twice("empty", self.name, emptiness)
+        projected = []
+        for number in range(len(self.book.names)):
+            name = self.name(number)
+            self.ask_twice(f"uses {name}", use, uses, number)
+            if self.ask(f"project {name}", str, project, [number]) is not None:
+                projected.append(number)
+            self.ask(f"twice {name}", str, project, [number, number])
+        self.ask("uses-outside", use, uses, OUTSIDE)
+        self.ask("project-outside", str, project, [OUTSIDE])
+        self.ask("project-none", str, project, [])
+        self.ask_twice("project-all", str, project, projected[::-1])
+        self.ask("project-every", str, project, [*range(len(self.book.names))][::-1])
+        return self.found
+
+
+def use(entry):
+    """A use as it is printed."""
+    return ".".join(map(str, entry))
+
+
 def outcomes(data):
     """Each question of answer_batch on a book, with its entries or its refusal as they are printed."""
     try:
         book = Book(data)
     except Refused:
-        return {question: "refused 1 -" for question in ("list", "marks", "init", "draft", "empty")}
+        return {question: "refused 1 -" for question in OF_BOOK}
+    return Lines(book).all()
 
-    def name(number):
-        return layout.quoted(book.names[number])
 
-    def outcome(spelled, question, *asked):
-        try:
-            entries = question(book, *asked)
-        except Refused as refusal:
-            return f"refused {refusal.number} {'-' if refusal.name is None else name(refusal.name)}"
-        return " ".join([f"given {len(entries)}", *map(spelled, entries)])
+COUNTED = ("check", "init-check", "list", "marks", "init", "draft", "empty", "uses", "project")
+REFUSALS = range(1, 18)
 
-    def listed():
-        try:
-            return definition_list(book)
-        except Refused:
-            return []
 
-    found = {"list": outcome(name, definition_list), "marks": outcome(name, marks, listed()),
-             "init": outcome(name, init_list), "draft": outcome(name, draft_list), "empty": outcome(name, emptiness)}
-    for number in range(len(book.names)):
-        found[f"uses {name(number)}"] = outcome(lambda use: ".".join(map(str, use)), uses, number)
-        found[f"project {name(number)}"] = outcome(str, project, [number])
-        found[f"twice {name(number)}"] = outcome(str, project, [number, number])
-    return found
+class Tally:
+    """What answer_batch prints after the last book: how often each refusal was printed, and how often each question passed or gave
+    entries. Questions of one function are counted together."""
+
+    def __init__(self):
+        self.refused = dict.fromkeys(REFUSALS, 0)
+        self.given = dict.fromkeys(COUNTED, 0)
+
+    def add(self, question, outcome):
+        """Counts a line of answer_batch."""
+        words = outcome.split(" ", 5)
+        if words[0] == "needs":
+            words = words[2:]
+        if words[0] == "refused":
+            self.refused[int(words[1])] += 1
+        elif words[0] == "passed" or words[0] == "given" and words[1] != "0":
+            word = question.split(" ")[0]
+            self.given[word if word in COUNTED else "project" if word == "twice" else word.split("-")[0]] += 1
+
+    def lines(self):
+        found = [f"refused {number} {count}" for number, count in self.refused.items()]
+        found += [f"given {question} {count}" for question, count in self.given.items()]
+        is_complete = all([*self.refused.values(), *self.given.values()])
+        return [f"tally {line}\n" for line in [*found, "complete" if is_complete else "incomplete"]]
 
 
 def listing(data):

@@ -1,8 +1,9 @@
 #!/usr/bin/env python3
-"""Writes the batch of books that oracle/bench.sh times:  python3 tools/benchbooks.py > BATCH
+"""Writes the batch of books that oracle/bench.sh times:  python3 tools/benchbooks.py [uses] > BATCH
 
-Books of three sizes as they are met, c/full.did, and series SERIES-SIZE in which one thing grows. The batch is laid out as that of
-tools/mkbatch.py; every book is made by tools/mkbook.py from a source that is written here.
+Books of three sizes as they are met, c/full.did, books with few and with many methods, books with init files, and series SERIES-SIZE in
+which one thing grows; with `uses` those alone of which the uses are timed. The batch is laid out as that of tools/mkbatch.py; every book
+is made by tools/mkbook.py from a source that is written here.
 """
 
 import os
@@ -41,44 +42,98 @@ service : {
 PRIMITIVES = "nat text bool int nat64 nat8 principal float64".split()
 
 
-def mixed(definitions, nodes):
-    """Records, variants, lists and aliases that name each other, and methods, up to so many nodes."""
-    chance = random.Random(definitions)
-    words = [a + b for a in ("account", "block", "fee", "token", "order", "limit", "state", "key") for b in
-             ("", "_id", "_of", "_list", "_time", "_hash", "_count", "_owner", "_kind", "_memo")]
-    name = [f"{chance.choice(words)}{i}" for i in range(definitions)]
-    count = 1  # of nodes, the service being the first
+WORDS = [a + b for a in ("account", "block", "fee", "token", "order", "limit", "state", "key") for b in
+         ("", "_id", "_of", "_list", "_time", "_hash", "_count", "_owner", "_kind", "_memo")]
 
-    def leaf():
-        return chance.choice(name) if chance.random() < 0.3 else chance.choice(PRIMITIVES)
 
-    def part():
-        nonlocal count
-        count += 1
-        form = chance.random()
+class Mixed:
+    """Records, variants, lists and aliases that name each other. `count` is that of the nodes, a service or list of arguments among them."""
+
+    def __init__(self, definitions, fewest=2, most=9):
+        self.chance = chance = random.Random(definitions)
+        self.name = [f"{chance.choice(WORDS)}{i}" for i in range(definitions)]
+        self.count, text = 1, []
+        for i in range(definitions):
+            self.count += 1
+            form = chance.random()
+            if form < 0.15 and i:
+                text.append(f"type {self.name[i]} = {chance.choice(self.name[:i])};")
+            elif form < 0.25:
+                self.count += 1
+                text.append(f"type {self.name[i]} = vec {self.leaf()};")
+            else:
+                labels = chance.sample(WORDS, chance.randint(fewest, most))
+                kind = "record" if form < 0.75 else "variant"
+                text.append(f"type {self.name[i]} = {kind} {{ {'; '.join(f'{label} : {self.part()}' for label in labels)} }};")
+        self.text = "\n".join(text)
+
+    def leaf(self):
+        return self.chance.choice(self.name) if self.chance.random() < 0.3 else self.chance.choice(PRIMITIVES)
+
+    def part(self):
+        self.count += 1
+        form = self.chance.random()
         if form < 0.25:
-            count += 1
-            return ("opt " if form < 0.15 else "vec ") + leaf()
-        return leaf()
+            self.count += 1
+            return ("opt " if form < 0.15 else "vec ") + self.leaf()
+        return self.leaf()
 
-    text = []
-    for i in range(definitions):
-        count += 1
-        form = chance.random()
-        if form < 0.15 and i:
-            text.append(f"type {name[i]} = {chance.choice(name[:i])};")
-        elif form < 0.25:
-            count += 1
-            text.append(f"type {name[i]} = vec {leaf()};")
-        else:
-            labels = chance.sample(words, chance.randint(2, 9))
-            kind = "record" if form < 0.75 else "variant"
-            text.append(f"type {name[i]} = {kind} {{ {'; '.join(f'{label} : {part()}' for label in labels)} }};")
-    methods = []
-    while count + 3 <= nodes:
-        count += 3
-        methods.append(f"{chance.choice(words)}_{len(methods)} : ({leaf()}) -> ({leaf()});")
-    return "\n".join(text) + f"\nservice : {{ {' '.join(methods)} }}"
+    def service(self, nodes, methods=None, arguments=1):
+        """Methods up to so many nodes, or so many."""
+        found = []
+        while self.count + 2 + arguments <= nodes and len(found) != methods:
+            self.count += 2 + arguments
+            name = f"{self.chance.choice(WORDS)}_{len(found)}"
+            given = ", ".join(self.leaf() for _ in range(arguments))
+            found.append(f"{name} : ({given}) -> ({self.leaf()});")
+        return f"service : {{ {' '.join(found)} }}"
+
+
+def mixed(definitions, nodes):
+    made = Mixed(definitions)
+    return f"{made.text}\n{made.service(nodes)}"
+
+
+def few_methods():
+    made = Mixed(508, 5, 9)
+    return f"{made.text}\n{made.service(4096, methods=4)}"
+
+
+def many_methods():
+    made = Mixed(90)
+    return f"{made.text}\n{made.service(4096, arguments=3)}"
+
+
+# Init files
+
+# What the ledger is installed with: definitions that main has too, and two more.
+SMALL_INIT = """
+type Subaccount = blob;
+type Account = record { owner : principal; subaccount : opt Subaccount };
+type Value = variant { Nat : nat; Int : int; Text : text; Blob : blob; Array : vec Value; Map : vec record { text; Value } };
+type ArchiveOptions = record { num_blocks_to_archive : nat64; trigger_threshold : nat64; controller_id : principal };
+type InitArgs = record { minting_account : Account; fee_collector : opt Account; transfer_fee : nat; token_name : text; token_symbol : text;
+  metadata : vec record { text; Value }; initial_balances : vec record { Account; nat }; archive_options : ArchiveOptions };
+args (InitArgs)
+"""
+
+
+def with_init(main, init):
+    return f'file "main" main {main}\nfile "init" init {init}'
+
+
+def init_alone(definitions, nodes):
+    """The ledger with an init file that is most of the book."""
+    made = Mixed(definitions)
+    arguments = [made.leaf() for _ in range(nodes - made.count)]
+    return with_init(SMALL, f"{made.text}\nargs ({', '.join(arguments)})")
+
+
+def init_merged(definitions, nodes):
+    """Main's definitions again in the init file."""
+    main, init = Mixed(definitions), Mixed(definitions)
+    arguments = [init.leaf() for _ in range(100)]
+    return with_init(f"{main.text}\n{main.service(nodes - init.count - len(arguments))}", f"{init.text}\nargs ({', '.join(arguments)})")
 
 
 def like_full(definitions):
@@ -124,6 +179,12 @@ def sources():
     with open(os.path.join(ROOT, "c", "full.did"), encoding="utf-8") as file:
         yield "full", file.read()
     yield "full-mixed", mixed(512, 4096)
+    yield "uses-few", few_methods()
+    yield "uses-many", many_methods()
+    yield "init-small", with_init(SMALL, SMALL_INIT)
+    yield "init-full", init_alone(500, 4010)
+    yield "init-merged", init_merged(256, 4096)
+    yield "init-aliases", with_init(aliases(511), "type b = nat; args (a0, b)")
     for count in (4, 8, 16, 32, 64, 128, 256, 512):
         yield f"size-{count}", like_full(count)
     for nodes in (256, 512, 1024, 2048, 4096):
@@ -140,8 +201,16 @@ def sources():
         yield f"imports-{count}", imports(count)
 
 
+def is_for_uses(name):
+    return name.split("-")[0] in ("small", "medium", "full", "uses", "size")
+
+
 def main():
+    if sys.argv[1:] not in ([], ["uses"]):
+        sys.exit("usage: python3 tools/benchbooks.py [uses] > BATCH")
     for name, text in sources():
+        if sys.argv[1:] and not is_for_uses(name):
+            continue
         try:
             book = mkbook.book(text)
         except mkbook.SourceError as error:

@@ -11,14 +11,18 @@ and EXPECTED its lines, by the source's first lines and the counts in the book's
     NAME refused NUMBER -                                 // refused NUMBER -: WHAT IT SHOWS
     NAME init ..                                          // init ..: WHAT IT SHOWS
     NAME QUESTION OUTCOME ..                              // answers: WHAT IT SHOWS
+                                                          // random SEED-NUMBER: WHAT IT SHOWS
 The first two are of the layout (tests/layout), with the words of tools/layout.py for the rules that are broken; the next
 are of the check (tests/check), with document 01's number and the name that the refusal gives, a NAME of tools/mkbook.py;
 the one with init is of the init check: a second line of a source whose book has an init file and passes the check.
-The last is of the questions (tests/list): the lines of tools/answers.py. Such a source states some of them by hand,
-each in a line after the first, and they must agree:
-    // QUESTION: ENTRY ..        QUESTION is list, marks, init, draft, empty, or uses, project or twice and a TEXT
+The last two are of the questions (tests/list, tests/random): the lines of tools/answers.py. A source of tests/list states some
+of them by hand, each in a line after the first, and they must agree; so must what the other sources' first lines say. After
+the last source of such a folder comes the tally.
+    // QUESTION: ENTRY ..        QUESTION is as in tools/answers.py, with a TEXT where it is about a name
     // QUESTION: none            an ENTRY is a TEXT, a number or METHOD.KIND.INDEX, with repeat and nest as in a source
     // QUESTION: refused NUMBER TEXT, or - for TEXT
+    // QUESTION: passes          of check and init-check
+    // QUESTION: needs N         of a question with too short a list
 """
 
 import os
@@ -29,6 +33,7 @@ import sys
 import answers
 import layout
 import mkbook
+import replay
 
 FIRST_LINE = re.compile(r"// (?:fine|broken (?P<rules>[a-z]+(?: [a-z]+)*)): \S.*\n")
 OUTCOME = r"(?:passes|refused (?P<number>[0-9]+) (?P<named>-|\w+|\".*?\"(?: \* [0-9]+)?)): \S.*\n"
@@ -36,7 +41,10 @@ CHECK_LINE = re.compile("// " + OUTCOME)
 INIT_LINE = re.compile(r"//.*\n// init " + OUTCOME)
 ANSWERS_LINE = re.compile(r"// answers: \S.*\n")
 TEXT = r'"(?:[^"\\]|\\.)*"'
-QUESTION = rf"(?P<question>list|marks|init|draft|empty|(?:uses|project|twice) (?P<asked>{TEXT}))"
+RANDOM_LINE = re.compile(r"// random [0-9]+-[0-9]+: \S.*\n")
+OF_BOOK = ("(?:check|init-check|(?:list|marks|init|draft|empty|project-all)(?:-short)?|marks-back|marks-outside|"
+           "uses-outside|project-outside|project-none|project-every)")
+QUESTION = rf"(?P<question>{OF_BOOK}|(?:uses|uses-short|project|twice) (?P<asked>{TEXT}))"
 STATED_LINE = re.compile(f"// {QUESTION}: " + r"(?P<outcome>\S.*)")
 REFUSED = re.compile(rf"refused (?P<number>[0-9]+) (?P<named>-|{TEXT})")
 
@@ -137,6 +145,10 @@ def stated(text):
         if refused:
             named = "-" if refused["named"] == "-" else layout.quoted(mkbook.name(refused["named"]))
             found[question] = f"refused {refused['number']} {named}"
+        elif said == "passes":
+            found[question] = "passed"
+        elif said.startswith("needs "):
+            found[question] = f"{said} refused 16 -"
         else:
             listed = [] if said == "none" else entries(said)
             found[question] = " ".join([f"given {len(listed)}", *listed])
@@ -145,13 +157,33 @@ def stated(text):
     return found
 
 
-def answered(name, text, book):
-    """The lines of a source in tests/list."""
+def is_random(text):
+    return bool(RANDOM_LINE.match(text))
+
+
+def claims(text):
+    """The outcomes of answer_batch that any source states."""
+    if is_of_check(text):
+        return {"check": said(verdict(text)), "init-check": said(init_verdict(text))}
+    if is_of_questions(text):
+        return stated(text)
+    if is_random(text):
+        return {}
+    return dict.fromkeys(answers.OF_BOOK, "refused 1 -") if broken_rules(text) else {}
+
+
+def agreed(text, book):
+    """The outcomes of answer_batch on a book, with which those agree that its source states."""
     found = answers.outcomes(book)
-    for question, outcome in stated(text).items():
+    for question, outcome in claims(text).items():
         if found.get(question) != outcome:
             raise mkbook.SourceError(f"{question}: {outcome} is stated, {found.get(question)} is found")
-    return "".join(f"{name} {question} {outcome}\n" for question, outcome in found.items())
+    return found
+
+
+def answered(name, text, book):
+    """The lines of a source for answer_batch."""
+    return "".join(replay.lines(name, agreed(text, book)))
 
 
 def record(name, book):
@@ -161,7 +193,7 @@ def record(name, book):
 def expected(name, text, book):
     if is_of_check(text):
         return checked(name, text)
-    if is_of_questions(text):
+    if is_of_questions(text) or is_random(text):
         return answered(name, text, book)
     if broken_rules(text):
         return f"{name} refused 1 -\n"
@@ -173,13 +205,20 @@ def main():
         sys.exit("usage: python3 tools/mkbatch.py FOLDER BATCH EXPECTED")
     folder, batch_path, expected_path = sys.argv[1:]
     with open(batch_path, "wb") as batch, open(expected_path, "w", encoding="utf-8") as lines:
+        tally = None
         for name, text in sources(folder):
             try:
                 book = mkbook.book(text)
                 batch.write(record(name, book))
-                lines.write(expected(name, text, book))
+                own = expected(name, text, book)
+                lines.write(own)
+                if is_of_questions(text) or is_random(text):
+                    tally = tally or answers.Tally()
+                    for line in own.splitlines():
+                        tally.add(*replay.parted(line[len(name) + 1:]))
             except mkbook.SourceError as error:
                 sys.exit(f"{folder}/{name}.did: {error}")
+        lines.writelines(tally.lines() if tally else [])
 
 
 if __name__ == "__main__":

@@ -4,14 +4,16 @@
     crates/show_book/stdin, stdout        P1 and its table
     crates/layout_batch/stdin, stdout     the batch of all sources in tests/layout, with a line for each
     crates/check_batch/stdin, stdout      the batch of all sources in tests/check, with a line for each
-    crates/answer_batch/stdin, stdout     the batch of all sources in tests/list, with the outcome of every question
+    crates/answer_batch/stdin, stdout     the stored list (docs/REPLAY.md), with the outcome of every question and the tally
     crates/list/stdin, stdout             P1 and its list
 
 Books come from the sources by tools/mkbook.py. What the programs must write comes from the sources' first lines and
-from tools/layout.py and tools/answers.py, which read the bytes by the paper alone, and never from the programs. With
+from tools/layout.py and tools/answers.py, which read the bytes by the paper alone, and never from the programs;
+oracle/replay.sh makes the lines of answer_batch anew from the Rust. With
 --check nothing is written: the files that are not current are named, and the exit status is 1 if there are any.
 """
 
+import functools
 import os
 import sys
 
@@ -19,11 +21,17 @@ import answers
 import layout
 import mkbatch
 import mkbook
+import replay
 
 ROOT = os.path.join(os.path.dirname(os.path.abspath(__file__)), "..")
 SOURCES = os.path.join(ROOT, "tests", "layout")
 CHECK_SOURCES = os.path.join(ROOT, "tests", "check")
 LIST_SOURCES = os.path.join(ROOT, "tests", "list")
+REPLAYED = ("list", "check", "layout", "random")  # of equal books that of the first folder is taken
+MOST_LINES = 20_000  # bytes; a source of tests/check or tests/layout with longer lines is left to that folder's own batch
+# So are some large ones: others in the list have the same shapes.
+LEFT_OUT = {f"check/large-nested-{kind}-{place}" for kind in ("function", "opt", "service") for place in ("actor", "definition")}
+LEFT_OUT |= {f"layout/{name}" for name in ("kind-27-deepest", "limit-nested-4096", "limit-nested-kinds", "limit-nodes-4096")}
 
 
 def table(book):
@@ -64,14 +72,26 @@ def check_batch():
     return records, lines
 
 
+@functools.cache
+def replayed():
+    """The stored list: name, text, book and outcomes of each source. A name is the folder's and the source's own."""
+    books, found = set(), []
+    for folder in REPLAYED:
+        for name, text in mkbatch.sources(os.path.join(ROOT, "tests", folder)):
+            whole, book = f"{folder}/{name}", bytes(mkbook.book(text))
+            if book in books or whole in LEFT_OUT:
+                continue
+            outcomes = mkbatch.agreed(text, book)
+            if folder in ("list", "random") or sum(map(len, replay.lines(whole, outcomes))) <= MOST_LINES:
+                books.add(book)
+                found.append((whole, text, book, outcomes))
+    return sorted(found, key=lambda source: source[0].encode())
+
+
 def answer_batch():
-    """The records and lines of all sources of the questions."""
-    records, lines = b"", ""
-    for name, text in mkbatch.sources(LIST_SOURCES):
-        book = mkbook.book(text)
-        records += mkbatch.record(name, book)
-        lines += mkbatch.answered(name, text, book)
-    return records, lines
+    """The records and lines of the stored list, and the tally."""
+    records = b"".join(mkbatch.record(name, book) for name, _, book, _ in replayed())
+    return records, "".join(replay.printed((name, outcomes) for name, _, _, outcomes in replayed()))
 
 
 def files():

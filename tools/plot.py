@@ -1,15 +1,21 @@
 #!/usr/bin/env python3
-"""Tables and a plot of the figures of oracle/bench.sh:  python3 tools/plot.py BOOKS.tsv PLOT.svg [SWEEP.tsv] > TABLES
+"""Tables and a plot of the figures of oracle/bench.sh:  python3 tools/plot.py BOOKS.tsv PLOT.svg [FOLDER [DOCUMENT ..]] > TABLES
 
-The tables are those of docs/BENCHMARKS.md, in Markdown; the plot has time against nodes for the series `size`.
+The tables are those of docs/BENCHMARKS.md, in its order and in Markdown; the plot has time against nodes for the series `size`. FOLDER is
+target/oracle/bench with sweep.tsv, measure.tsv and undefined; without it the tables of these are left out. In a DOCUMENT what stands between
+`<!-- figures: NAME -->` and `<!-- end -->` is replaced by the table of that name; its other text is left alone.
 """
 
 import csv
 import math
+import os
+import re
 import statistics
 import sys
 
 SIZES = ("small", "medium", "full", "full-mixed")
+INITS = ("init-small", "init-full", "init-merged", "init-aliases")
+USES = (*SIZES, "uses-few", "uses-many")
 SERIES = ("size", "nodes", "definitions", "depth", "methods", "imports", "aliases")
 QUESTIONS = ("check", "list")
 
@@ -17,7 +23,7 @@ QUESTIONS = ("check", "list")
 class Book:
     def __init__(self, row):
         self.name, self.has_init = row["book"], row["init"] == "1"
-        self.nodes, self.definitions = int(row["nodes"]), int(row["definitions"])
+        self.names, self.nodes, self.definitions = (int(row[part]) for part in ("names", "nodes", "definitions"))
         self.runs = {}
 
     def ratio(self, question, against=""):
@@ -29,6 +35,7 @@ class Book:
             return {question: pick([int(row[column]) for row in rows]) for question, rows in self.runs.items()}
         self.low, self.high = of("low", min), of("high", max)
         self.median, self.first = of("median", statistics.median), of("first", statistics.median)
+        self.entries = {question: rows[0]["entries"] for question, rows in self.runs.items()}
 
 
 def read(path, one_by_one=False):
@@ -56,27 +63,54 @@ def microseconds(nanoseconds):
     return number(nanoseconds / 1000)
 
 
-def table(head, rows):
-    print("| " + " | ".join(head) + " |")
-    print("|" + "---|" * len(head))
-    for row in rows:
-        print("| " + " | ".join(row) + " |")
-    print()
+TABLES = {}
+
+
+def table(name, head, rows):
+    TABLES[name] = "\n".join(["| " + " | ".join(head) + " |", "|" + "---|" * len(head), *("| " + " | ".join(row) + " |" for row in rows)])
+
+
+def fill(path):
+    """Puts the tables into a document, where it names them."""
+    with open(path, encoding="utf-8") as file:
+        text = file.read()
+
+    def filled(found):
+        return f"<!-- figures: {found[1]} -->\n{TABLES[found[1]]}\n<!-- end -->" if found[1] in TABLES else found[0]
+
+    text = re.sub(r"<!-- figures: (.*?) -->\n.*?<!-- end -->", filled, text, flags=re.DOTALL)
+    with open(path, "w", encoding="utf-8") as file:
+        file.write(text)
 
 
 def spread(book, question):
     return f"{microseconds(book.median[question])} ({microseconds(book.low[question])} to {microseconds(book.high[question])})"
 
 
-def sizes(books):
-    for question in QUESTIONS:
-        kinds = (f"our {question}", f"Rust {question}", f"Rust {question} and decoding", f"Rust {question} alone")
-        rows = []
-        for name in SIZES:
-            book = books[name]
-            ratios = [number(book.ratio(question, against)) for against in ("", " and decoding", " alone")]
-            rows.append([name, *(spread(book, kind) for kind in kinds), f"**{ratios[0]}**", *ratios[1:]])
-        table([question, "ours", "Rust", "with decoding", "alone", "Rust / ours", "with decoding", "alone"], rows)
+AGAINST = ("", " and decoding", " alone")
+
+
+def sizes(books, question, names, head=None):
+    kinds = (f"our {question}", *(f"Rust {question}{against}" for against in AGAINST))
+    rows = []
+    for name in (name for name in names if name in books and kinds[0] in books[name].median):
+        ratios = [number(books[name].ratio(question, against)) for against in AGAINST]
+        rows.append([name, *(spread(books[name], kind) for kind in kinds), f"**{ratios[0]}**", *ratios[1:]])
+    table(question, [head or question, "ours", "Rust", "with decoding", "alone", "Rust / ours", "with decoding", "alone"], rows)
+
+
+def parts_of_uses(books):
+    """What the uses of one name take, and what those of all would if the book were checked once."""
+    rows = []
+    for book in books.values():
+        if "our uses" in book.median:
+            each, check = book.median["our uses"] / book.names, book.median["our check"]
+            once = check + book.names * max(0, each - check)
+            rows.append([book.name.replace("-", " "), str(book.names), str(book.definitions), f"{int(book.entries['our uses']):,}",
+                         microseconds(book.median["our uses"]), microseconds(book.median["Rust uses"]), number(book.ratio("uses")),
+                         microseconds(each), microseconds(check), microseconds(once), number(book.median["Rust uses"] / once)])
+    table("parts of uses", ["uses of all names", "names", "definitions", "entries", "ours", "Rust", "Rust / ours", "ours for one name",
+                            "of it the check", "checked once", "Rust / that"], rows)
 
 
 def firsts(books):
@@ -87,7 +121,7 @@ def firsts(books):
             ours, rust = books[name].first[f"our {question}"], books[name].first[f"Rust {question}"]
             row += [microseconds(ours), microseconds(rust), number(rust / ours)]
         rows.append(row)
-    table(["first call", "our check", "Rust check", "Rust / ours", "our list", "Rust list", "Rust / ours"], rows)
+    table("first calls", ["first call", "our check", "Rust check", "Rust / ours", "our list", "Rust list", "Rust / ours"], rows)
 
 
 def exponent(first, last, question, size):
@@ -106,20 +140,22 @@ def growth(books):
                         number(book.ratio(question)), number(book.ratio(question, " alone"))]
             rows.append(row)
         by = {"nodes": lambda book: book.nodes, "size": lambda book: book.nodes}.get(series, lambda book: int(book.name.split("-")[1]))
-        for question in QUESTIONS:
+        for question in (*QUESTIONS, "uses"):
+            if any(f"our {question}" not in book.median for book in found):
+                continue
             last = [f"{exponent(a, b, f'{who} {question}', by):.2f}" for who in ("our", "Rust")
                     for a, b in ((found[0], found[-1]), (found[-2], found[-1]))]
             powers.append([series, question, *last])
     head = [word for question in QUESTIONS for word in (f"our {question}", f"Rust {question}", "Rust / ours", "alone")]
-    table(["book", "nodes", "definitions", *head], rows)
-    table(["series", "question", "ours, first to last", "ours, last two", "Rust, first to last", "Rust, last two"], powers)
+    table("growth", ["book", "nodes", "definitions", *head], rows)
+    table("powers", ["series", "question", "ours, first to last", "ours, last two", "Rust, first to last", "Rust, last two"], powers)
 
 
 def sweep(books):
     rows = []
     for has_init in (False, True):
-        for question in QUESTIONS:
-            for against in ("", " and decoding", " alone"):
+        for question in (*QUESTIONS, "init check") if has_init else QUESTIONS:
+            for against in AGAINST:
                 rust = f"Rust {question}{against}"
                 asked = [book for book in books if rust in book.median and book.has_init == has_init]
                 slower = [book for book in asked if book.ratio(question, against) < 1]
@@ -128,7 +164,41 @@ def sweep(books):
                     row[3] = f"{max(book.nodes for book in slower):,}"
                     row[4] = number(max(book.median[f"our {question}"] - book.median[rust] for book in slower) / 1000)
                 rows.append([*row, number(statistics.median(book.ratio(question, against) for book in asked))])
-    table(["Rust", "books", "ours slower", "most nodes of those", "most microseconds more", "median ratio"], rows)
+    table("every book", ["Rust", "books", "ours slower", "most nodes of those", "most microseconds more", "median ratio"], rows)
+
+
+# Stack and heap
+
+def most(rows, column):
+    """The most of a column, in KiB, and the book that has it; none if it is empty."""
+    found = [row for row in rows if row[column] != "-"]
+    if not found:
+        return ["-", "-"]
+    row = max(found, key=lambda row: int(row[column]))
+    return [kib(row[column]), row["book"]]
+
+
+def kib(text):
+    return "-" if text == "-" else f"{math.ceil(int(text) / 1024):,}"
+
+
+def measured(path):
+    with open(path, newline="", encoding="utf-8") as file:
+        rows = list(csv.DictReader(file, delimiter="\t"))
+    of_question = {}
+    for row in rows:
+        of_question.setdefault(row["question"], []).append(row)
+    stacks, heaps = [], []
+    for question, found in of_question.items():
+        by_name = {row["book"]: row for row in found}
+        own = [by_name[name] for name in ("p01", "full", "limit-nested-4096")]
+        stacks.append([question, *(kib(row["our stack"]) for row in own), *most(found, "our stack"), *most(found, "Rust stack")])
+        own = [by_name[name] for name in ("p01", "full", "full-mixed")]
+        heaps.append([question, "0", *(kib(row["Rust heap"]) for row in own), *most(found, "Rust heap"), *most(found, "Rust heap alone")])
+    answered = sum(row["Rust heap"] != "-" for row in of_question["check"])
+    TABLES["measured"] = f"{len(of_question['check'])} books, of which the Rust was asked of {answered}."
+    table("stack", ["stack, KiB", "P1", "full", "4,096 nested nodes", "most", "where", "Rust, most", "where"], stacks)
+    table("heap", ["heap, KiB", "ours", "Rust: P1", "full", "full-mixed", "most", "where", "alone, most", "where"], heaps)
 
 
 # The plot
@@ -191,15 +261,25 @@ def plot(books, path):
 
 
 def main():
-    if len(sys.argv) not in (3, 4):
-        sys.exit("usage: python3 tools/plot.py BOOKS.tsv PLOT.svg [SWEEP.tsv] > TABLES")
+    if len(sys.argv) < 3:
+        sys.exit("usage: python3 tools/plot.py BOOKS.tsv PLOT.svg [FOLDER [DOCUMENT ..]] > TABLES")
     books = read(sys.argv[1])
-    sizes(books)
+    for question in QUESTIONS:
+        sizes(books, question, SIZES)
+    sizes(books, "init check", INITS)
+    sizes(books, "uses", USES, "uses of all names")
     firsts(books)
+    parts_of_uses(books)
     growth(books)
-    if len(sys.argv) == 4:
-        sweep(list(read(sys.argv[3], one_by_one=True).values()))
+    for folder in sys.argv[3:4]:
+        sweep(list(read(os.path.join(folder, "sweep.tsv"), one_by_one=True).values()))
+        measured(os.path.join(folder, "measure.tsv"))
+        with open(os.path.join(folder, "undefined"), encoding="utf-8") as file:
+            TABLES["undefined"] = f"`{file.read().strip()}`"
     plot(books, sys.argv[2])
+    for document in sys.argv[4:]:
+        fill(document)
+    print("\n\n".join(TABLES.values()))
 
 
 if __name__ == "__main__":

@@ -16,6 +16,7 @@ import answers
 import layout
 import mkbatch
 import mkbook
+import replay
 from mkgate import CHECK_SOURCES, LIST_SOURCES, ROOT, SOURCES, table
 
 MOST = 8192  # the limit that a system sets by itself
@@ -35,6 +36,10 @@ def layout_lines(name, text, book):
     return mkbatch.expected(name, text, book) + f"names {asked} asked {asked} agree\n"
 
 
+def answer_lines(name, text, book):
+    return "".join(replay.printed([(name, mkbatch.agreed(text, book))]))
+
+
 def of_batch(lines):
     """Input and output of a program that reads records."""
     return lambda name, text, book: (mkbatch.record(name, book), lines(name, text, book))
@@ -51,7 +56,7 @@ PROGRAMS = {
     "layout_batch": ([SOURCES], is_nested, of_batch(layout_lines)),
     "check_batch": ([CHECK_SOURCES], is_large, of_batch(lambda name, text, book: mkbatch.checked(name, text))),
     "list": ([LIST_SOURCES, CHECK_SOURCES], is_large, of_book(answers.listing)),
-    "answer_batch": ([LIST_SOURCES], is_large, of_batch(mkbatch.answered)),
+    "answer_batch": ([LIST_SOURCES], is_large, of_batch(answer_lines)),
 }
 
 

@@ -1,8 +1,9 @@
 #!/usr/bin/env python3
-"""Tests the tools and the sources in tests/layout, tests/check and tests/list:  python3 tools/test_tools.py"""
+"""Tests the tools and the sources in tests/layout, tests/check, tests/list and tests/random:  python3 tools/test_tools.py"""
 
+import collections
 import os
-import struct
+import re
 import subprocess
 import sys
 import tempfile
@@ -10,10 +11,14 @@ import unittest
 
 import answers
 import antt_bytes
+import benchbooks
 import layout
 import mkbatch
 import mkbook
 import mkgate
+import plot
+import replay
+import shapes
 
 HERE = os.path.dirname(os.path.abspath(__file__))
 FOLDER = os.path.join(HERE, "..", "tests", "layout")
@@ -29,6 +34,9 @@ LIST_SOURCES = dict(mkbatch.sources(LIST_FOLDER))
 LIST_BOOKS = {name: mkbook.book(text) for name, text in LIST_SOURCES.items()}
 NAMED = {2, 3, 7, 9, 12, 13, 14}  # the check's refusals that name something
 NAMELESS = {4, 5, 6, 8, 10}
+OF_WHOLE = {"uses", "project", "twice", "uses-outside", "project-outside", "project-none", "project-all", "project-every"}
+SHORT = {f"{question}-short" for question in ("list", "marks", "init", "draft", "empty", "uses", "project-all")}
+QUESTIONS = {*answers.OF_BOOK, *OF_WHOLE, *SHORT}
 
 
 class Encoding(unittest.TestCase):
@@ -352,7 +360,7 @@ class ListSources(unittest.TestCase):
                 questions.add(question.split()[0])
                 if outcome.startswith("refused"):
                     refusals.add(int(outcome.split()[1]))
-        self.assertEqual(questions, {"list", "marks", "init", "draft", "empty", "uses", "project", "twice"})
+        self.assertEqual(questions, QUESTIONS)
         self.assertEqual(refusals, set(range(1, 18)))
 
     def test_books_differ(self):
@@ -385,9 +393,14 @@ class ListSources(unittest.TestCase):
             '// draft: refused 17 -\n': {"draft": "refused 17 -"},
             '// empty: nest 2 { | "a#" } {} "n" * 3 + "m"\n': {"empty": 'given 3 "a1" "a0" "nnnm"'},
             '// uses "a": repeat 2 { #.0.0 #.1.1 }\n': {'uses "a"': "given 4 0.0.0 0.1.1 1.0.0 1.1.1"},
+            '// check: passes\n// init-check: refused 4 -\n': {"check": "passed", "init-check": "refused 4 -"},
+            '// uses-short "a": needs 3\n// list-short: needs 1\n':
+                {'uses-short "a"': "needs 3 refused 16 -", "list-short": "needs 1 refused 16 -"},
+            '// marks-back: none\n// marks-outside: refused 3 ""\n': {"marks-back": "given 0", "marks-outside": 'refused 3 ""'},
         }.items():
             self.assertEqual(mkbatch.stated(head + lines), found, lines)
-        for text in (head, head + "type a = nat;\n", head + "// list:\n", head + "// lists: none\n", "// list: none\n",
+        for text in (head, head + "// uses-short: needs 3\n", head + "// check-short: needs 3\n",
+                     head + "type a = nat;\n", head + "// list:\n", head + "// lists: none\n", "// list: none\n",
                      head + "// list: none\n// list: none\n", head + "// uses: none\n", head + "// a remark\n// list: none\n"):
             with self.assertRaises(mkbook.SourceError, msg=text):
                 mkbatch.stated(text)
@@ -396,9 +409,140 @@ class ListSources(unittest.TestCase):
 
     def test_lines(self):
         self.assertEqual(mkbatch.answered("a", "// answers: x\n// list: none\n", LIST_BOOKS["p10"]), "".join("a " + line for line in (
-            "list given 0\n", "marks given 0\n", "init given 0\n", "draft given 0\n", "empty given 0\n",
+            "check passed\n", "init-check passed\n", "list given 0\n", "marks given 0\n", "marks-back given 0\n",
+            'marks-outside refused 3 ""\n', "init given 0\n", "draft given 0\n", "empty given 0\n",
             'uses "" given 0\n', 'project "" refused 15 ""\n', 'twice "" refused 15 ""\n',
-            'uses "m" given 0\n', 'project "m" given 1 0\n', 'twice "m" refused 15 "m"\n')))
+            'uses "m" given 0\n', 'project "m" given 1 0\n', 'twice "m" refused 15 "m"\n',
+            "uses-outside given 0\n", 'project-outside refused 15 ""\n', "project-none given 0\n", "project-all given 1 0\n",
+            "project-all-short needs 1 refused 16 -\n", 'project-every refused 15 ""\n')))
+        self.assertEqual([line.split()[0] for line in replay.lines("a", answers.outcomes(b""))], ["a"] * len(answers.OF_BOOK))
+
+    def test_tally(self):
+        """By hand: P10's lines and those of a broken book."""
+        lines = list(replay.printed([("a", answers.outcomes(LIST_BOOKS["p10"])), ("b", answers.outcomes(b""))]))
+        refused = {1: 9, 3: 1, 15: 5, 16: 1}
+        given = {"check": 1, "init-check": 1, "project": 2}
+        self.assertEqual(lines[-27:], [
+            *(f"tally refused {number} {refused.get(number, 0)}\n" for number in range(1, 18)),
+            *(f"tally given {word} {given.get(word, 0)}\n" for word in "check init-check list marks init draft empty uses project".split()),
+            "tally incomplete\n"])
+        tally = answers.Tally()
+        for question, word in (("marks", "marks"), ("marks-back", "marks"), ("uses-outside", "uses"), ('uses "a"', "uses"),
+                               ('twice "-"', "project"), ("project-all", "project"), ("init", "init")):
+            before = tally.given[word]
+            tally.add(question, "given 1 x")
+            tally.add(question, "given 0")
+            self.assertEqual(tally.given[word], before + 1, question)
+        tally.add('uses-short "refused 4 -"', "needs 5 refused 16 -")
+        self.assertEqual({number for number, count in tally.refused.items() if count}, {16})
+
+
+class Replay(unittest.TestCase):
+    """The stored list, crates/answer_batch/stdin and stdout: docs/REPLAY.md."""
+
+    @classmethod
+    def setUpClass(cls):
+        cls.sources = mkgate.replayed()
+        cls.records, cls.lines = mkgate.answer_batch()
+
+    def test_tally(self):
+        """Every refusal and every answer with entries is in the list."""
+        tally = [line for line in self.lines.splitlines() if line.startswith("tally ")]
+        self.assertEqual(len(tally), 17 + 9 + 1)
+        self.assertEqual(tally[-1], "tally complete")
+        for line in tally[:-1]:
+            self.assertGreater(int(line.split()[-1]), 0, line)
+
+    def test_questions(self):
+        """Each question is there with each refusal that it can have, and given with entries."""
+        found = collections.defaultdict(set)
+        for _, _, _, outcomes in self.sources:
+            for question, outcome in outcomes.items():
+                words = outcome.split()
+                found[question.split()[0]].add(int(words[1]) if words[0] == "refused" else words[0] if words[1:] != ["0"] else "none")
+        check = {1, *NAMED, *NAMELESS}
+        given = {"given", "none"}
+        self.assertEqual(found, {
+            "check": {"passed", *check}, "init-check": {"passed", 11, *check},
+            "list": {17, *check, *given}, "marks": {*check, *given}, "marks-back": {*check, *given}, "marks-outside": check,
+            "init": {11, *check, *given}, "draft": {1, 2, 3, 17, *given}, "empty": {*check, *given},
+            "uses": {16, 17, *check, *given} - {1}, "project": {15, 17, "given", *check} - {1}, "twice": {15, 17, "given", *check} - {1},
+            "uses-outside": {17, "none", *check} - {1}, "project-outside": {15, 17, *check} - {1}, "project-none": {17, "none", *check} - {1},
+            "project-all": {17, *check, *given} - {1}, "project-every": {15, 17, "given", *check} - {1},
+            **{question: {"needs"} for question in SHORT}})
+
+    def test_shapes(self):
+        """Every kind stands at every place, and all kinds of files, labels, modes and names are there."""
+        found = set(shapes.shown())
+        places = ["init argument", "opt", "vec", "record", "variant", "func argument", "func result", "method", "class argument",
+                  "class service", *(f"definition of {role}" for role in shapes.ROLE), *(f"actor of {role}" for role in shapes.ROLE[:3])]
+        kinds = ["leaf", "name", "opt", "vec", "record", "variant", "func", "service", "class"]
+        needed = {f"{kind} as {place}" for kind in kinds for place in places}
+        needed |= set(layout.LEAVES) | {f"broken {rule}" for rule in layout.RULES}
+        needed |= {f"label {label} in a {kind}" for label in ("number", "name", "unnamed") for kind in ("record", "variant")}
+        needed |= {f"{count} modes" for count in range(2, 9)} | {f"mode {mode}" for mode in ("none", "oneway", "query", "composite_query")}
+        roles = [[role for place, role in enumerate(shapes.ROLE[1:]) if chosen >> place & 1] for chosen in range(8)]
+        needed |= {"files " + ", ".join(["main", *chosen]) for chosen in roles}
+        needed |= {f"{kind} without children" for kind in ("record", "variant", "func", "service", "args")}
+        needed |= {"the empty name", "a name of 255 bytes", "a name outside ASCII", "a name outside UTF-8", "two names of one hash",
+                   "a name with a control byte", "a name with a quote or a backslash", "two files of one name"}
+        needed |= {shape + " *" for shape in (
+            "a type import with an actor", "a method twice", "a record's label twice", "a variant's label twice", "an unreached definition",
+            "two labels of one number in a record", "two labels of one number in a variant", "two service imports", "two type imports",
+            "a func inside a method's func", "a service inside a method's func", "a name defined in the init file and in another")}
+        self.assertEqual(needed - found, set())
+
+    def test_sources(self):
+        names = [name for name, _, _, _ in self.sources]
+        self.assertEqual(len(names), len(set(names)))
+        self.assertEqual(len({book for _, _, book, _ in self.sources}), len(names))
+        self.assertEqual([(name, book) for name, _, book, _ in self.sources], list(replay.records(self.records)))
+        for name in mkgate.LEFT_OUT:
+            self.assertTrue(os.path.exists(os.path.join(HERE, "..", "tests", f"{name}.did")), name)
+            self.assertNotIn(name, names)
+        for folder in ("list", "random"):
+            for name, text in mkbatch.sources(os.path.join(HERE, "..", "tests", folder)):
+                self.assertIn(f"{folder}/{name}", names)
+                self.assertEqual(mkbatch.is_random(text), folder == "random", name)
+        for name, _, book, _ in self.sources:
+            if name.startswith("random/"):
+                self.assertEqual(mkbook.book(layout.text(book)), book, name)
+        self.assertLess(len(self.records), 2_500_000)
+        self.assertLess(len(self.lines), 2_500_000)
+
+    def test_document(self):
+        """Each line that docs/REPLAY.md shows for a sentence of document 01 is a line of the list, and each refusal is shown."""
+        with open(os.path.join(HERE, "..", "docs", "REPLAY.md"), encoding="utf-8") as file:
+            text = file.read()
+        lines, shown = set(self.lines.splitlines()), re.findall(rf"`((?:{'|'.join(mkgate.REPLAYED)})/[^`\s]+ [^`]*)`", text)
+        self.assertGreater(len(shown), 150)
+        self.assertIn(f" {len(self.sources)} books", text)
+        self.assertIn(f" {sum(len(outcomes) for _, _, _, outcomes in self.sources):,} lines", text)
+        self.assertEqual([line for line in shown if line not in lines], [])
+        refused = {int(number) for line in shown for number in re.findall(r" refused ([0-9]+) ", line)}
+        self.assertEqual(refused, set(range(1, 18)))
+        self.assertEqual({re.sub(r"^\S+ (\S+) .*", r"\1", line) for line in shown}, QUESTIONS)
+
+    def test_joined(self):
+        """The Rust's line where it has one, tools/answers.py's where not, with the line of a list too short."""
+        data = mkbatch.record("a", LIST_BOOKS["p01"]) + mkbatch.record("b", LIST_BOOKS["broken"])
+        right = list(replay.printed(replay.answered(data)))
+        rust = [line for line in right if not line.startswith("tally ")]
+
+        def joined(theirs):
+            told = collections.defaultdict(collections.Counter)
+            found = list(replay.printed(replay.joined(data, "".join(theirs), told)))
+            return found, {which: sum(words.values()) for which, words in told.items()}
+
+        self.assertEqual(joined(rust), (right, {
+            "the Rust's": 34, "the oracle's own, 16": 6, "the oracle's own, 3 for a number outside": 1, "the oracle's own, layout broken": 9}))
+        silent = [line if not line.startswith("a list ") else "a list unanswered ring\n" for line in rust if " list-short" not in line]
+        self.assertEqual(joined(silent)[0], right)
+        self.assertEqual(joined(silent)[1]["unanswered ring"], 2)
+        other = [line.replace('"pair" "tree"', '"tree" "pair"') for line in rust]
+        self.assertEqual(joined(other)[1]["tools/answers.py says something else"], 2)
+        with self.assertRaises(SystemExit):
+            joined(rust + ["c check passed\n"])
 
 
 class Batch(unittest.TestCase):
@@ -410,15 +554,7 @@ class Batch(unittest.TestCase):
             subprocess.run([sys.executable, os.path.join(HERE, "mkbatch.py"), folder, *paths], check=True)
             with open(paths[0], "rb") as batch, open(paths[1], encoding="utf-8") as expected:
                 data, lines = batch.read(), expected.read().splitlines()
-        self.assertLess(len(data), 2_000_000)
-        at, records = 0, []
-        while at < len(data):
-            name = data[at + 1:at + 1 + data[at]].decode()
-            at += 1 + data[at]
-            size, = struct.unpack_from("<I", data, at)
-            records.append((name, data[at + 4:at + 4 + size]))
-            at += 4 + size
-        return records, lines
+        return list(replay.records(data)), lines
 
     def test_check_batch(self):
         records, lines = self.batch(CHECK_FOLDER)
@@ -436,8 +572,9 @@ class Batch(unittest.TestCase):
         self.assertEqual([name for name, _ in records], sorted(LIST_SOURCES))
         self.assertIn('p01 list given 2 "pair" "tree"', lines)
         self.assertIn("p11-empty empty given 3 \"r\" \"s\" \"t\"", lines)
-        self.assertLess(sum(len(line) + 1 for line in lines), 1 << 20)
-        self.assertEqual("\n".join(lines) + "\n", mkgate.answer_batch()[1])
+        self.assertEqual(lines[-1], "tally complete")
+        self.assertEqual("\n".join(lines) + "\n", "".join(replay.printed(replay.answered(b"".join(
+            mkbatch.record(name, book) for name, book in records)))))
 
     def test_batch(self):
         records, lines = self.batch(FOLDER)
@@ -463,6 +600,24 @@ class Batch(unittest.TestCase):
         self.assertEqual(words[-1], "[]")
         self.assertEqual(set(words[1::2]), {"∷"})
         self.assertEqual(bytes(map(int, words[:-1:2])), BOOKS["p01"])
+
+
+class Benchmarks(unittest.TestCase):
+
+    def test_books_are_whole(self):
+        for name, text in benchbooks.sources():
+            self.assertEqual(layout.faults(bytes(mkbook.book(text))), [], name)
+
+    def test_figures_in_a_document(self):
+        text = "a\n<!-- figures: b -->\nold\n<!-- end -->\n<!-- figures: c -->\nkept\n<!-- end -->\n"
+        plot.table("b", ["d"], [["e"]])
+        with tempfile.TemporaryDirectory() as folder:
+            path = os.path.join(folder, "document")
+            with open(path, "w", encoding="utf-8") as file:
+                file.write(text)
+            plot.fill(path)
+            with open(path, encoding="utf-8") as file:
+                self.assertEqual(file.read(), text.replace("old", "| d |\n|---|\n| e |"))
 
 
 if __name__ == "__main__":

@@ -24,6 +24,9 @@ const STEPS_OF_RING: u64 = 4_000;
 /// Entries in the list that answer_batch lends for uses.
 const MOST_USES: usize = 4096;
 
+/// The first number outside every name table. In the Rust it is a text that no name of the book has.
+const OUTSIDE: usize = 1024;
+
 /// Why there is no result.
 #[derive(Clone, PartialEq)]
 enum Fail {
@@ -196,12 +199,21 @@ impl Texts<'_> {
         }
     }
 
+    /// A name's number, or one outside the table.
     fn number(&self, name: &str) -> usize {
-        self.names.binary_search_by(|found| found.as_str().cmp(name)).expect("a name of the book")
+        self.names.binary_search_by(|found| found.as_str().cmp(name)).unwrap_or(OUTSIDE)
+    }
+
+    fn outside(&self) -> String {
+        let mut text = String::from("outside");
+        while self.names.contains(&text) {
+            text.push('_');
+        }
+        text
     }
 
     fn entries(&self, names: &[&str]) -> Vec<String> {
-        names.iter().map(|name| quoted(&self.book.names[self.number(name)])).collect()
+        names.iter().map(|name| named(self.book, self.number(name))).collect()
     }
 }
 
@@ -353,13 +365,23 @@ impl Texts<'_> {
         Ok(rows)
     }
 
-    fn project(&self, checked: &Checked, name: usize, times: usize) -> Found<Vec<String>> {
+    /// A listed name that is unbound is 3 by document 01, before `infer_rec` is asked: it panics there.
+    fn marks(&self, checked: &Checked, list: &[&str]) -> Found<Vec<String>> {
+        if let Some(unbound) = list.iter().find(|name| !checked.env.0.contains_key(**name)) {
+            return Err(Fail::Refused(3, Some(self.number(unbound))));
+        }
+        let marked = infer_rec(&checked.env, list).map_err(|e| self.row(e))?;
+        Ok(self.entries(&marked.into_iter().collect::<Vec<_>>()))
+    }
+
+    fn project(&self, checked: &Checked, asked: Vec<String>) -> Found<Vec<String>> {
         let actor = checked.actor()?;
-        let asked = vec![self.names[name].clone(); times];
-        let projected = match project_methods(&checked.env, &checked.actor, asked) {
+        let projected = match project_methods(&checked.env, &checked.actor, asked.clone()) {
             Ok(projected) => projected,
-            Err(e) if rows::is_absent(&e.to_string(), &self.names[name]) => return Err(Fail::Refused(15, Some(name))),
-            Err(e) => return Err(self.row(e)),
+            Err(e) => {
+                let lowest = rows::absent(&e.to_string(), &asked).iter().map(|name| self.number(name)).min();
+                return Err(lowest.map_or_else(|| self.row(e), |name| Fail::Refused(15, Some(name))));
+            }
         };
         let TypeInner::Service(taken) = projected.as_ref() else {
             return Err(Fail::Unanswered("no-service".into()));
@@ -425,24 +447,29 @@ impl Texts<'_> {
 
 // Lines
 
-fn given(book: &Book, outcome: Found<Vec<String>>) -> String {
+/// A name as it is printed: nothing for a number outside the table.
+fn named(book: &Book, name: usize) -> String {
+    quoted(book.names.get(name).map_or(&[][..], |name| name))
+}
+
+fn given(book: &Book, outcome: &Found<Vec<String>>) -> String {
     match outcome {
         Ok(entries) => {
             let mut text = format!("given {}", entries.len());
             for entry in entries {
                 text.push(' ');
-                text += &entry;
+                text += entry;
             }
             text
         }
-        Err(fail) => failed(book, &fail),
+        Err(fail) => failed(book, fail),
     }
 }
 
 fn failed(book: &Book, fail: &Fail) -> String {
     match fail {
         Fail::Refused(number, None) => format!("refused {number} -"),
-        Fail::Refused(number, Some(name)) => format!("refused {number} {}", quoted(&book.names[*name])),
+        Fail::Refused(number, Some(name)) => format!("refused {number} {}", named(book, *name)),
         Fail::Unanswered(why) => format!("unanswered {why}"),
     }
 }
@@ -455,70 +482,110 @@ fn verdict<T>(book: &Book, outcome: &Found<T>, unvalidated: &[&Option<String>]) 
     }
 }
 
-const OF_BOOK: [&str; 5] = ["list", "marks", "init", "draft", "empty"];
+const OF_BOOK: [&str; 9] = ["check", "init-check", "list", "marks", "marks-back", "marks-outside", "init", "draft", "empty"];
 const OF_NAME: [&str; 3] = ["uses", "project", "twice"];
-const OF_CHECK: [&str; 2] = ["check", "init check"];
+const OF_WHOLE: [&str; 5] = ["uses-outside", "project-outside", "project-none", "project-all", "project-every"];
 
-/// The lines of a book, each a question and its outcome.
-fn lines(bytes: &[u8]) -> Vec<(String, String)> {
+/// Those that are asked again, with one place fewer than the entries that were given.
+const SHORT: [&str; 7] = ["list", "marks", "init", "draft", "empty", "uses", "project-all"];
+
+/// A question and its outcome.
+type Line = (String, String);
+
+/// The lines of a book.
+fn lines(bytes: &[u8]) -> Vec<Line> {
     let Some(book) = book::read(bytes) else {
-        return OF_BOOK.iter().chain(&OF_CHECK).map(|word| (word.to_string(), "refused 1 -".into())).collect();
+        return OF_BOOK.iter().map(|word| (word.to_string(), "refused 1 -".into())).collect();
     };
     let names: Result<Vec<String>, _> = book.names.iter().map(|name| String::from_utf8(name.clone())).collect();
     let found = names.ok().map(|names| lines_of(&Texts { book: &book, names, renamed: false }));
-    let is_ambiguous = |lines: &Vec<(String, String)>| lines.iter().any(|line| line.1 == "unanswered ambiguous-text");
+    let is_ambiguous = |lines: &Vec<Line>| lines.iter().any(|line| line.1 == "unanswered ambiguous-text");
     match (found, other_names(&book)) {
         (Some(lines), None) => lines,
         (Some(lines), Some(_)) if !is_ambiguous(&lines) => lines,
         (_, Some(names)) => lines_of(&Texts { book: &book, names, renamed: true }),
         (None, None) => {
             let of_names = book.names.iter().flat_map(|name| OF_NAME.map(|word| format!("{word} {}", quoted(name))));
-            let questions = OF_BOOK.map(String::from).into_iter().chain(of_names).chain(OF_CHECK.map(String::from));
+            let questions = OF_BOOK.map(String::from).into_iter().chain(of_names).chain(OF_WHOLE.map(String::from));
             questions.map(|question| (question, "unanswered utf-8".into())).collect()
         }
     }
 }
 
-fn lines_of(texts: &Texts) -> Vec<(String, String)> {
+/// Says the outcome of a question, and of the same with too short a list: by construction 16 and the entries given.
+fn say(book: &Book, lines: &mut Vec<Line>, word: &str, name: Option<usize>, outcome: Found<Vec<String>>) {
+    let of = name.map_or(String::new(), |name| format!(" {}", named(book, name)));
+    lines.push((format!("{word}{of}"), given(book, &outcome)));
+    let entries = outcome.map_or(0, |entries| entries.len());
+    if entries > 0 && SHORT.contains(&word) {
+        lines.push((format!("{word}-short{of}"), format!("needs {entries} refused 16 -")));
+    }
+}
+
+fn lines_of(texts: &Texts) -> Vec<Line> {
     let book = texts.book;
     let (found, unvalidated) = texts.check();
-    let mut lines = Vec::new();
-    let mut say = |question: String, outcome: Found<Vec<String>>| lines.push((question, given(book, outcome)));
     let known = found.as_ref().map_err(|fail| fail.clone());
+    let (init, init_unvalidated) = match &known {
+        Ok(checked) => texts.init_check(&checked.env),
+        Err(fail) => (Err(fail.clone()), None),
+    };
+    let mut lines = vec![
+        ("check".into(), verdict(book, &found, &[&unvalidated])),
+        ("init-check".into(), verdict(book, &init, &[&unvalidated, &init_unvalidated])),
+    ];
+    let mut say = |word, name, outcome| say(book, &mut lines, word, name, outcome);
 
     let listed = guarded(STEPS, || {
         let checked = known.clone()?;
         chase_actor(&checked.env, checked.actor()?).map_err(|e| texts.row(e))
     });
-    let marks = guarded(STEPS, || {
-        let list: &[&str] = listed.as_deref().unwrap_or_default();
-        let marked = infer_rec(&known.clone()?.env, list).map_err(|e| texts.row(e))?;
-        Ok(texts.entries(&marked.into_iter().collect::<Vec<_>>()))
-    });
-    let (init, init_unvalidated) = match &known {
-        Ok(checked) => texts.init_check(&checked.env),
-        Err(fail) => (Err(fail.clone()), None),
+    let outside = texts.outside();
+    say("list", None, listed.clone().map(|found| texts.entries(&found)));
+    let list = match &listed {
+        Ok(list) => Ok(list.clone()),
+        Err(Fail::Refused(..)) => Ok(vec![]),
+        Err(fail) => Err(fail.clone()),
     };
+    let marks = |list: Found<Vec<&str>>| guarded(STEPS, || texts.marks(known.clone()?, &list?));
+    say("marks", None, marks(list.clone()));
+    say("marks-back", None, marks(list.clone().map(|list| list.into_iter().rev().collect())));
+    say("marks-outside", None, marks(list.map(|list| [&list[..], &[&outside]].concat())));
     let init_list = guarded(STEPS, || {
         let (env, args) = init.as_ref().map_err(|fail| fail.clone())?;
         Ok(texts.entries(&chase_types(env, args).map_err(|e| texts.row(e))?))
     });
-    say("list".into(), listed.clone().map(|found| texts.entries(&found)));
-    say("marks".into(), marks);
-    say("init".into(), init_list);
-    say("draft".into(), guarded(STEPS, || texts.draft()));
-    say("empty".into(), guarded(STEPS, || texts.emptiness(known.clone()?)));
+    say("init", None, init_list);
+    say("draft", None, guarded(STEPS, || texts.draft()));
+    say("empty", None, guarded(STEPS, || texts.emptiness(known.clone()?)));
+
     let uses = guarded(STEPS, || texts.uses(known.clone()?));
-    for (number, name) in texts.names.iter().enumerate() {
-        let of = |word: &str| format!("{word} {}", quoted(&book.names[number]));
-        let row = uses.as_ref().map(|rows| rows.get(name).cloned().unwrap_or_default()).map_err(|fail| fail.clone());
-        say(of("uses"), row.and_then(|row| if row.len() > MOST_USES { Err(Fail::Refused(16, None)) } else { Ok(row) }));
-        for (word, times) in [("project", 1), ("twice", 2)] {
-            say(of(word), guarded(STEPS, || texts.project(known.clone()?, number, times)));
+    let uses_of = |name: &str| {
+        let row = uses.as_ref().map_err(|fail| fail.clone())?.get(name).cloned().unwrap_or_default();
+        if row.len() > MOST_USES {
+            Err(Fail::Refused(16, None))
+        } else {
+            Ok(row)
         }
+    };
+    let project = |asked: Vec<String>| guarded(STEPS, || texts.project(known.clone()?, asked));
+    let mut projected = Ok(vec![]);
+    for (number, name) in texts.names.iter().enumerate() {
+        say("uses", Some(number), uses_of(name));
+        let once = project(vec![name.clone()]);
+        match (&once, &mut projected) {
+            (Ok(_), Ok(names)) => names.push(name.clone()),
+            (Err(Fail::Unanswered(why)), Ok(_)) => projected = Err(Fail::Unanswered(why.clone())),
+            _ => (),
+        }
+        say("project", Some(number), once);
+        say("twice", Some(number), project(vec![name.clone(); 2]));
     }
-    lines.push(("check".into(), verdict(book, &found, &[&unvalidated])));
-    lines.push(("init check".into(), verdict(book, &init, &[&unvalidated, &init_unvalidated])));
+    say("uses-outside", None, uses_of(&outside));
+    say("project-outside", None, project(vec![outside.clone()]));
+    say("project-none", None, project(vec![]));
+    say("project-all", None, projected.and_then(|names| project(names.into_iter().rev().collect())));
+    say("project-every", None, project(texts.names.iter().rev().cloned().collect()));
     lines
 }
 

@@ -1,24 +1,52 @@
 //! Our lines and the Rust's, line by line.
 
 use crate::book::{self, Batch};
-use std::collections::BTreeMap;
+use std::collections::{BTreeMap, HashSet};
 use std::io::Write;
+use std::iter::Peekable;
+use std::str::Lines;
 
 pub fn file(path: &str) -> Vec<u8> {
     std::fs::read(path).unwrap_or_else(|e| panic!("{path}: {e}"))
 }
 
-/// The word of a question and the outcome after it, of a line of ours or of the Rust's.
-fn parted(said: &str) -> (&str, &str) {
-    for word in ["init check", "check", "list", "marks", "init", "draft", "empty"] {
-        if let Some(outcome) = said.strip_prefix(word).and_then(|rest| rest.strip_prefix(' ')) {
-            return (word, outcome);
-        }
+/// A line of ours or of the Rust's without its source's name: a question, the first word of it, and the outcome.
+#[derive(Clone, Copy)]
+struct Line<'a> {
+    whole: &'a str,
+    question: &'a str,
+    word: &'a str,
+    outcome: &'a str,
+}
+
+impl<'a> Line<'a> {
+    fn of(whole: &'a str) -> Self {
+        let (word, rest) = whole.split_once(' ').unwrap_or((whole, ""));
+        // A quoted name has no quotation mark inside.
+        let name = rest.strip_prefix('"').and_then(|rest| rest.find('"')).map_or(0, |end| end + 3);
+        let outcome = rest.get(name..).unwrap_or_default();
+        Line { whole, question: whole[..whole.len() - outcome.len()].trim_end(), word, outcome }
     }
-    // A quoted name has no quotation mark inside.
-    let word = said.split(' ').next().unwrap_or_default();
-    let end = said.match_indices('"').nth(1).map_or(said.len(), |(at, _)| at + 2);
-    (word, said.get(end..).unwrap_or_default())
+
+    fn unanswered(&self) -> Option<&'a str> {
+        self.outcome.strip_prefix("unanswered ")
+    }
+
+    /// The question that this one asks again with too short a list.
+    fn asked_before(&self) -> Option<String> {
+        self.word.strip_suffix("-short").map(|word| self.question.replacen(self.word, word, 1))
+    }
+}
+
+/// The lines of the next book.
+fn lines_of<'a>(lines: &mut Peekable<Lines<'a>>, name: &str) -> Vec<Line<'a>> {
+    let rest = |line: &'a str| line.strip_prefix(name).and_then(|rest| rest.strip_prefix(' '));
+    let mut found = Vec::new();
+    while let Some(whole) = lines.peek().and_then(|line| rest(line)) {
+        found.push(Line::of(whole));
+        lines.next();
+    }
+    found
 }
 
 #[derive(Default)]
@@ -32,9 +60,13 @@ pub struct Counts {
     books_skipped: BTreeMap<String, u64>,
     refused: BTreeMap<u32, BTreeMap<String, u64>>,
     entries: BTreeMap<String, (u64, u64)>,
+    /// Lines that are the oracle's own, not the Rust's.
+    own: BTreeMap<&'static str, u64>,
     largest: usize,
     #[cfg_attr(not(exports), allow(dead_code))]
     exported: u64,
+    #[cfg_attr(not(exports), allow(dead_code))]
+    calls: u64,
 }
 
 pub struct Difference {
@@ -48,6 +80,7 @@ impl Counts {
     fn count(&mut self, word: &str, outcome: &str) {
         let words: Vec<&str> = outcome.splitn(3, ' ').collect();
         match words[..] {
+            ["needs", _, refusal] => self.count(word, refusal),
             ["given", "0"] => self.entries.entry(word.into()).or_default().0 += 1,
             ["given", _, _] => self.entries.entry(word.into()).or_default().1 += 1,
             ["refused", number, _] => {
@@ -59,9 +92,9 @@ impl Counts {
     }
 }
 
-/// The lines of answer_batch, check_batch and the Rust for a batch.
-pub fn compared(batch: &[u8], answers: &str, checks: &str, rust: &str) -> (Counts, Vec<Difference>) {
-    let (mut answers, mut checks, mut rust) = (answers.lines(), checks.lines(), rust.lines());
+/// The lines of answer_batch and the Rust for a batch. What stands after the last book, the tally, is left aside.
+pub fn compared(batch: &[u8], ours: &str, rust: &str) -> (Counts, Vec<Difference>) {
+    let (mut ours, mut rust) = (ours.lines().peekable(), rust.lines().peekable());
     let mut counts = Counts::default();
     let mut differences: Vec<Difference> = Vec::new();
     for (name, bytes) in Batch(batch) {
@@ -69,62 +102,99 @@ pub fn compared(batch: &[u8], answers: &str, checks: &str, rust: &str) -> (Count
         counts.largest = counts.largest.max(bytes.len());
         let whole = book::read(bytes);
         counts.whole += whole.is_some() as u64;
-        let of_names = whole.as_ref().map_or(0, |book| 3 * book.names.len());
         #[cfg(exports)]
         let exported = crate::exported::said(bytes, whole.as_ref());
-        let (mut passes, mut listed, mut skipped_for) = (false, false, None);
-        for _ in 0..5 + of_names + 2 {
-            let theirs = rust.next().unwrap_or("nothing");
-            let said = theirs.strip_prefix(name).and_then(|rest| rest.strip_prefix(' ')).unwrap_or_default();
-            let (word, outcome) = parted(said);
-            let question = &said[..said.len() - outcome.len()];
-            let ours = match word {
-                "check" => checks.next().map(|line| line.replacen(&format!("{name} "), &format!("{name} check "), 1)),
-                "init check" => {
-                    checks.next().map(|line| line.replacen(&format!("{name} init "), &format!("{name} init check "), 1))
-                }
-                _ => answers.next().map(String::from),
+        #[cfg(exports)]
+        {
+            counts.calls += exported.calls;
+        }
+        let mut differs = |ours: String, rust: String| {
+            differences.push(Difference { book: bytes.into(), name: name.into(), ours, rust });
+        };
+        let said = |line: Line| format!("{name} {}", line.whole);
+        let nothing = || String::from("nothing");
+
+        // Lines are matched by their questions, in order. A question that is unanswered is not asked again with too short a list.
+        let theirs = lines_of(&mut rust, name);
+        let unanswered: HashSet<&str> =
+            theirs.iter().filter(|line| line.unanswered().is_some()).map(|line| line.question).collect();
+        let mut own = lines_of(&mut ours, name);
+        own.retain(|line| !line.asked_before().is_some_and(|before| unanswered.contains(before.as_str())));
+        let (mut next, mut passes, mut listed, mut marked, mut skipped_for) = (0, false, false, false, None);
+        for line in theirs {
+            let Some(place) = own[next..].iter().position(|own| own.question == line.question) else {
+                differs(nothing(), said(line));
+                continue;
             };
-            let ours = ours.unwrap_or("nothing".into());
-            if let Some(why) = outcome.strip_prefix("unanswered ") {
+            own[next..next + place].iter().for_each(|own| differs(said(*own), nothing()));
+            let found = own[next + place];
+            next += place + 1;
+            #[cfg(exports)]
+            if let Some(outcome) = exported.to(line.question) {
+                // Where the Rust has no answer, what the batch says.
+                let right = if line.unanswered().is_some() { found } else { line };
+                counts.exported += 1;
+                if outcome != right.outcome {
+                    differs(format!("{name} {} {outcome}, as exported", line.question), said(right));
+                }
+            }
+            if let Some(why) = line.unanswered() {
                 *counts.skipped.entry(why.into()).or_default() += 1;
                 skipped_for = Some(why);
-                if ours.starts_with(&format!("{name} {question}")) {
-                    continue;
-                }
+                continue;
             }
             counts.lines += 1;
-            counts.count(word, outcome);
-            passes |= word == "check" && outcome == "passed";
-            listed |= word == "list" && outcome.starts_with("given");
-            #[cfg(exports)]
-            if let Some((_, said)) = exported.iter().find(|(question, _)| *question == word) {
-                counts.exported += 1;
-                if said != outcome {
-                    let ours = format!("{name} {question}{said}, as exported");
-                    differences.push(Difference { book: bytes.into(), name: name.into(), ours, rust: theirs.into() });
-                }
+            counts.count(line.word, line.outcome);
+            let is_given = line.outcome.starts_with("given");
+            passes |= line.word == "check" && line.outcome == "passed";
+            listed |= line.word == "list" && is_given;
+            marked |= line.word == "marks" && is_given;
+            if line.word == "marks-outside" && marked {
+                *counts.own.entry("3 for a number outside").or_default() += 1;
+            } else if line.asked_before().is_some() {
+                *counts.own.entry("16 for a list too short").or_default() += 1;
             }
-            if ours != theirs {
-                differences.push(Difference { book: bytes.into(), name: name.into(), ours, rust: theirs.into() });
+            if found.outcome != line.outcome {
+                differs(said(found), said(line));
             }
         }
+        own[next..].iter().for_each(|own| differs(said(*own), nothing()));
         counts.passed += passes as u64;
         counts.with_actor += (passes && listed) as u64;
         if let Some(why) = skipped_for {
             *counts.books_skipped.entry(why.into()).or_default() += 1;
         }
     }
-    for left in [answers.next(), checks.next(), rust.next()].into_iter().flatten() {
+    for left in ours.filter(|line| !line.starts_with("tally ")).chain(rust) {
         differences.push(Difference { book: vec![], name: "the end".into(), ours: left.into(), rust: left.into() });
     }
     (counts, differences)
 }
 
-pub fn run(batch: &str, answers: &str, checks: &str, rust: &str, difference: Option<&str>) -> i32 {
+/// The lines of check_batch in the words of answer_batch, and those of the Rust that say the same.
+fn checks_alone(batch: &[u8], checks: &str, rust: &str) -> [String; 2] {
+    let (mut checks, mut rust) = (checks.lines().peekable(), rust.lines().peekable());
+    let mut found = [String::new(), String::new()];
+    for (name, _) in Batch(batch) {
+        for line in lines_of(&mut checks, name) {
+            let of_init = line.whole.strip_prefix("init ").map(|verdict| format!("{name} init-check {verdict}\n"));
+            found[0] += &of_init.unwrap_or_else(|| format!("{name} check {}\n", line.whole));
+        }
+        for line in lines_of(&mut rust, name).into_iter().filter(|line| ["check", "init-check"].contains(&line.word)) {
+            found[1] += &format!("{name} {}\n", line.whole);
+        }
+    }
+    found[0].extend(checks.map(|line| format!("{line}\n")));
+    found
+}
+
+pub fn run(batch: &str, ours: &str, rust: &str, of_checks: bool, difference: Option<&str>) -> i32 {
     let batch = file(batch);
-    let [answers, checks, rust] = [answers, checks, rust].map(|path| String::from_utf8(file(path)).expect("text"));
-    let (counts, differences) = compared(&batch, &answers, &checks, &rust);
+    let [mut ours, mut rust] = [ours, rust].map(|path| String::from_utf8(file(path)).expect("text"));
+    if of_checks {
+        [ours, rust] = checks_alone(&batch, &ours, &rust);
+    }
+    let (counts, differences) = compared(&batch, &ours, &rust);
     print(&counts, &differences);
     let Some(smallest) = differences.iter().min_by_key(|difference| difference.book.len()) else {
         return 0;
@@ -143,7 +213,10 @@ fn print(counts: &Counts, differences: &[Difference]) {
     );
     println!("{} lines compared, {} differ", counts.lines, differences.len());
     #[cfg(exports)]
-    println!("{} answers of the exported functions compared with the same lines", counts.exported);
+    println!("{} answers of the exported functions compared with the same lines, {} calls", counts.exported, counts.calls);
+    for (what, lines) in &counts.own {
+        println!("of them the oracle's own, {what}: {lines}");
+    }
     for (why, lines) in &counts.skipped {
         let books = counts.books_skipped.get(why).unwrap_or(&0);
         println!("unanswered, {why}: {lines} lines of {books} books");

@@ -1,16 +1,28 @@
 //! All small books of a few kinds: up to 5 nodes, 2 definitions and 3 names. Each fits the layout.
 //!
 //! Types are nat, a name, opt, a record of one or two fields, a func of any arguments and results, a service of up to two
-//! methods, and a class. Beside main stands nothing, one service import or an init file. Left out, so that the number stays
-//! small:
+//! methods, and a class. Beside main stand up to two imports and an init file. Left out, so that the number stays small:
 //! - a sole definition is of `a`; two are of `a` and `b`, in either order, or of `a` twice;
-//! - a name is one that the book defines or `m`, which no book does; with an init file and two names defined, only those two;
+//! - a name is one that the book defines or `m`, which no book does; with an init file, or a type import alone, and two names
+//!   defined, only those two;
 //! - modes are none and oneway; with main alone and at most one definition, also two modes at once;
 //! - a method's type is a func, a name or nat; the class below an actor's top is `class { service {} }`, which nobody opens;
 //! - labels are fixed, except with an init file, where they are compared; a lone method is `m`, with a service import also `a`;
-//! - an actor is a class, a service, a name or nat; in a book of main alone without definitions, any type of up to 3 nodes;
+//! - an actor is a class, a service, a name or nat; in a book of main alone without definitions, any type of up to 3 nodes; a
+//!   type import's, which is ignored, any type;
 //! - a main file without an actor counts as a node, except with an init file: its definitions stand beside `service {}` too;
-//! - books of more than 3 nodes that are 2 or 12 whatever their trees are.
+//! - books of more than 3 nodes that are 2 or 12 whatever their trees are; with three files or more, those whose trees are all
+//!   of one node are there.
+//!
+//! More is left out of the parts with a type import or with several files beside main:
+//! - `type-import`: the type import has a definition or an actor; where it has an actor, two definitions stand in two files.
+//! - `imports`: a type and a service import, in either order, or two service imports. A type import has a definition or an
+//!   actor. Two definitions stand in two files, one of them the type import; a sole one in the type import. With two service
+//!   imports two stand in these, a sole one anywhere.
+//! - `import-init`: a service import and an init file; two definitions stand in two files. Where main has an actor too, there
+//!   are up to 6 nodes, since 5 leave little for three files. Or a type import without an actor and an init file, alone or with
+//!   a service import before or after the type import: one definition stands in the type import, and one in the init file or
+//!   none.
 //!
 //! The part `sound` has up to 6 nodes of what can pass: no unbound name, oneway only without results, methods of func and
 //! names alone, no class below the top, no nat as an actor. It has four shapes: an actor with one definition, with two, with
@@ -88,6 +100,8 @@ struct Makings<'a> {
 struct Made {
     types: Trees,
     actors: Trees,
+    /// Actors of a type import.
+    ignored: Trees,
     /// Init argument lists.
     lists: Trees,
 }
@@ -95,7 +109,8 @@ struct Made {
 impl Makings<'_> {
     fn made(&self) -> Made {
         let none = || -> Trees { vec![vec![]] };
-        let (mut types, mut methods, mut tops, mut actors, mut lists) = (none(), none(), none(), none(), none());
+        let (mut types, mut methods, mut tops) = (none(), none(), none());
+        let (mut actors, mut ignored, mut lists) = (none(), none(), none());
         for nodes in 1..=self.largest {
             let below = |lists: &[&Trees], then: &mut dyn FnMut(&[Node])| each(lists, nodes - 1, &mut vec![], then);
             let when = |holds: bool, tree: Node| if holds { vec![tree] } else { vec![] };
@@ -138,9 +153,7 @@ impl Makings<'_> {
                 below(&below_class, &mut |kids| actor.push(node(book::CLASS, 0, kids)));
             }
             actor.extend([&wrong[..], &names, &service].concat());
-            if nodes <= self.any_actor {
-                actor.extend([&functions[..], &others].concat());
-            }
+            let any = [&actor[..], &functions, &others].concat();
             let mut list = vec![];
             for count in 0..nodes {
                 below(&vec![&types; count], &mut |kids| list.push(node(book::ARGS, 0, kids)));
@@ -148,10 +161,11 @@ impl Makings<'_> {
             types.push([&nat[..], &names, &functions, &service, &others, &class].concat());
             tops.push([&wrong[..], &names, &service, &class].concat());
             methods.push([wrong, names, functions].concat());
-            actors.push(actor);
+            actors.push(if nodes <= self.any_actor { any.clone() } else { actor });
+            ignored.push(any);
             lists.push(list);
         }
-        Made { types, actors, lists }
+        Made { types, actors, ignored, lists }
     }
 }
 
@@ -171,18 +185,23 @@ impl Shape<'_> {
         let mut names: Vec<u32> = definitions.iter().map(|(name, _)| *name).collect();
         names.sort();
         names.dedup();
-        if !(self.sound || has_init && names.len() == 2) {
+        let lone_type_import = files.len() == 2 && files[1].0 == book::TYPE_IMPORT;
+        if !(self.sound || (has_init || lone_type_import) && names.len() == 2) {
             names.push(M);
         }
-        let twice = matches!(definitions, [one, other] if one.0 == other.0 && (one.1 == other.1 || !has_init));
+        let of_init = |file: usize| files[file].0 == book::INIT;
+        let twice = matches!(definitions, [one, other] if one.0 == other.0 && of_init(one.1) == of_init(other.1));
+        let trees = definitions.len() + files.iter().filter(|file| file.1).count();
+        // For what is 2 or 12 whatever the trees are.
+        let few = if files.len() > 2 { trees.max(3) } else { 3 };
+        let all_three = has_init && files.len() == 3 && files.iter().all(|file| file.1);
         let most = if twice || has(book::SERVICE_IMPORT, false) {
-            3
-        } else if self.sound {
+            few
+        } else if self.sound || all_three {
             NODES + 1
         } else {
             NODES - (has(book::MAIN, false) && !has_init) as usize
         };
-        let trees = definitions.len() + files.iter().filter(|file| file.1).count();
         let alone = files.len() == 1;
         let made = Makings {
             sound: self.sound,
@@ -196,7 +215,11 @@ impl Shape<'_> {
         .made();
         let mut lists = vec![&made.types; definitions.len()];
         for (role, _) in files.iter().filter(|file| file.1) {
-            lists.push(if *role == book::INIT { &made.lists } else { &made.actors });
+            lists.push(match *role {
+                book::INIT => &made.lists,
+                book::TYPE_IMPORT => &made.ignored,
+                _ => &made.actors,
+            });
         }
         for nodes in lists.len()..=most {
             each(&lists, nodes, &mut vec![], &mut |row| {
@@ -205,7 +228,7 @@ impl Shape<'_> {
                 let definition = |&(name, file): &(u32, usize)| Definition { name: name as usize, file, tree: tree() };
                 let definitions = definitions.iter().map(definition).collect();
                 let file = |(place, &(role, has_tree)): (usize, &(u16, bool))| File {
-                    name: place,
+                    name: place % NAMES.len(),
                     role,
                     tree: has_tree.then(&mut tree),
                 };
@@ -219,13 +242,25 @@ impl Shape<'_> {
 fn shapes(part: &str, then: &mut dyn FnMut(Book)) {
     let (main, no_main, init) = ((book::MAIN, true), (book::MAIN, false), (book::INIT, true));
     let (import, no_import) = ((book::SERVICE_IMPORT, true), (book::SERVICE_IMPORT, false));
+    let (ignored, no_ignored) = ((book::TYPE_IMPORT, true), (book::TYPE_IMPORT, false));
     let in_main: [&[(u32, usize)]; 5] = [&[], &[(A, 0)], &[(A, 0), (B, 0)], &[(B, 0), (A, 0)], &[(A, 0), (A, 0)]];
     let in_both: [&[(u32, usize)]; 4] = [&[(A, 1)], &[(A, 0), (A, 1)], &[(A, 0), (B, 1)], &[(B, 0), (A, 1)]];
     let in_init: [&[(u32, usize)]; 3] = [&[(A, 1), (B, 1)], &[(B, 1), (A, 1)], &[(A, 1), (A, 1)]];
+    let sole = |file: usize| vec![(A, file)];
+    let two = |one: usize, other: usize| {
+        let (one, other) = (one.min(other), one.max(other));
+        [vec![(A, one), (B, other)], vec![(B, one), (A, other)], vec![(A, one), (A, other)]]
+    };
     let mut all = |definitions: &[&[(u32, usize)]], files: &[&[(u16, bool)]]| {
         for definitions in definitions {
             files.iter().for_each(|files| Shape { sound: part == "sound", definitions, files }.each(then));
         }
+    };
+    // Beside a main file with and without an actor.
+    let mut beside = |definitions: &[&[Vec<(u32, usize)>]], others: &[(u16, bool)]| {
+        let definitions = definitions.concat();
+        let definitions: Vec<&[(u32, usize)]> = definitions.iter().map(|row| &row[..]).collect();
+        all(&definitions, &[&[&[no_main], others].concat(), &[&[main], others].concat()]);
     };
     match part {
         "main" => all(&in_main, &[&[no_main], &[main]]),
@@ -239,7 +274,33 @@ fn shapes(part: &str, then: &mut dyn FnMut(Book)) {
             all(&[&[(B, 0), (A, 0)]], &[&[main, import]]);
             all(&[&[(A, 0), (A, 1)]], &[&[no_main, init]]);
         }
-        _ => panic!("main, import, init or sound, not {part}"),
+        "type-import" => {
+            all(&[&in_both[..], &in_init].concat(), &[&[no_main, no_ignored], &[main, no_ignored]]);
+            all(&[&in_main[..2], &in_both].concat(), &[&[no_main, ignored], &[main, ignored]]);
+        }
+        "imports" => {
+            for service in [import, no_import] {
+                for (of_type, of_service) in [(1, 2), (2, 1)] {
+                    let files = |of: (u16, bool)| if of_type == 1 { [of, service] } else { [service, of] };
+                    let with_type = [&[sole(of_type)][..], &two(0, of_type), &two(of_type, of_service)].concat();
+                    beside(&[&with_type], &files(no_ignored));
+                    beside(&[&[vec![]], &with_type], &files(ignored));
+                }
+                for other in [import, no_import] {
+                    beside(&[&[vec![], sole(0), sole(1), sole(2)], &two(1, 2)], &[service, other]);
+                }
+            }
+        }
+        "import-init" => {
+            for service in [import, no_import] {
+                let one = [vec![], sole(0), sole(1), sole(2)];
+                beside(&[&one, &two(0, 1), &two(0, 2), &two(1, 2)], &[service, init]);
+                beside(&[&[sole(1)], &two(1, 3)], &[no_ignored, service, init]);
+                beside(&[&[sole(2)], &two(2, 3)], &[service, no_ignored, init]);
+            }
+            beside(&[&[sole(1)], &two(1, 2)], &[no_ignored, init]);
+        }
+        _ => panic!("main, import, init, sound, type-import, imports or import-init, not {part}"),
     }
 }
 

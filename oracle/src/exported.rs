@@ -1,65 +1,235 @@
-//! The reader's exported functions (crates/exports), called from outside on byte slices.
+//! What the reader's exported functions say to every question of a book, in the words of answer_batch.
+//!
+//! Each question is asked with a lent list that is long enough, just long enough, one entry too short and empty. Every time the numbers
+//! beyond the result, or all after a refusal, have to be as they were, and those before and after the lent list too.
 
 use crate::book::{quoted, Book};
+use crate::ours::{self, Answer, Question, NAMES, NO_NAME, SHORT};
+use std::collections::HashMap;
 
-extern "C" {
-    fn ludzepin_check(book: *const u8, size: usize) -> u32;
-    fn ludzepin_init_check(book: *const u8, size: usize) -> u32;
-    fn ludzepin_list(book: *const u8, size: usize, out: *mut u16, places: usize) -> u32;
-}
-
-/// Stands in the lent list beforehand; no name has this number.
+/// Stands in the lent list beforehand and around it; no entry has this number.
 const BEFORE: u16 = 40_000;
+const AROUND: usize = 8;
 
-fn refused(code: u32, book: Option<&Book>) -> String {
-    match (code >> 16, (code & 0xffff) as usize) {
-        (number, 65535) => format!("refused {number} -"),
-        (number, name) => {
-            let named = book.and_then(|book| book.names.get(name)).map_or("no such name".into(), |name| quoted(name));
-            format!("refused {number} {named}")
+/// A question about a name is asked with every length of list for the names below this number and for the last one; for the others, of
+/// which only large books have any, with a list that is long enough alone.
+const EVERY_LENGTH: usize = 16;
+
+pub struct Said<'a> {
+    bytes: &'a [u8],
+    book: Option<&'a Book>,
+    room: Vec<u16>,
+    /// As long as the room, and as it was before.
+    untouched: Vec<u16>,
+    /// Outcomes by question, as in a line of answer_batch.
+    lines: HashMap<String, String>,
+    pub calls: u64,
+}
+
+impl Said<'_> {
+    fn name(&self, number: usize) -> String {
+        self.book.and_then(|book| book.names.get(number)).map_or("\"\"".into(), |name| quoted(name))
+    }
+
+    fn refused(&self, number: u32, low: usize) -> String {
+        match (number, low) {
+            (SHORT, _) | (_, NO_NAME) => format!("refused {number} -"),
+            _ => format!("refused {number} {}", self.name(low)),
         }
+    }
+
+    fn text(&self, question: Question, answer: Answer, entries: &[u16]) -> String {
+        let count = match answer {
+            Answer::Given(count) => count,
+            Answer::Refused(number, low) => return self.refused(number, low),
+        };
+        let mut text = format!("given {count}");
+        for entry in entries.chunks(question.numbers()) {
+            text.push(' ');
+            match (question, entry) {
+                (_, [method, kind, index]) => text += &format!("{method}.{kind}.{index}"),
+                (Question::Project(_), _) => text += &entry[0].to_string(),
+                _ => text += &self.name(entry[0] as usize),
+            }
+        }
+        text
+    }
+
+    /// The answer with so many numbers lent, its entries, and whether all else is as it was.
+    fn ask(&mut self, question: Question, numbers: usize) -> (Answer, &[u16], bool) {
+        let end = AROUND + numbers;
+        if self.room.len() < end + AROUND {
+            self.room.resize(end + AROUND, BEFORE);
+            self.untouched.resize(end + AROUND, BEFORE);
+        }
+        let room = &mut self.room[..end + AROUND];
+        room.fill(BEFORE);
+        let answer = question.ask(self.bytes, &mut room[AROUND..end]);
+        self.calls += 1;
+        let given = match answer {
+            Answer::Given(count) => numbers.min(count * question.numbers()),
+            Answer::Refused(..) => 0,
+        };
+        let (before, rest) = room.split_at(AROUND);
+        let (entries, after) = rest.split_at(given);
+        let is_kept = *before == self.untouched[..AROUND] && *after == self.untouched[..after.len()];
+        (answer, entries, is_kept)
+    }
+
+    /// Asks with a list that is empty, or just long enough and too short; gives what is wrong, and the line for one entry too few.
+    fn other_lengths(&mut self, question: Question, answer: Answer, entries: &[u16]) -> (&'static str, Option<String>) {
+        let numbers = question.numbers();
+        let (needed, is_given) = match answer {
+            Answer::Given(count @ 1..) => (count, true),
+            Answer::Refused(SHORT, needed) => (needed, false),
+            _ if self.ask(question, 0) == (answer, &[], true) => return ("", None),
+            _ => return (" but not the same with an empty list", None),
+        };
+        let mut wrong = "";
+        let (exact, found, is_kept) = self.ask(question, needed * numbers);
+        if exact != Answer::Given(needed) || !is_kept || is_given && found != entries {
+            wrong = " but not the same in a list just long enough";
+        }
+        let one_less = (needed - 1) * numbers;
+        for short in [0, needed * numbers - 1] {
+            if short != one_less && self.ask(question, short) != (Answer::Refused(SHORT, needed), &[], true) {
+                wrong = " but not 16 in a list too short";
+            }
+        }
+        let (short, found, is_kept) = self.ask(question, one_less);
+        let found = found.to_vec();
+        let mut line = match short {
+            Answer::Refused(SHORT, needed) => format!("needs {needed} {}", self.refused(SHORT, NO_NAME)),
+            _ => self.text(question, short, &found),
+        };
+        if !is_kept {
+            line += " and more is written";
+        }
+        (wrong, is_given.then_some(line))
+    }
+
+    /// Takes down the answer to a question, and to the same with other lists.
+    fn say(&mut self, word: &str, of: &str, question: Question, every_length: bool) -> (Answer, Vec<u16>) {
+        let (answer, entries, is_kept) = self.ask(question, question.places() * question.numbers());
+        let entries = entries.to_vec();
+        let mut line = self.text(question, answer, &entries);
+        if !is_kept {
+            line += " and more is written";
+        }
+        if every_length {
+            let (wrong, short) = self.other_lengths(question, answer, &entries);
+            line += wrong;
+            if let Some(short) = short {
+                self.lines.insert(format!("{word}-short{of}"), short);
+            }
+        }
+        self.lines.insert(format!("{word}{of}"), line);
+        (answer, entries)
+    }
+
+    /// A question that has no line of its own: if its answer is another, the line of `word` is made wrong.
+    fn hold(&mut self, word: &str, question: Question, right: Answer) {
+        let (answer, _, is_kept) = self.ask(question, question.places() * question.numbers());
+        if answer != right || !is_kept {
+            if let Some(line) = self.lines.get_mut(word) {
+                *line += " but otherwise for another number";
+            }
+        }
+    }
+
+    fn verdict(&mut self, word: &str, answer: Answer) {
+        self.calls += 1;
+        let line = match answer {
+            Answer::Given(0) => "passed".into(),
+            Answer::Given(_) => "no verdict".into(),
+            Answer::Refused(number, name) => self.refused(number, name),
+        };
+        self.lines.insert(word.into(), line);
+    }
+
+    /// Numbers outside the book's table other than 1,024, which the lines have.
+    fn outside(&self) -> Vec<u16> {
+        let names = self.book.map_or(0, |book| book.names.len());
+        [names, NO_NAME].into_iter().filter(|number| *number != NAMES).map(|number| number as u16).collect()
+    }
+
+    /// Over a list, over it backwards and with a number outside the table after it.
+    fn marks(&mut self, list: &[u16]) {
+        self.say("marks", "", Question::Marks(list), true);
+        let back: Vec<u16> = list.iter().rev().copied().collect();
+        self.say("marks-back", "", Question::Marks(&back), true);
+        let and = |number: u16| [list, &[number]].concat();
+        let (answer, _) = self.say("marks-outside", "", Question::Marks(&and(NAMES as u16)), true);
+        for number in self.outside() {
+            let right = match answer {
+                Answer::Refused(3, NAMES) => Answer::Refused(3, number as usize),
+                _ => answer,
+            };
+            self.hold("marks-outside", Question::Marks(&and(number)), right);
+        }
+    }
+
+    fn of_book(&mut self) {
+        self.verdict("check", ours::check(self.bytes));
+        self.verdict("init-check", ours::init_check(self.bytes));
+        let (_, list) = self.say("list", "", Question::List, true);
+        self.marks(&list);
+        self.say("init", "", Question::InitList, true);
+        self.say("draft", "", Question::DraftList, true);
+        self.say("empty", "", Question::Emptiness, true);
+    }
+
+    fn of_names(&mut self, names: usize) {
+        let mut offered = Vec::new();
+        for number in 0..names {
+            let (name, every_length) = (number as u16, number < EVERY_LENGTH || number + 1 == names);
+            let of = format!(" {}", self.name(number));
+            self.say("uses", &of, Question::Uses(name), every_length);
+            let (answer, _) = self.say("project", &of, Question::Project(&[name]), every_length);
+            if matches!(answer, Answer::Given(_)) {
+                offered.insert(0, name);
+            }
+            self.say("twice", &of, Question::Project(&[name, name]), every_length);
+        }
+        let (answer, _) = self.say("uses-outside", "", Question::Uses(NAMES as u16), true);
+        for number in self.outside() {
+            self.hold("uses-outside", Question::Uses(number), answer);
+        }
+        let (answer, _) = self.say("project-outside", "", Question::Project(&[NAMES as u16]), true);
+        for number in self.outside() {
+            let right = match answer {
+                Answer::Refused(15, NAMES) => Answer::Refused(15, number as usize),
+                _ => answer,
+            };
+            self.hold("project-outside", Question::Project(&[number]), right);
+            // What the book has is taken, and the number is left over.
+            self.hold("project-outside", Question::Project(&[&[number], &offered[..]].concat()), right);
+        }
+        self.say("project-none", "", Question::Project(&[]), true);
+        self.say("project-all", "", Question::Project(&offered), true);
+        let every: Vec<u16> = (0..names as u16).rev().collect();
+        self.say("project-every", "", Question::Project(&every), true);
+    }
+
+    /// The questions about names have no lines in a broken book, so the line of emptiness is made wrong.
+    fn of_broken(&mut self) {
+        for question in [Question::Uses(0), Question::Uses(NAMES as u16), Question::Project(&[0]), Question::Project(&[])] {
+            self.hold("empty", question, Answer::Refused(1, NO_NAME));
+        }
+    }
+
+    /// The outcome of a question, as the line of answer_batch has it.
+    pub fn to(&self, question: &str) -> Option<&str> {
+        self.lines.get(question.trim_end()).map(|line| line.as_str())
     }
 }
 
-fn verdict(code: u32, book: Option<&Book>) -> String {
-    if code == 0 {
-        "passed".into()
-    } else {
-        refused(code, book)
+pub fn said<'a>(bytes: &'a [u8], book: Option<&'a Book>) -> Said<'a> {
+    let mut said = Said { bytes, book, room: Vec::new(), untouched: Vec::new(), lines: HashMap::new(), calls: 0 };
+    said.of_book();
+    match book {
+        Some(book) => said.of_names(book.names.len()),
+        None => said.of_broken(),
     }
-}
-
-/// The list with so many places lent, and the list afterwards.
-fn listed(bytes: &[u8], places: usize) -> (u32, Vec<u16>) {
-    let mut out = vec![BEFORE; places];
-    let code = unsafe { ludzepin_list(bytes.as_ptr(), bytes.len(), out.as_mut_ptr(), places) };
-    (code, out)
-}
-
-/// What the exported functions say, in the words of answer_batch and check_batch. A list of one place too few, and what stands
-/// in a lent list beyond the result or after a refusal, are looked at here.
-pub fn said(bytes: &[u8], book: Option<&Book>) -> [(&'static str, String); 3] {
-    let check = unsafe { ludzepin_check(bytes.as_ptr(), bytes.len()) };
-    let init_check = unsafe { ludzepin_init_check(bytes.as_ptr(), bytes.len()) };
-    let (code, out) = listed(bytes, 512);
-    let mut list = if code >> 16 == 0 { format!("given {code}") } else { refused(code, book) };
-    let given = if code >> 16 == 0 { code as usize } else { 0 };
-    for number in &out[..given] {
-        list.push(' ');
-        list += &book.and_then(|book| book.names.get(*number as usize)).map_or("no such name".into(), |name| quoted(name));
-    }
-    if out[given..].iter().any(|number| *number != BEFORE) {
-        list += " and more is written";
-    }
-    if given > 0 {
-        let (code, short) = listed(bytes, given - 1);
-        if code != 16 << 16 | given as u32 || short.iter().any(|number| *number != BEFORE) {
-            list += " but not 16 for a list too short";
-        }
-        let (code, exact) = listed(bytes, given);
-        if code as usize != given || exact != out[..given] {
-            list += " but not in a list just long enough";
-        }
-    }
-    [("check", verdict(check, book)), ("init check", verdict(init_check, book)), ("list", list)]
+    said
 }

@@ -3,10 +3,14 @@
 mod answer;
 mod book;
 mod compare;
+#[cfg(counted)]
+mod counting;
 mod exhaustive;
 #[cfg(exports)]
 mod exported;
 mod generate;
+#[cfg(exports)]
+mod ours;
 mod rows;
 mod shrink;
 
@@ -116,10 +120,11 @@ const STACK: usize = 1 << 30;
 
 const USAGE: &str = "usage: oracle answer < BATCH
        oracle generate SEED COUNT [damage] > BATCH
-       oracle generate-all main|import|init|sound > BATCH
-       oracle compare BATCH ANSWERS CHECKS RUST [DIFFERENCE]
+       oracle generate-all main|import|init|sound|type-import|imports|import-init > BATCH
+       oracle compare BATCH ANSWERS RUST [DIFFERENCE]
+       oracle compare-checks BATCH CHECKS RUST
        oracle pick BATCH NAME > BOOK
-       oracle shrink BOOK ANSWER_BATCH CHECK_BATCH > SMALLER";
+       oracle shrink BOOK ANSWER_BATCH [ARGUMENT ...] > SMALLER";
 
 fn main() {
     let run = || {
@@ -128,17 +133,20 @@ fn main() {
         let words: Vec<&str> = words.iter().map(|word| word.as_str()).collect();
         match words[..] {
             ["answer"] => answer::run(),
+            #[cfg(exports)]
+            ["bench-uses", samples, length] => answer::bench::run_uses(number(samples), number(length)),
+            #[cfg(counted)]
+            ["measure"] => answer::bench::measure::run(),
             ["generate", seed, count] => generate::run(number(seed), number(count), false),
             ["generate", seed, count, "damage"] => generate::run(number(seed), number(count), true),
             ["generate-all", part] => exhaustive::run(part),
-            ["compare", batch, answers, checks, rust] => compare::run(batch, answers, checks, rust, None),
-            ["compare", batch, answers, checks, rust, difference] => {
-                compare::run(batch, answers, checks, rust, Some(difference))
-            }
+            ["compare", batch, answers, rust] => compare::run(batch, answers, rust, false, None),
+            ["compare", batch, answers, rust, difference] => compare::run(batch, answers, rust, false, Some(difference)),
+            ["compare-checks", batch, checks, rust] => compare::run(batch, checks, rust, true, None),
             ["pick", batch, name] => compare::pick(batch, name),
             #[cfg(exports)]
             ["bench", samples, length] => answer::bench::run(number(samples), number(length)),
-            ["shrink", book, answers, checks] => shrink::run(book, answers, checks),
+            ["shrink", book, ref answers @ ..] if !answers.is_empty() => shrink::run(book, answers),
             _ => {
                 eprintln!("{USAGE}");
                 2

@@ -38,7 +38,21 @@ pub fn of(text: &str, names: &[String]) -> Vec<(u32, Option<usize>)> {
     found
 }
 
-/// Whether a text says that all that is left over of the asked methods has this name.
-pub fn is_absent(text: &str, name: &str) -> bool {
-    text == format!("methods not found: {:?}", [name]) || text == format!("methods not found: {:?}", [name, name])
+/// The asked names that a text says are left over; none if it says something else.
+pub fn absent<'a>(text: &str, asked: &'a [String]) -> Vec<&'a str> {
+    let mut found = Vec::new();
+    let mut rest = text.strip_prefix("methods not found: [").unwrap_or_default();
+    while !rest.is_empty() {
+        // A quoted text ends where it ends, so at most one of them stands here.
+        let Some((name, after)) = asked.iter().find_map(|name| Some((name, rest.strip_prefix(&format!("{name:?}"))?))) else {
+            return vec![];
+        };
+        found.push(name.as_str());
+        match after.strip_prefix(", ") {
+            Some(next) => rest = next,
+            None if after == "]" => return found,
+            None => return vec![],
+        }
+    }
+    vec![]
 }

@@ -142,9 +142,9 @@ fn edited(book: &Book, edit: Edit) -> Book {
     book
 }
 
-fn said(program: &str, batch: &[u8]) -> String {
-    let piped = Command::new(program).stdin(Stdio::piped()).stdout(Stdio::piped()).spawn();
-    let mut child = piped.unwrap_or_else(|e| panic!("{program}: {e}"));
+fn said(program: &[&str], batch: &[u8]) -> String {
+    let piped = Command::new(program[0]).args(&program[1..]).stdin(Stdio::piped()).stdout(Stdio::piped()).spawn();
+    let mut child = piped.unwrap_or_else(|e| panic!("{program:?}: {e}"));
     let (mut input, mut text) = (child.stdin.take().expect("a pipe"), String::new());
     std::thread::scope(|scope| {
         scope.spawn(move || input.write_all(batch));
@@ -155,12 +155,12 @@ fn said(program: &str, batch: &[u8]) -> String {
 }
 
 /// The first of some books that differs.
-fn first_that_differs(books: &[Book], answers: &str, checks: &str) -> Option<usize> {
+fn first_that_differs(books: &[Book], answers: &[&str]) -> Option<usize> {
     let batch: Vec<u8> = books.iter().enumerate().flat_map(|(i, book)| record(&i.to_string(), &book.bytes())).collect();
     let mut rust = Vec::new();
     answer::write(&batch, &mut rust);
     let rust = String::from_utf8(rust).expect("text");
-    let (_, differences) = compare::compared(&batch, &said(answers, &batch), &said(checks, &batch), &rust);
+    let (_, differences) = compare::compared(&batch, &said(answers, &batch), &rust);
     differences.first().and_then(|difference| difference.name.parse().ok())
 }
 
@@ -175,7 +175,7 @@ fn measure(book: &Book) -> (usize, usize) {
     (book.bytes().len(), others)
 }
 
-pub fn run(path: &str, answers: &str, checks: &str) -> i32 {
+pub fn run(path: &str, answers: &[&str]) -> i32 {
     let bytes = compare::file(path);
     let Some(mut book) = book::read(&bytes) else {
         return std::io::stdout().write_all(&bytes).map_or(1, |_| 0);
@@ -188,7 +188,7 @@ pub fn run(path: &str, answers: &str, checks: &str) -> i32 {
             if books.is_empty() {
                 continue;
             }
-            if let Some(found) = first_that_differs(&books, answers, checks) {
+            if let Some(found) = first_that_differs(&books, answers) {
                 book = books.swap_remove(found);
                 continue 'smaller;
             }

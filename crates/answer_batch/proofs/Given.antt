@@ -1,14 +1,9 @@
 -- What was given lies in the lent list. Assumes nothing.
 use mathlib.Core.Path.{_≡_, refl, sym, _∙_}
-use mathlib.Core.Bool.{Bool, true, false, cond}
 use mathlib.Core.List.{List, [], _∷_}
 use Prim.Native.Nat.{ℕ, _*_, _/_, _≤_}
 use native.Mathlib.Omega.{arith}
-use lib.Dec.{leb}
-use lib.ListN.{length, take, drop, length-append}
-use lib.Seq.{length-take-le}
-use borrow.Author.Tests.{leb-true}
-use Rattle.book.specs.declared.refusal.Refusal.the-variants.{Short}
+use lib.ListN.{length, drop, length-append}
 use Rattle.listing.specs.Uses.{Use}
 use Rattle.listing.specs.Questions.{Outcome, refused, given, fit}
 use Rattle.analysis.specs.declared.hand.Answer.{Answer}
@@ -27,9 +22,6 @@ left-within (given l) old k e = let f : length l ≡ k = cc in omega (arith, len
 pub given-within : {o : Outcome (List ℕ)} {old new : List ℕ} {r : Answer} {k : ℕ} → HandedAs o old new r → r ≡ Given k → k ≤ length new
 given-within {o} {old} {new} {r} {k} a e = rw (a .left) (left-within (fit (length old) o) old k (sym (a .answer) ∙ e))
 
-pub given-counted : {o : Outcome (List ℕ)} {old new : List ℕ} {r : Answer} {k : ℕ} → HandedAs o old new r → r ≡ Given k → k ≡ length (take k new)
-given-counted {new = new} {k = k} a e = sym (length-take-le k new (given-within a e))
-
 -- A use takes three places.
 numbers-length : (es : List Use) → length (flat numbers es) ≡ 3 * length es
 unfolding flat numbers
@@ -44,6 +36,3 @@ uses-front (given es) old k e =
 
 pub uses-within : {o : Outcome (List Use)} {old new : List ℕ} {r : Answer} {k : ℕ} → UsesAs o old new r → r ≡ Given k → 3 * k ≤ length new
 uses-within {o} {old} {new} {r} {k} a e = rw (a .left) (uses-front (fit (length old / 3) o) old k (sym (a .answer) ∙ e))
-
-pub uses-counted : {o : Outcome (List Use)} {old new : List ℕ} {r : Answer} {k : ℕ} → UsesAs o old new r → r ≡ Given k → 3 * k ≡ length (take (3 * k) new)
-uses-counted {new = new} {k = k} a e = sym (length-take-le (3 * k) new (uses-within a e))

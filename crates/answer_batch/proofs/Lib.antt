@@ -1,3 +1,5 @@
 -- Laws that the proofs of the functions cite.
-mod Pieces
 mod Given
+mod Asked
+mod Judged
+mod Front

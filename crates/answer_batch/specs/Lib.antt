@@ -1,2 +1,3 @@
 -- What the contracts cite.
-pub mod Lines
+pub mod Asked
+pub mod Front

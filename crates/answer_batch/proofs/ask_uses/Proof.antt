@@ -1,9 +1,12 @@
--- `ask_uses` is safe: what was given lies in the lent list. Assumes nothing.
+-- `ask_uses` is safe: with one entry less the numbers lie in the lent list. Assumes nothing.
 use native.Mathlib.Omega.{arith}
-use Rattle.answer_batch.proofs.Given.{uses-within, uses-counted}
+use Rattle.answer_batch.proofs.Asked.{asked-fewer, asked-part}
 use borrow.Author.Needs.{needs}
 use Rattle.answer_batch.proofs.ask_uses.Statement.{statement}
 use Rattle.answer_batch.proofs.ask_uses.Tie as tie
+
+room-for-uses-requires : tie.Need-room-for-uses-requires
+room-for-uses-requires c κs = search needs
 
 slice-aggregate-print-asks-of : tie.Need-slice-aggregate-print-asks-of
 slice-aggregate-print-asks-of c = search needs
@@ -11,38 +14,47 @@ slice-aggregate-print-asks-of c = search needs
 print-asks-of-requires : tie.Need-print-asks-of-requires
 print-asks-of-requires c κs = search needs
 
-room-for-uses-requires : tie.Need-room-for-uses-requires
-room-for-uses-requires c κs = search needs
+slice-aggregate-ask : tie.Need-slice-aggregate-ask
+slice-aggregate-ask c = search needs
 
-slice-aggregate-uses : tie.Need-slice-aggregate-uses
-slice-aggregate-uses c = search needs
+slice-aggregate-ask-2 : tie.Need-slice-aggregate-ask-2
+slice-aggregate-ask-2 c = search needs
 
-uses-requires : tie.Need-uses-requires
-uses-requires c κs = search needs
+ask-requires : tie.Need-ask-requires
+ask-requires c κs = search needs
 
-enum-known-why : tie.Need-enum-known-why
-enum-known-why c = search needs
-
-print-refusal-requires : tie.Need-print-refusal-requires
-print-refusal-requires c κs = search needs
-
-enum-known-count : tie.Need-enum-known-count
-enum-known-count c = search needs
-
-mul-end : tie.Need-mul-end
-mul-end c = omega (arith, uses-within (c .before .before .before .before .uses .ensures) (c .before .count .given .1))
-
-array-share-prefix-out : tie.Need-array-share-prefix-out
-array-share-prefix-out c = uses-within (c .before .before .before .before .uses .ensures) (c .before .count .given .1)
-
-slice-aggregate-print-uses : tie.Need-slice-aggregate-print-uses
-slice-aggregate-print-uses c = uses-counted (c .before .before .before .before .before .uses .ensures) (c .before .before .count .given .1)
-
-print-uses-requires : tie.Need-print-uses-requires
-print-uses-requires c κs = search needs
+same-length : tie.Need-same-length
+same-length c = search needs
 
 returns : tie.Need-returns
 returns c = search needs
+
+slice-aggregate-print-asks-of-2 : tie.Need-slice-aggregate-print-asks-of-2
+slice-aggregate-print-asks-of-2 c = search needs
+
+print-asks-of-requires-2 : tie.Need-print-asks-of-requires-2
+print-asks-of-requires-2 c κs = search needs
+
+sub-places : tie.Need-sub-places
+sub-places c = search needs
+
+mul-places : tie.Need-mul-places
+mul-places c = omega (arith, asked-fewer _ (c .before .before .before .before .before .before .ask .ensures))
+
+slice-aggregate-ask-3 : tie.Need-slice-aggregate-ask-3
+slice-aggregate-ask-3 c = search needs
+
+array-borrow-prefix-out : tie.Need-array-borrow-prefix-out
+array-borrow-prefix-out c = asked-fewer _ (c .before .before .before .before .before .before .before .ask .ensures)
+
+slice-aggregate-ask-4 : tie.Need-slice-aggregate-ask-4
+slice-aggregate-ask-4 c = asked-part _ (c .before .before .before .before .before .before .before .before .ask .ensures)
+
+ask-requires-2 : tie.Need-ask-requires-2
+ask-requires-2 c κs = search needs
+
+same-length-2 : tie.Need-same-length-2
+same-length-2 c = search needs
 
 returns-2 : tie.Need-returns-2
 returns-2 c = search needs
@@ -51,17 +63,21 @@ pub ask-uses-spec : {M : Type 1} → statement M
 ask-uses-spec =
     tie.close
     (tie.spec
+    room-for-uses-requires
     slice-aggregate-print-asks-of
     print-asks-of-requires
-    room-for-uses-requires
-    slice-aggregate-uses
-    uses-requires
-    enum-known-why
-    print-refusal-requires
-    enum-known-count
-    mul-end
-    array-share-prefix-out
-    slice-aggregate-print-uses
-    print-uses-requires
+    slice-aggregate-ask
+    slice-aggregate-ask-2
+    ask-requires
+    same-length
     returns
+    slice-aggregate-print-asks-of-2
+    print-asks-of-requires-2
+    sub-places
+    mul-places
+    slice-aggregate-ask-3
+    array-borrow-prefix-out
+    slice-aggregate-ask-4
+    ask-requires-2
+    same-length-2
     returns-2)

@@ -8,17 +8,14 @@ use Rattle.answer_batch.proofs.replay.Tie as tie
 layout-requires : tie.Need-layout-requires
 layout-requires c κs = search needs
 
+ask-checks-requires : tie.Need-ask-checks-requires
+ask-checks-requires c κs = search needs
+
 ask-list-requires : tie.Need-ask-list-requires
 ask-list-requires c κs = search needs
 
-ask-init-list-requires : tie.Need-ask-init-list-requires
-ask-init-list-requires c κs = search needs
-
-ask-draft-list-requires : tie.Need-ask-draft-list-requires
-ask-draft-list-requires c κs = search needs
-
-ask-emptiness-requires : tie.Need-ask-emptiness-requires
-ask-emptiness-requires c κs = search needs
+ask-others-requires : tie.Need-ask-others-requires
+ask-others-requires c κs = search needs
 
 enum-known-known : tie.Need-enum-known-known
 enum-known-known c = search needs
@@ -26,11 +23,17 @@ enum-known-known c = search needs
 enum-told : tie.Need-enum-told
 enum-told c = search needs
 
+same-length : tie.Need-same-length
+same-length c = search needs
+
 returns : tie.Need-returns
 returns c = search needs
 
 ask-of-each-requires : tie.Need-ask-of-each-requires
-ask-of-each-requires c κs = (sym (c .before .known .given .1) ∙ c .before .before .before .before .before .before .before .layout .ensures, names-few (book-of _ _ (sym (c .before .known .given .1) ∙ c .before .before .before .before .before .before .before .layout .ensures)))
+ask-of-each-requires c κs = (sym (c .before .before .known .given .1) ∙ c .before .before .before .before .before .before .before .before .before .before .before .before .before .before .before .before .layout .ensures, names-few (book-of _ _ (sym (c .before .before .known .given .1) ∙ c .before .before .before .before .before .before .before .before .before .before .before .before .before .before .before .before .layout .ensures)))
+
+same-length-2 : tie.Need-same-length-2
+same-length-2 c = search needs
 
 returns-2 : tie.Need-returns-2
 returns-2 c = search needs
@@ -40,12 +43,13 @@ replay-spec =
     tie.close
     (tie.spec
     layout-requires
+    ask-checks-requires
     ask-list-requires
-    ask-init-list-requires
-    ask-draft-list-requires
-    ask-emptiness-requires
+    ask-others-requires
     enum-known-known
     enum-told
+    same-length
     returns
     ask-of-each-requires
+    same-length-2
     returns-2)

@@ -1,6 +1,6 @@
 -- `replayed` is safe: what was read lies within the buffers. Assumes nothing.
-use borrow.Author.Needs.{needs}
 use Rattle.batch.proofs.Fits.{name-counted, book-counted}
+use borrow.Author.Needs.{needs}
 use Rattle.answer_batch.proofs.replayed.Statement.{statement}
 use Rattle.answer_batch.proofs.replayed.Tie as tie
 
@@ -40,6 +40,9 @@ slice-aggregate-replay-2 c = book-counted (c .before .before .before .before .be
 replay-requires : tie.Need-replay-requires
 replay-requires c κs = search needs
 
+same-length : tie.Need-same-length
+same-length c = search needs
+
 returns-2 : tie.Need-returns-2
 returns-2 c = search needs
 
@@ -59,4 +62,5 @@ replayed-spec =
     array-share-prefix-book
     slice-aggregate-replay-2
     replay-requires
+    same-length
     returns-2)

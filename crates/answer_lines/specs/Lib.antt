@@ -1,0 +1,3 @@
+-- What the contracts cite.
+pub mod Tally
+pub mod Lines

@@ -1,0 +1,128 @@
+//! The reader's exported functions (crates/exports) on slices, and their answers in one form.
+
+extern "C" {
+    fn ludzepin_check(book: *const u8, bytes: usize) -> u32;
+    fn ludzepin_init_check(book: *const u8, bytes: usize) -> u32;
+    fn ludzepin_list(book: *const u8, bytes: usize, out: *mut u16, places: usize) -> u32;
+    fn ludzepin_init_list(book: *const u8, bytes: usize, out: *mut u16, places: usize) -> u32;
+    fn ludzepin_draft_list(book: *const u8, bytes: usize, out: *mut u16, places: usize) -> u32;
+    fn ludzepin_emptiness(book: *const u8, bytes: usize, out: *mut u16, places: usize) -> u32;
+    fn ludzepin_marks(book: *const u8, bytes: usize, list: *const u16, names: usize, out: *mut u16, places: usize) -> u32;
+    fn ludzepin_project(book: *const u8, bytes: usize, asked: *const u16, names: usize, out: *mut u16, places: usize) -> u32;
+    fn ludzepin_uses(book: *const u8, bytes: usize, name: u16, out: *mut u16, numbers: usize) -> u64;
+}
+
+/// The most that a book has.
+pub const DEFINITIONS: usize = 512;
+pub const NAMES: usize = 1024;
+pub const METHODS: usize = 4096;
+
+pub const SHORT: u32 = 16;
+pub const NO_NAME: usize = 65535;
+
+/// Entries given, none for a check that is passed; or the number of a refusal and the number of its name, for 16 the entries needed.
+#[derive(Clone, Copy, Debug, PartialEq)]
+pub enum Answer {
+    Given(usize),
+    Refused(u32, usize),
+}
+
+fn answer(number: u64, low: u64) -> Answer {
+    match number {
+        0 => Answer::Given(low as usize),
+        _ => Answer::Refused(number as u32, low as usize),
+    }
+}
+
+fn of_half(code: u32) -> Answer {
+    answer(code as u64 >> 16, code as u64 & 0xffff)
+}
+
+fn of_whole(code: u64) -> Answer {
+    answer(code >> 32, code & 0xffff_ffff)
+}
+
+/// An empty slice is not read or written, so it has no place.
+fn at(list: &[u16]) -> *const u16 {
+    if list.is_empty() { std::ptr::null() } else { list.as_ptr() }
+}
+
+fn at_mut(list: &mut [u16]) -> *mut u16 {
+    if list.is_empty() { std::ptr::null_mut() } else { list.as_mut_ptr() }
+}
+
+pub fn check(book: &[u8]) -> Answer {
+    of_half(unsafe { ludzepin_check(book.as_ptr(), book.len()) })
+}
+
+pub fn init_check(book: &[u8]) -> Answer {
+    of_half(unsafe { ludzepin_init_check(book.as_ptr(), book.len()) })
+}
+
+pub fn list(book: &[u8], out: &mut [u16]) -> Answer {
+    of_half(unsafe { ludzepin_list(book.as_ptr(), book.len(), at_mut(out), out.len()) })
+}
+
+pub fn init_list(book: &[u8], out: &mut [u16]) -> Answer {
+    of_half(unsafe { ludzepin_init_list(book.as_ptr(), book.len(), at_mut(out), out.len()) })
+}
+
+pub fn draft_list(book: &[u8], out: &mut [u16]) -> Answer {
+    of_half(unsafe { ludzepin_draft_list(book.as_ptr(), book.len(), at_mut(out), out.len()) })
+}
+
+pub fn emptiness(book: &[u8], out: &mut [u16]) -> Answer {
+    of_half(unsafe { ludzepin_emptiness(book.as_ptr(), book.len(), at_mut(out), out.len()) })
+}
+
+pub fn marks(book: &[u8], list: &[u16], out: &mut [u16]) -> Answer {
+    of_half(unsafe { ludzepin_marks(book.as_ptr(), book.len(), at(list), list.len(), at_mut(out), out.len()) })
+}
+
+pub fn project(book: &[u8], asked: &[u16], out: &mut [u16]) -> Answer {
+    of_half(unsafe { ludzepin_project(book.as_ptr(), book.len(), at(asked), asked.len(), at_mut(out), out.len()) })
+}
+
+/// Three numbers for an entry.
+pub fn uses(book: &[u8], name: u16, out: &mut [u16]) -> Answer {
+    of_whole(unsafe { ludzepin_uses(book.as_ptr(), book.len(), name, at_mut(out), out.len()) })
+}
+
+/// A question with a lent list.
+#[derive(Clone, Copy)]
+pub enum Question<'a> {
+    List,
+    InitList,
+    DraftList,
+    Emptiness,
+    Marks(&'a [u16]),
+    Uses(u16),
+    Project(&'a [u16]),
+}
+
+impl Question<'_> {
+    pub fn ask(&self, book: &[u8], out: &mut [u16]) -> Answer {
+        match *self {
+            Question::List => list(book, out),
+            Question::InitList => init_list(book, out),
+            Question::DraftList => draft_list(book, out),
+            Question::Emptiness => emptiness(book, out),
+            Question::Marks(list) => marks(book, list, out),
+            Question::Uses(name) => uses(book, name, out),
+            Question::Project(asked) => project(book, asked, out),
+        }
+    }
+
+    /// The numbers of an entry.
+    pub fn numbers(&self) -> usize {
+        if matches!(self, Question::Uses(_)) { 3 } else { 1 }
+    }
+
+    /// Entries that there is always room for; in uses those that answer_batch has room for.
+    pub fn places(&self) -> usize {
+        match self {
+            Question::Uses(_) | Question::Project(_) => METHODS,
+            _ => DEFINITIONS,
+        }
+    }
+}
