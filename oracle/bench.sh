@@ -1,15 +1,17 @@
 #!/bin/sh
 # Times and measures the reader's exported functions and the customer's Rust on the same books:  oracle/bench.sh [SOURCES]
-# `rt staticlib exports` comes before. SOURCES is as for oracle/build.sh, which is run if it was not. The oracle is compiled anew as cargo's
+# It makes the static library, and oracle/build.sh, whose SOURCES is as there, is run if it was not. The oracle is compiled anew as cargo's
 # release profile does, in one unit, without the assertions that it has in comparisons; and once more with an allocator that counts, for
 # measuring alone. The figures stay in target/oracle/bench: books.tsv (nanoseconds; tools/benchbooks.py; five processes, since one differs
 # from another), sweep.tsv (every book of tests/check and tests/list that the Rust answers), measure.tsv (bytes of stack and heap; these books
-# and all of the tests) and undefined (what the library calls). tools/plot.py makes tables and docs/benchmarks.svg of them.
+# and all of the tests) and undefined (what the library calls). At the end docs/benchmarks.tsv, docs/benchmarks.svg and the tables of
+# docs/BENCHMARKS.md are made of them by tools/plot.py; the sentences there are not.
 set -eu
 root=$(cd "$(dirname "$0")/.." && pwd)
 out=$root/target/oracle/bench
 tree=$root/target/oracle/tree
 crates=$root/crates
+(cd "$root" && rt staticlib exports) >/dev/null
 [ -d "$tree" ] || "$root/oracle/build.sh" "$@"
 mkdir -p "$out"
 export ORACLE_TREE=$tree
@@ -37,3 +39,5 @@ python3 "$root/tools/mkbatch.py" "$root/tests/list" "$out/books-list" /dev/null
 cat "$crates/check_batch/stdin" "$out/books-list" | "$out/oracle" bench 21 20 >"$out/sweep.tsv"
 cat "$crates/layout_batch/stdin" "$crates/check_batch/stdin" "$out/books-list" "$out/books" | "$out/measure" measure >"$out/measure.tsv"
 nm --undefined-only --format=just-symbols "$root/target/staticlib/libexports.a" | grep -v ':$' | sort -u | xargs >"$out/undefined"
+cp "$out/books.tsv" "$root/docs/benchmarks.tsv"
+python3 "$root/tools/plot.py" "$root/docs/benchmarks.tsv" "$root/docs/benchmarks.svg" "$out" "$root/docs/BENCHMARKS.md" >"$out/tables.md"
