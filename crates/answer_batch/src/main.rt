@@ -551,6 +551,22 @@ fn ask_uses(source: &[u8], book: &[u8], known: Reading, number: u16, tally: &mut
     );
 }
 
+// The methods that take the asked names, after the beginning of the line. Answers how many.
+fn ask_for(book: &[u8], known: Reading, asked: &[u16], tally: &mut [u32]) -> usize
+    requires { ⌜ known ≡ reading (now book) ⌝ }
+{
+    let mut out = room_for_positions();
+    ask(
+        Question::Projection,
+        false,
+        book,
+        known,
+        asked,
+        &mut out,
+        tally,
+    )
+}
+
 // `asked` has the name of this number, once or twice, as the question's word says.
 fn ask_project(
     source: &[u8],
@@ -563,17 +579,8 @@ fn ask_project(
 ) -> usize
     requires { ⌜ known ≡ reading (now book) ⌝ }
 {
-    let mut out = room_for_positions();
     print_asks_of(source, word, book, known, number);
-    ask(
-        Question::Projection,
-        false,
-        book,
-        known,
-        asked,
-        &mut out,
-        tally,
-    )
+    ask_for(book, known, asked, tally)
 }
 
 // The questions about a name. Answers whether its projection was given.
@@ -617,17 +624,8 @@ fn ask_projected(
 )
     requires { ⌜ known ≡ reading (now book) ⌝ }
 {
-    let mut out = room_for_positions();
     print_asks(source, word);
-    ask(
-        Question::Projection,
-        false,
-        book,
-        known,
-        asked,
-        &mut out,
-        tally,
-    );
+    ask_for(book, known, asked, tally);
 }
 
 // The questions about a number that is no name's, and about none.

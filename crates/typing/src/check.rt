@@ -124,48 +124,6 @@ pub fn find_parts(
     }
 }
 
-// The check of a book by its parts.
-pub fn check_parts(
-    names: &[u8],
-    rows: &[u8],
-    entries: &[u8],
-    files: &[u8],
-    name_count: usize,
-    nodes: usize,
-    definitions: usize,
-    file_count: usize,
-) -> Checked
-    requires { ⌜ PartsOf (now names) (now rows) (now entries) (now files) «name_count» nodes definitions «file_count» ⌝ }
-    ensures { λ r. ⌜ ((p : PartsOf (now (names .entry)) (now (rows .entry)) (now (entries .entry)) (now (files .entry)) «name_count» nodes definitions «file_count») → CheckedAs p r) ⌝ }
-{
-    let mut roots = environment::blank();
-    let mut ends = environment::blank();
-    let found = find_parts(
-        names,
-        rows,
-        entries,
-        files,
-        name_count,
-        nodes,
-        definitions,
-        file_count,
-        &mut roots,
-        &mut ends,
-    );
-    let verdict = found.verdict;
-    if !verdict.passed() {
-        return stopped(verdict);
-    }
-    let actor = found.actor;
-    Checked {
-        verdict,
-        main: found.main,
-        roots,
-        ends,
-        actor,
-    }
-}
-
 // The check of an admitted book, into tables that have nothing.
 pub fn find_book(book: &[u8], c: Contents, roots: &mut [u16], ends: &mut [u16]) -> Found
     requires { ⌜ Admitted (now book) c × (now roots ≡ blankTable) × (now ends ≡ blankTable) ⌝ }
@@ -188,24 +146,26 @@ pub fn find_book(book: &[u8], c: Contents, roots: &mut [u16], ends: &mut [u16]) 
     )
 }
 
-// The check of an admitted book.
+// The check of an admitted book, with the tables by value.
 pub fn check_book(book: &[u8], c: Contents) -> Checked
     requires { ⌜ Admitted (now book) c ⌝ }
     ensures { λ r. ⌜ ((a : Admitted (now (book .entry)) c) → BookAs a r) ⌝ }
 {
-    let nodes_at = c.nodes_at;
-    let definitions_at = c.definitions_at;
-    let files_at = c.files_at;
-    check_parts(
-        &book[Contents::SIZE..nodes_at],
-        &book[nodes_at..definitions_at],
-        &book[definitions_at..files_at],
-        &book[files_at..],
-        c.names,
-        c.nodes,
-        c.definitions,
-        c.files,
-    )
+    let mut roots = environment::blank();
+    let mut ends = environment::blank();
+    let found = find_book(book, c, &mut roots, &mut ends);
+    let verdict = found.verdict;
+    if !verdict.passed() {
+        return stopped(verdict);
+    }
+    let actor = found.actor;
+    Checked {
+        verdict,
+        main: found.main,
+        roots,
+        ends,
+        actor,
+    }
 }
 
 // Whether a book passes: refusals 1 to 10 and 12 to 14, the first in the order of the check.

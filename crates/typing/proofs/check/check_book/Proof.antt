@@ -1,74 +1,55 @@
--- `check_book` meets its contract: the parts are those of the book. Assumes nothing.
-use mathlib.Core.Path.{_≡_}
-use native.Mathlib.Omega.{arith}
-use Rattle.format.specs.Layout.{part}
-use Rattle.typing.proofs.Opened.{bounds, parts-of, book-as}
+-- `check_book` meets its contract: what is found, with the tables. Assumes nothing.
+use mathlib.Core.Path.{sym, subst, _∙_}
+use borrow.Author.Tests.{not-true, not-false}
+use Rattle.typing.specs.Checking.{BookAs}
+use Rattle.typing.proofs.Founds.{found-goes, found-refused}
 use borrow.Author.Needs.{needs}
 use Rattle.typing.proofs.check.check_book.Statement.{statement}
 use Rattle.typing.proofs.check.check_book.Tie as tie
 use Rattle.typing.proofs.check.check_book.Reads as reads
 use Rattle.typing.proofs.check.check_book.Lts as lts
-use Rattle.typing.proofs.check.check_parts.Reads as check-parts-reads
+use Rattle.book.proofs.refusal.Verdict.passed.Reads as passed-reads
+use Rattle.environment.proofs.blank.Reads as blank-reads
+use Rattle.typing.proofs.check.find_book.Reads as find-book-reads
+use Rattle.typing.proofs.check.stopped.Reads as stopped-reads
 
-sub-check-parts : tie.Need-sub-check-parts
-sub-check-parts c = bounds (c .before .pre) .one
+blank-requires : tie.Need-blank-requires
+blank-requires c κs = search needs
 
-part-check-parts-start : tie.Need-part-check-parts-start
-part-check-parts-start c = bounds (c .before .pre) .one
+blank-requires-2 : tie.Need-blank-requires-2
+blank-requires-2 c κs = search needs
 
-part-check-parts-end : tie.Need-part-check-parts-end
-part-check-parts-end c = let b = bounds (c .before .pre) in omega (arith, b .two, b .three, b .four)
+slice-aggregate-find-book : tie.Need-slice-aggregate-find-book
+slice-aggregate-find-book c = search needs
 
-sub-check-parts-2 : tie.Need-sub-check-parts-2
-sub-check-parts-2 c = bounds (c .before .before .pre) .two
+slice-aggregate-find-book-2 : tie.Need-slice-aggregate-find-book-2
+slice-aggregate-find-book-2 c = search needs
 
-part-check-parts-start-2 : tie.Need-part-check-parts-start-2
-part-check-parts-start-2 c = bounds (c .before .before .pre) .two
+find-book-requires : tie.Need-find-book-requires
+find-book-requires c κs = (c .before .before .before .before .before .pre, c .before .before .before .blank .ensures, c .before .before .blank2 .ensures)
 
-part-check-parts-end-2 : tie.Need-part-check-parts-end-2
-part-check-parts-end-2 c = let b = bounds (c .before .before .pre) in omega (arith, b .three, b .four)
+passed-requires : tie.Need-passed-requires
+passed-requires c κs = search needs
 
-sub-check-parts-3 : tie.Need-sub-check-parts-3
-sub-check-parts-3 c = bounds (c .before .before .before .pre) .three
-
-part-check-parts-start-3 : tie.Need-part-check-parts-start-3
-part-check-parts-start-3 c = bounds (c .before .before .before .pre) .three
-
-part-check-parts-end-3 : tie.Need-part-check-parts-end-3
-part-check-parts-end-3 c = bounds (c .before .before .before .pre) .four
-
-sub-check-parts-4 : tie.Need-sub-check-parts-4
-sub-check-parts-4 c = bounds (c .before .before .before .before .pre) .four
-
-part-check-parts-start-4 : tie.Need-part-check-parts-start-4
-part-check-parts-start-4 c = bounds (c .before .before .before .before .pre) .four
-
-part-check-parts-end-4 : tie.Need-part-check-parts-end-4
-part-check-parts-end-4 c = search needs
-
-check-parts-requires : tie.Need-check-parts-requires
-unfolding part
-check-parts-requires c κs = parts-of (c .before .before .before .before .before .pre)
+stopped-requires : tie.Need-stopped-requires
+stopped-requires c κs = search needs
 
 returns : tie.Need-returns
-unfolding part
-returns c = λ a. book-as a _ (c .check-parts .ensures (parts-of a))
+returns c = λ a. subst (BookAs a) (found-refused _ _ _ (sym (c .before .before .passed .ensures) ∙ not-true _ (c .before .if1 .taken)) ∙ sym (c .stopped .ensures)) (c .before .before .before .before .before .find-book .ensures a)
+
+returns-2 : tie.Need-returns-2
+returns-2 c = λ a. subst (BookAs a) (found-goes _ _ _ (sym (c .before .before .passed .ensures) ∙ not-false _ (c .before .if1 .left))) (c .before .before .before .before .before .find-book .ensures a)
 
 pub check-book-spec : {M : Type 1} → statement M
 check-book-spec =
     tie.close
     (tie.spec
-    sub-check-parts
-    part-check-parts-start
-    part-check-parts-end
-    sub-check-parts-2
-    part-check-parts-start-2
-    part-check-parts-end-2
-    sub-check-parts-3
-    part-check-parts-start-3
-    part-check-parts-end-3
-    sub-check-parts-4
-    part-check-parts-start-4
-    part-check-parts-end-4
-    check-parts-requires
-    returns)
+    blank-requires
+    blank-requires-2
+    slice-aggregate-find-book
+    slice-aggregate-find-book-2
+    find-book-requires
+    passed-requires
+    stopped-requires
+    returns
+    returns-2)
