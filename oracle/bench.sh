@@ -10,7 +10,6 @@ set -eu
 root=$(cd "$(dirname "$0")/.." && pwd)
 out=$root/target/oracle/bench
 tree=$root/target/oracle/tree
-crates=$root/crates
 (cd "$root" && rt staticlib exports) >/dev/null
 [ -d "$tree" ] || "$root/oracle/build.sh" "$@"
 mkdir -p "$out"
@@ -35,9 +34,11 @@ for run in 1 2 3 4 5; do
     tail -n +2 "$out/uses.tsv" >>"$out/run-$run.tsv"
 done
 (head -n 1 "$out/run-1.tsv" && tail -q -n +2 "$out"/run-?.tsv) >"$out/books.tsv"
-python3 "$root/tools/mkbatch.py" "$root/tests/list" "$out/books-list" /dev/null
-cat "$crates/check_batch/stdin" "$out/books-list" | "$out/oracle" bench 21 20 >"$out/sweep.tsv"
-cat "$crates/layout_batch/stdin" "$crates/check_batch/stdin" "$out/books-list" "$out/books" | "$out/measure" measure >"$out/measure.tsv"
+for tests in layout check list; do
+    python3 "$root/tools/mkbatch.py" "$root/tests/$tests" "$out/books-$tests"
+done
+cat "$out/books-check" "$out/books-list" | "$out/oracle" bench 21 20 >"$out/sweep.tsv"
+cat "$out/books-layout" "$out/books-check" "$out/books-list" "$out/books" | "$out/measure" measure >"$out/measure.tsv"
 nm --undefined-only --format=just-symbols "$root/target/staticlib/libexports.a" | grep -v ':$' | sort -u | xargs >"$out/undefined"
 cp "$out/books.tsv" "$root/docs/benchmarks.tsv"
 python3 "$root/tools/plot.py" "$root/docs/benchmarks.tsv" "$root/docs/benchmarks.svg" "$out" "$root/docs/BENCHMARKS.md" >"$out/tables.md"

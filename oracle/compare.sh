@@ -2,8 +2,7 @@
 # Compares the reader with the customer's Rust on random books:  oracle/compare.sh SEED COUNT [damage]
 # or on all small books, or on parts of them:                    oracle/compare.sh all [PART ...]
 # or on a batch that is there:                                   oracle/compare.sh BATCH
-# or check_batch on a batch that is there:                       oracle/compare.sh checks BATCH
-# oracle/build.sh comes first, and rt check answer_batch (check_batch). The batch and the lines of both sides stay in target/oracle/run.
+# oracle/build.sh comes first, and rt check answer_batch. The batch and the lines of both sides stay in target/oracle/run.
 # If books differ, the smallest of them is made smaller still and printed. ANSWER_BATCH names another program to compare than
 # target/bin/answer_batch, such as `python3 tools/replay.py answer`, which answers by tools/answers.py.
 set -eu
@@ -37,10 +36,6 @@ if [ "$1" = all ]; then
         "$oracle" generate-all "$part" >"$run/batch"
         compare "$run/batch"
     done
-elif [ "$1" = checks ]; then
-    "$root/target/bin/check_batch" <"$2" >"$run/checks"
-    "$oracle" answer <"$2" >"$run/rust"
-    "$oracle" compare-checks "$2" "$run/checks" "$run/rust"
 elif [ $# -eq 1 ]; then
     compare "$1"
 else

@@ -4,6 +4,8 @@ r"""Answers document 01's questions on a book, by the paper alone:  python3 tool
 This is a second reading of document 01 and of the Rust functions that it names, for the tests; tools/layout.py reads the
 bytes. It prints, one line each, what the program answer_batch prints of the book after its name:
 
+    layout OUTCOME          whether the layout is whole, with the counts of names, nodes, definitions and files
+    name OUTCOME            every name by its number, then the number after the last and the highest, which give nothing
     check OUTCOME           the check
     init-check OUTCOME      the init check
     list OUTCOME            the definition list
@@ -22,10 +24,14 @@ bytes. It prints, one line each, what the program answer_batch prints of the boo
     project-all OUTCOME     when all names are whose own projection is given, the last name first,
     project-every OUTCOME   and when every name of the table is, the last name first
 
-OUTCOME is `passed` of a check, `given`, the number of entries and these, or `refused`, the number and the name or `-`. After list,
-marks, init, draft, empty, uses and project-all, if entries were given, it is asked again with one place fewer than they take:
+OUTCOME is `passed` of a check, `whole` and the counts of a layout, `given`, the number of entries and these, or `refused`, the number
+and the name or `-`. Of a book with more than 514 names that lists none, so that no name has uses, only the first 8 names and the last 8
+are asked about. A broken book is not asked about names. After list, marks, init, draft, empty, uses and project-all, if entries were
+given, it is asked again with one place fewer than they take:
 
     QUESTION-short needs N refused 16 -
+
+QUESTIONS below is the table of them all; a new question is a row there.
 """
 
 import functools
@@ -43,6 +49,8 @@ ONEWAY = 1
 OF_CLASS = 65535  # stands for the method in a use by an argument of the actor's class
 OUTSIDE = 1024  # the first number outside every name table
 MOST_USES = 4096  # entries in the list that answer_batch lends for uses; its other lists are long enough for all
+MOST_NAMES = 514  # a book that has more of them and lists none is asked about some alone:
+FIRST_AND_LAST = 8  # so many of the first and of the last
 
 Tree = namedtuple("Tree", "kind label_kind label value kids")
 Definition = namedtuple("Definition", "name file type")
@@ -70,6 +78,7 @@ class Book:
                 kids.append(trees[child])
                 child += rows.nodes[child].size
             trees[at] = Tree(node.kind, node.label_kind, node.label, node.value, kids)
+        self.counts = [len(part) for part in rows]
         self.names = rows.names
         self.definitions = [Definition(row.name, row.file, trees[row.root]) for row in rows.definitions]
         self.files = [File(row.name, row.role, trees[row.root]) for row in rows.files]
@@ -374,14 +383,75 @@ def emptiness(book):
 
 # Lines
 
-OF_BOOK = ("check", "init-check", "list", "marks", "marks-back", "marks-outside", "init", "draft", "empty")
+def given(entries):
+    return " ".join([f"given {len(entries)}", *entries])
+
+
+# How an answer is said.
+
+def passed(lines, answer):
+    return "passed"
+
+
+def whole(lines, counts):
+    return " ".join(["whole", *map(str, counts)])
+
+
+def texts(lines, names):
+    return given([layout.quoted(name) for name in names])
+
+
+def names(lines, numbers):
+    return given([lines.name(number) for number in numbers])
+
+
+def numbers(lines, entries):
+    return given([str(entry) for entry in entries])
+
+
+def entries_of_uses(lines, entries):
+    return given([".".join(map(str, entry)) for entry in entries])
+
+
+# A line: its word; of what it is asked: of every book, of each name of a whole one, and then of a whole one once; the word under which it
+# is counted; its function; what that is asked with, beside the book; how its answer is said; whether it is asked again with too short a list.
+Question = namedtuple("Question", "word of counted function asked said again")
+OF_BOOK, OF_NAME, OF_WHOLE = "every book", "each name", "whole books"
+QUESTIONS = tuple(Question(*row) for row in (
+    ("layout", OF_BOOK, "layout", lambda book: book.counts, lambda lines, _: [], whole, False),
+    ("name", OF_BOOK, "name", lambda book: [*book.names, b"", b""], lambda lines, _: [], texts, False),
+    ("check", OF_BOOK, "check", check, lambda lines, _: [], passed, False),
+    ("init-check", OF_BOOK, "init-check", init_check, lambda lines, _: [], passed, False),
+    ("list", OF_BOOK, "list", definition_list, lambda lines, _: [], names, True),
+    ("marks", OF_BOOK, "marks", marks, lambda lines, _: [lines.listed()], names, True),
+    ("marks-back", OF_BOOK, "marks", marks, lambda lines, _: [lines.listed()[::-1]], names, False),
+    ("marks-outside", OF_BOOK, "marks", marks, lambda lines, _: [[*lines.listed(), OUTSIDE]], names, False),
+    ("init", OF_BOOK, "init", init_list, lambda lines, _: [], names, True),
+    ("draft", OF_BOOK, "draft", draft_list, lambda lines, _: [], names, True),
+    ("empty", OF_BOOK, "empty", emptiness, lambda lines, _: [], names, True),
+    ("uses", OF_NAME, "uses", uses, lambda lines, number: [number], entries_of_uses, True),
+    ("project", OF_NAME, "project", project, lambda lines, number: [[number]], numbers, False),
+    ("twice", OF_NAME, "project", project, lambda lines, number: [[number, number]], numbers, False),
+    ("uses-outside", OF_WHOLE, "uses", uses, lambda lines, _: [OUTSIDE], entries_of_uses, False),
+    ("project-outside", OF_WHOLE, "project", project, lambda lines, _: [[OUTSIDE]], numbers, False),
+    ("project-none", OF_WHOLE, "project", project, lambda lines, _: [[]], numbers, False),
+    ("project-all", OF_WHOLE, "project", project, lambda lines, _: [lines.projected()[::-1]], numbers, True),
+    ("project-every", OF_WHOLE, "project", project, lambda lines, _: [[*range(len(lines.book.names))][::-1]], numbers, False),
+))
+ROWS = {row.word: row for row in QUESTIONS}
+BROKEN = {row.word: 'given 2 "" ""' if row.word == "name" else "refused 1 -" for row in QUESTIONS if row.of == OF_BOOK}
+
+
+def asked_of(*kinds):
+    """The rows of such lines."""
+    return [row for row in QUESTIONS if row.of in kinds]
 
 
 class Lines:
     """The questions of answer_batch on a whole book, each with its outcome as it is printed."""
 
     def __init__(self, book):
-        self.book, self.found = book, {}
+        self.book, self.found, self.answers = book, {}, {}
 
     def name(self, number):
         return layout.quoted(self.book.names[number] if number < len(self.book.names) else b"")
@@ -389,62 +459,45 @@ class Lines:
     def refusal(self, refused):
         return f"refused {refused.number} {'-' if refused.name is None else self.name(refused.name)}"
 
-    def verdict(self, word, question):
-        try:
-            question(self.book)
-            self.found[word] = "passed"
-        except Refused as refused:
-            self.found[word] = self.refusal(refused)
+    def listed(self):
+        return self.answers["list"] or []
 
-    def ask(self, word, spelled, question, *asked):
-        """The entries that a question gives, None where it is refused."""
-        try:
-            entries = question(self.book, *asked)
-        except Refused as refused:
-            self.found[word] = self.refusal(refused)
-            return None
-        self.found[word] = " ".join([f"given {len(entries)}", *map(spelled, entries)])
-        return entries
+    def projected(self):
+        """The names whose projection is given."""
+        return [number for number in self.asked() if self.answers[f"project {self.name(number)}"] is not None]
 
-    def ask_twice(self, word, spelled, question, *asked):
-        """Asks, and again with too short a list."""
-        entries = self.ask(word, spelled, question, *asked)
-        if entries:
-            first, *name = word.split(" ", 1)
+    def asked(self):
+        """The numbers of the names that the book is asked about."""
+        count = len(self.book.names)
+        if self.listed() or count <= MOST_NAMES:
+            return range(count)
+        return [*range(FIRST_AND_LAST), *range(count - FIRST_AND_LAST, count)]
+
+    def ask(self, row, number=None):
+        """Asks, and again with too short a list; the answer is None where it is refused."""
+        about = "" if number is None else f" {self.name(number)}"
+        try:
+            answer = row.function(self.book, *row.asked(self, number))
+            self.found[row.word + about] = row.said(self, answer)
+        except Refused as refused:
+            answer = None
+            self.found[row.word + about] = self.refusal(refused)
+        self.answers[row.word + about] = answer
+        if answer and row.again:
             try:
-                handed(entries, len(entries) - 1)
+                handed(answer, len(answer) - 1)
             except Refused as refused:
-                self.found[" ".join([f"{first}-short", *name])] = f"needs {refused.needed} {self.refusal(refused)}"
-        return entries
+                self.found[f"{row.word}-short{about}"] = f"needs {refused.needed} {self.refusal(refused)}"
 
     def all(self):
-        self.verdict("check", check)
-        self.verdict("init-check", init_check)
-        listed = self.ask_twice("list", self.name, definition_list) or []
-        self.ask_twice("marks", self.name, marks, listed)
-        self.ask("marks-back", self.name, marks, listed[::-1])
-        self.ask("marks-outside", self.name, marks, [*listed, OUTSIDE])
-        self.ask_twice("init", self.name, init_list)
-        self.ask_twice("draft", self.name, draft_list)
-        self.ask_twice("empty", self.name, emptiness)
-        projected = []
-        for number in range(len(self.book.names)):
-            name = self.name(number)
-            self.ask_twice(f"uses {name}", use, uses, number)
-            if self.ask(f"project {name}", str, project, [number]) is not None:
-                projected.append(number)
-            self.ask(f"twice {name}", str, project, [number, number])
-        self.ask("uses-outside", use, uses, OUTSIDE)
-        self.ask("project-outside", str, project, [OUTSIDE])
-        self.ask("project-none", str, project, [])
-        self.ask_twice("project-all", str, project, projected[::-1])
-        self.ask("project-every", str, project, [*range(len(self.book.names))][::-1])
+        for row in asked_of(OF_BOOK):
+            self.ask(row)
+        for number in self.asked():
+            for row in asked_of(OF_NAME):
+                self.ask(row, number)
+        for row in asked_of(OF_WHOLE):
+            self.ask(row)
         return self.found
-
-
-def use(entry):
-    """A use as it is printed."""
-    return ".".join(map(str, entry))
 
 
 def outcomes(data):
@@ -452,21 +505,20 @@ def outcomes(data):
     try:
         book = Book(data)
     except Refused:
-        return {question: "refused 1 -" for question in OF_BOOK}
+        return dict(BROKEN)
     return Lines(book).all()
 
 
-COUNTED = ("check", "init-check", "list", "marks", "init", "draft", "empty", "uses", "project")
 REFUSALS = range(1, 18)
 
 
 class Tally:
-    """What answer_batch prints after the last book: how often each refusal was printed, and how often each question passed or gave
-    entries. Questions of one function are counted together."""
+    """What answer_batch prints after the last book: how often each refusal was printed, and how often each question passed, was whole or
+    gave entries. Questions of one function are counted together."""
 
     def __init__(self):
         self.refused = dict.fromkeys(REFUSALS, 0)
-        self.given = dict.fromkeys(COUNTED, 0)
+        self.given = {row.counted: 0 for row in QUESTIONS}
 
     def add(self, question, outcome):
         """Counts a line of answer_batch."""
@@ -475,9 +527,8 @@ class Tally:
             words = words[2:]
         if words[0] == "refused":
             self.refused[int(words[1])] += 1
-        elif words[0] == "passed" or words[0] == "given" and words[1] != "0":
-            word = question.split(" ")[0]
-            self.given[word if word in COUNTED else "project" if word == "twice" else word.split("-")[0]] += 1
+        elif words[:2] != ["given", "0"]:
+            self.given[ROWS[question.split(" ")[0]].counted] += 1
 
     def lines(self):
         found = [f"refused {number} {count}" for number, count in self.refused.items()]

@@ -1,27 +1,23 @@
 #!/usr/bin/env python3
-"""Makes one file of all books of a folder:  python3 tools/mkbatch.py FOLDER BATCH EXPECTED
+"""Makes one file of all books of a folder:  python3 tools/mkbatch.py FOLDER BATCH [EXPECTED]
 
 For each source NAME.did, in the order of names by bytes, BATCH holds
     a length byte and NAME, then a length of four bytes, little-endian, and the book
-and EXPECTED its lines, by the source's first lines and the counts in the book's table of contents:
-    NAME whole N_NAMES N_NODES N_DEFINITIONS N_FILES      // fine: WHAT IT SHOWS
-    NAME refused 1 -                                      // broken RULES: WHAT IT SHOWS
-    NAME passed                                           // passes: WHAT IT SHOWS
-    NAME refused NUMBER "NAMED"                           // refused NUMBER NAMED: WHAT IT SHOWS
-    NAME refused NUMBER -                                 // refused NUMBER -: WHAT IT SHOWS
-    NAME init ..                                          // init ..: WHAT IT SHOWS
-    NAME QUESTION OUTCOME ..                              // answers: WHAT IT SHOWS
-                                                          // random SEED-NUMBER: WHAT IT SHOWS
-The first two are of the layout (tests/layout), with the words of tools/layout.py for the rules that are broken; the next
-are of the check (tests/check), with document 01's number and the name that the refusal gives, a NAME of tools/mkbook.py;
-the one with init is of the init check: a second line of a source whose book has an init file and passes the check.
-The last two are of the questions (tests/list, tests/random): the lines of tools/answers.py. A source of tests/list states some
-of them by hand, each in a line after the first, and they must agree; so must what the other sources' first lines say. After
-the last source of such a folder comes the tally.
+and EXPECTED what answer_batch has to print of it, by tools/answers.py, and the tally. Every source says by its first lines some of the
+outcomes, and these must agree:
+    // fine: WHAT IT SHOWS                       the layout is whole (tests/layout), with the counts in the book's table of contents
+    // broken RULES: WHAT IT SHOWS               the layout is broken, with the words of tools/layout.py for the rules
+    // passes: WHAT IT SHOWS                     the check passes (tests/check)
+    // refused NUMBER NAMED: WHAT IT SHOWS       the check refuses it; NAMED is a NAME of tools/mkbook.py, or -
+    // init ..: WHAT IT SHOWS                    the init check: a second line of a source whose book has an init file and passes the check
+    // answers: WHAT IT SHOWS                    the questions (tests/list): each line after it states the outcome of one
+    // random SEED-NUMBER: WHAT IT SHOWS         nothing is said (tests/random)
+A stated outcome of a question is
     // QUESTION: ENTRY ..        QUESTION is as in tools/answers.py, with a TEXT where it is about a name
     // QUESTION: none            an ENTRY is a TEXT, a number or METHOD.KIND.INDEX, with repeat and nest as in a source
     // QUESTION: refused NUMBER TEXT, or - for TEXT
     // QUESTION: passes          of check and init-check
+    // QUESTION: whole N N N N   of layout: names, nodes, definitions, files
     // QUESTION: needs N         of a question with too short a list
 """
 
@@ -42,9 +38,14 @@ INIT_LINE = re.compile(r"//.*\n// init " + OUTCOME)
 ANSWERS_LINE = re.compile(r"// answers: \S.*\n")
 TEXT = r'"(?:[^"\\]|\\.)*"'
 RANDOM_LINE = re.compile(r"// random [0-9]+-[0-9]+: \S.*\n")
-OF_BOOK = ("(?:check|init-check|(?:list|marks|init|draft|empty|project-all)(?:-short)?|marks-back|marks-outside|"
-           "uses-outside|project-outside|project-none|project-every)")
-QUESTION = rf"(?P<question>{OF_BOOK}|(?:uses|uses-short|project|twice) (?P<asked>{TEXT}))"
+
+
+def words(*kinds):
+    """A pattern of the words of such questions."""
+    return "|".join(row.word + ("(?:-short)?" if row.again else "") for row in answers.asked_of(*kinds))
+
+
+QUESTION = rf"(?P<question>(?:{words(answers.OF_BOOK, answers.OF_WHOLE)})|(?:{words(answers.OF_NAME)}) (?P<asked>{TEXT}))"
 STATED_LINE = re.compile(f"// {QUESTION}: " + r"(?P<outcome>\S.*)")
 REFUSED = re.compile(rf"refused (?P<number>[0-9]+) (?P<named>-|{TEXT})")
 
@@ -103,11 +104,6 @@ def said(found):
     return f"refused {number} {'-' if named is None else layout.quoted(named)}"
 
 
-def checked(name, text):
-    """The lines of a source in tests/check."""
-    return f"{name} {said(verdict(text))}\n{name} init {said(init_verdict(text))}\n"
-
-
 def is_of_questions(text):
     """Whether a source's first line is of the questions."""
     return bool(ANSWERS_LINE.match(text))
@@ -149,6 +145,8 @@ def stated(text):
             found[question] = "passed"
         elif said.startswith("needs "):
             found[question] = f"{said} refused 16 -"
+        elif said.startswith("whole "):
+            found[question] = said
         else:
             listed = [] if said == "none" else entries(said)
             found[question] = " ".join([f"given {len(listed)}", *listed])
@@ -161,7 +159,7 @@ def is_random(text):
     return bool(RANDOM_LINE.match(text))
 
 
-def claims(text):
+def claims(text, book):
     """The outcomes of answer_batch that any source states."""
     if is_of_check(text):
         return {"check": said(verdict(text)), "init-check": said(init_verdict(text))}
@@ -169,13 +167,15 @@ def claims(text):
         return stated(text)
     if is_random(text):
         return {}
-    return dict.fromkeys(answers.OF_BOOK, "refused 1 -") if broken_rules(text) else {}
+    if broken_rules(text):
+        return answers.BROKEN
+    return {"layout": " ".join(["whole", *map(str, struct.unpack("<8I", book[:32])[1::2])])}
 
 
-def agreed(text, book):
+def agreed(text, book, found=None):
     """The outcomes of answer_batch on a book, with which those agree that its source states."""
-    found = answers.outcomes(book)
-    for question, outcome in claims(text).items():
+    found = found or answers.outcomes(book)
+    for question, outcome in claims(text, book).items():
         if found.get(question) != outcome:
             raise mkbook.SourceError(f"{question}: {outcome} is stated, {found.get(question)} is found")
     return found
@@ -190,35 +190,22 @@ def record(name, book):
     return bytes([len(name.encode())]) + name.encode() + struct.pack("<I", len(book)) + book
 
 
-def expected(name, text, book):
-    if is_of_check(text):
-        return checked(name, text)
-    if is_of_questions(text) or is_random(text):
-        return answered(name, text, book)
-    if broken_rules(text):
-        return f"{name} refused 1 -\n"
-    return " ".join([name, "whole", *map(str, struct.unpack("<8I", book[:32])[1::2])]) + "\n"
-
-
 def main():
-    if len(sys.argv) != 4:
-        sys.exit("usage: python3 tools/mkbatch.py FOLDER BATCH EXPECTED")
-    folder, batch_path, expected_path = sys.argv[1:]
-    with open(batch_path, "wb") as batch, open(expected_path, "w", encoding="utf-8") as lines:
-        tally = None
-        for name, text in sources(folder):
-            try:
-                book = mkbook.book(text)
-                batch.write(record(name, book))
-                own = expected(name, text, book)
-                lines.write(own)
-                if is_of_questions(text) or is_random(text):
-                    tally = tally or answers.Tally()
-                    for line in own.splitlines():
-                        tally.add(*replay.parted(line[len(name) + 1:]))
-            except mkbook.SourceError as error:
-                sys.exit(f"{folder}/{name}.did: {error}")
-        lines.writelines(tally.lines() if tally else [])
+    if len(sys.argv) not in (3, 4):
+        sys.exit("usage: python3 tools/mkbatch.py FOLDER BATCH [EXPECTED]")
+    folder, batch_path, *expected_path = sys.argv[1:]
+    books = {}
+    for name, text in sources(folder):
+        try:
+            book = bytes(mkbook.book(text))
+            books[name] = book, agreed(text, book) if expected_path else None
+        except mkbook.SourceError as error:
+            sys.exit(f"{folder}/{name}.did: {error}")
+    with open(batch_path, "wb") as batch:
+        batch.writelines(record(name, book) for name, (book, _) in books.items())
+    for path in expected_path:
+        with open(path, "w", encoding="utf-8") as lines:
+            lines.writelines(replay.printed((name, outcomes) for name, (_, outcomes) in books.items()))
 
 
 if __name__ == "__main__":

@@ -61,8 +61,10 @@ def answered(data):
 def whose(question, theirs):
     """Whose line `oracle answer` prints: the Rust's, or the oracle's own, by document 01."""
     word, outcome = question.split(" ")[0], theirs[question]
-    if outcome == "refused 1 -":
+    if theirs["layout"] == "refused 1 -":
         return "the oracle's own, layout broken"
+    if word in ("layout", "name"):
+        return "the oracle's own, its reader of books"
     if word.endswith("-short") or outcome == "refused 16 -":
         return "the oracle's own, 16"
     if word == "marks-outside" and theirs["marks"].startswith("given"):

@@ -13,27 +13,17 @@ import subprocess
 import sys
 
 import answers
-import layout
 import mkbatch
 import mkbook
 import replay
-from mkgate import CHECK_SOURCES, LIST_SOURCES, ROOT, SOURCES, table
+from mkgate import CHECK_SOURCES, LIST_SOURCES, ROOT, SOURCES
 
 MOST = 8192  # the limit that a system sets by itself
 NESTED = ("length-smallest", "limit-nested-4096", "limit-nested-kinds", "kind-27-deepest")
 
 
-def is_nested(name):
-    return name in NESTED
-
-
 def is_large(name):
-    return name == "p01" or name.startswith("large-")
-
-
-def layout_lines(name, text, book):
-    asked = 2 + (0 if layout.faults(book) else len(layout.Reader(book).book.names))
-    return mkbatch.expected(name, text, book) + f"names {asked} asked {asked} agree\n"
+    return name == "p01" or name.startswith("large-") or name in NESTED
 
 
 def answer_lines(name, text, book):
@@ -50,13 +40,10 @@ def of_book(lines):
     return lambda name, text, book: (book, lines(book))
 
 
-# Of each program: the folders of its books, which of these, and its input and output.
+# Of each program: the folders of its books, and its input and output.
 PROGRAMS = {
-    "show_book": ([SOURCES], is_nested, of_book(table)),
-    "layout_batch": ([SOURCES], is_nested, of_batch(layout_lines)),
-    "check_batch": ([CHECK_SOURCES], is_large, of_batch(lambda name, text, book: mkbatch.checked(name, text))),
-    "list": ([LIST_SOURCES, CHECK_SOURCES], is_large, of_book(answers.listing)),
-    "answer_batch": ([LIST_SOURCES], is_large, of_batch(answer_lines)),
+    "list": ([LIST_SOURCES, CHECK_SOURCES], of_book(answers.listing)),
+    "answer_batch": ([SOURCES, CHECK_SOURCES, LIST_SOURCES], of_batch(answer_lines)),
 }
 
 
@@ -81,7 +68,7 @@ def least(path, data, right):
 
 
 def measure(program):
-    folders, is_measured, run = PROGRAMS[program]
+    folders, run = PROGRAMS[program]
     path, found = os.path.join(ROOT, "target", "bin", program), {}
     if not os.path.exists(path):
         print(f"{program}: not built, `rt check {program}` builds it")
@@ -89,7 +76,7 @@ def measure(program):
     for folder in folders:
         for name, text in mkbatch.sources(folder):
             source = f"{os.path.basename(folder)}/{name}"
-            if is_measured(name):
+            if is_large(name):
                 data, right = run(name, text, bytes(mkbook.book(text)))
                 found[source] = least(path, data, right.encode())
                 print(f"{program} {source}:", f"{found[source]} KiB" if found[source] else f"wrong under {MOST} KiB")

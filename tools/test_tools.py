@@ -34,9 +34,8 @@ LIST_SOURCES = dict(mkbatch.sources(LIST_FOLDER))
 LIST_BOOKS = {name: mkbook.book(text) for name, text in LIST_SOURCES.items()}
 NAMED = {2, 3, 7, 9, 12, 13, 14}  # the check's refusals that name something
 NAMELESS = {4, 5, 6, 8, 10}
-OF_WHOLE = {"uses", "project", "twice", "uses-outside", "project-outside", "project-none", "project-all", "project-every"}
-SHORT = {f"{question}-short" for question in ("list", "marks", "init", "draft", "empty", "uses", "project-all")}
-QUESTIONS = {*answers.OF_BOOK, *OF_WHOLE, *SHORT}
+SHORT = {f"{row.word}-short" for row in answers.QUESTIONS if row.again}
+QUESTIONS = {*answers.ROWS, *SHORT}
 
 
 class Encoding(unittest.TestCase):
@@ -219,15 +218,16 @@ class CheckSources(unittest.TestCase):
         for line in ("// passes\n", "// refused 4: x\n", "// refused - -: x\n", "// fine: x\n", "// refused 3 z y: x\n"):
             with self.assertRaises(mkbook.SourceError, msg=line):
                 mkbatch.verdict(line)
-        self.assertEqual(mkbatch.checked("a", "// passes: x\n"), "a passed\na init passed\n")
-        with_init = '// passes: x\n// init refused 11 b: x\nfile "i" init\nargs ()\n'
-        self.assertEqual(mkbatch.checked("a", with_init), 'a passed\na init refused 11 "b"\n')
-        with self.assertRaises(mkbook.SourceError):
-            mkbatch.checked("a", '// passes: x\nfile "i" init\nargs ()\n')
-        with self.assertRaises(mkbook.SourceError):
-            mkbatch.checked("a", "// passes: x\n// init passes: there is no init file\n")
-        self.assertEqual(mkbatch.checked("a", "// refused 10 -: x\n"), "a refused 10 -\na init refused 10 -\n")
-        self.assertEqual(mkbatch.checked("a", '// refused 3 "\\"\\ff": x\n'), 'a refused 3 "\\22\\ff"\na init refused 3 "\\22\\ff"\n')
+        for text, check, init in (
+            ("// passes: x\n", "passed", "passed"),
+            ('// passes: x\n// init refused 11 b: x\nfile "i" init\nargs ()\n', "passed", 'refused 11 "b"'),
+            ("// refused 10 -: x\n", "refused 10 -", "refused 10 -"),
+            ('// refused 3 "\\"\\ff": x\n', 'refused 3 "\\22\\ff"', 'refused 3 "\\22\\ff"'),
+        ):
+            self.assertEqual(mkbatch.claims(text, b""), {"check": check, "init-check": init}, text)
+        for text in ('// passes: x\nfile "i" init\nargs ()\n', "// passes: x\n// init passes: there is no init file\n"):
+            with self.assertRaises(mkbook.SourceError, msg=text):
+                mkbatch.claims(text, b"")
 
 
 def asked(question, book, *lent):
@@ -394,6 +394,7 @@ class ListSources(unittest.TestCase):
             '// empty: nest 2 { | "a#" } {} "n" * 3 + "m"\n': {"empty": 'given 3 "a1" "a0" "nnnm"'},
             '// uses "a": repeat 2 { #.0.0 #.1.1 }\n': {'uses "a"': "given 4 0.0.0 0.1.1 1.0.0 1.1.1"},
             '// check: passes\n// init-check: refused 4 -\n': {"check": "passed", "init-check": "refused 4 -"},
+            '// layout: whole 1 0 0 1\n// name: "" "" ""\n': {"layout": "whole 1 0 0 1", "name": 'given 3 "" "" ""'},
             '// uses-short "a": needs 3\n// list-short: needs 1\n':
                 {'uses-short "a"': "needs 3 refused 16 -", "list-short": "needs 1 refused 16 -"},
             '// marks-back: none\n// marks-outside: refused 3 ""\n': {"marks-back": "given 0", "marks-outside": 'refused 3 ""'},
@@ -409,26 +410,30 @@ class ListSources(unittest.TestCase):
 
     def test_lines(self):
         self.assertEqual(mkbatch.answered("a", "// answers: x\n// list: none\n", LIST_BOOKS["p10"]), "".join("a " + line for line in (
+            "layout whole 2 2 0 1\n", 'name given 4 "" "m" "" ""\n',
             "check passed\n", "init-check passed\n", "list given 0\n", "marks given 0\n", "marks-back given 0\n",
             'marks-outside refused 3 ""\n', "init given 0\n", "draft given 0\n", "empty given 0\n",
             'uses "" given 0\n', 'project "" refused 15 ""\n', 'twice "" refused 15 ""\n',
             'uses "m" given 0\n', 'project "m" given 1 0\n', 'twice "m" refused 15 "m"\n',
             "uses-outside given 0\n", 'project-outside refused 15 ""\n', "project-none given 0\n", "project-all given 1 0\n",
             "project-all-short needs 1 refused 16 -\n", 'project-every refused 15 ""\n')))
-        self.assertEqual([line.split()[0] for line in replay.lines("a", answers.outcomes(b""))], ["a"] * len(answers.OF_BOOK))
+        self.assertEqual(replay.lines("a", answers.outcomes(b"")), [
+            "a layout refused 1 -\n", 'a name given 2 "" ""\n',
+            *(f"a {word} refused 1 -\n" for word in "check init-check list marks marks-back marks-outside init draft empty".split())])
 
     def test_tally(self):
         """By hand: P10's lines and those of a broken book."""
         lines = list(replay.printed([("a", answers.outcomes(LIST_BOOKS["p10"])), ("b", answers.outcomes(b""))]))
-        refused = {1: 9, 3: 1, 15: 5, 16: 1}
-        given = {"check": 1, "init-check": 1, "project": 2}
-        self.assertEqual(lines[-27:], [
+        refused = {1: 10, 3: 1, 15: 5, 16: 1}
+        given = {"layout": 1, "name": 2, "check": 1, "init-check": 1, "project": 2}
+        words = "layout name check init-check list marks init draft empty uses project".split()
+        self.assertEqual(lines[-29:], [
             *(f"tally refused {number} {refused.get(number, 0)}\n" for number in range(1, 18)),
-            *(f"tally given {word} {given.get(word, 0)}\n" for word in "check init-check list marks init draft empty uses project".split()),
+            *(f"tally given {word} {given.get(word, 0)}\n" for word in words),
             "tally incomplete\n"])
         tally = answers.Tally()
         for question, word in (("marks", "marks"), ("marks-back", "marks"), ("uses-outside", "uses"), ('uses "a"', "uses"),
-                               ('twice "-"', "project"), ("project-all", "project"), ("init", "init")):
+                               ('twice "-"', "project"), ("project-all", "project"), ("init", "init"), ("name", "name")):
             before = tally.given[word]
             tally.add(question, "given 1 x")
             tally.add(question, "given 0")
@@ -448,7 +453,7 @@ class Replay(unittest.TestCase):
     def test_tally(self):
         """Every refusal and every answer with entries is in the list."""
         tally = [line for line in self.lines.splitlines() if line.startswith("tally ")]
-        self.assertEqual(len(tally), 17 + 9 + 1)
+        self.assertEqual(len(tally), 17 + 11 + 1)
         self.assertEqual(tally[-1], "tally complete")
         for line in tally[:-1]:
             self.assertGreater(int(line.split()[-1]), 0, line)
@@ -463,6 +468,7 @@ class Replay(unittest.TestCase):
         check = {1, *NAMED, *NAMELESS}
         given = {"given", "none"}
         self.assertEqual(found, {
+            "layout": {"whole", 1}, "name": {"given"},
             "check": {"passed", *check}, "init-check": {"passed", 11, *check},
             "list": {17, *check, *given}, "marks": {*check, *given}, "marks-back": {*check, *given}, "marks-outside": check,
             "init": {11, *check, *given}, "draft": {1, 2, 3, 17, *given}, "empty": {*check, *given},
@@ -497,9 +503,6 @@ class Replay(unittest.TestCase):
         self.assertEqual(len(names), len(set(names)))
         self.assertEqual(len({book for _, _, book, _ in self.sources}), len(names))
         self.assertEqual([(name, book) for name, _, book, _ in self.sources], list(replay.records(self.records)))
-        for name in mkgate.LEFT_OUT:
-            self.assertTrue(os.path.exists(os.path.join(HERE, "..", "tests", f"{name}.did")), name)
-            self.assertNotIn(name, names)
         for folder in ("list", "random"):
             for name, text in mkbatch.sources(os.path.join(HERE, "..", "tests", folder)):
                 self.assertIn(f"{folder}/{name}", names)
@@ -507,8 +510,39 @@ class Replay(unittest.TestCase):
         for name, _, book, _ in self.sources:
             if name.startswith("random/"):
                 self.assertEqual(mkbook.book(layout.text(book)), book, name)
-        self.assertLess(len(self.records), 2_500_000)
-        self.assertLess(len(self.lines), 2_500_000)
+        self.assertLess(len(self.records), 4_000_000)
+        self.assertLess(len(self.lines), 4_000_000)
+
+    def test_layouts_and_checks(self):
+        """Every book of tests/layout and of tests/check is there, with what its source says of the layout or of the two checks, and with
+        every name by its number and nothing for two numbers outside."""
+        found = {book: outcomes for _, _, book, outcomes in self.sources}
+        for name, text in SOURCES.items():
+            outcomes, reader = found[bytes(BOOKS[name])], layout.Reader(BOOKS[name])
+            self.assertEqual(bool(reader.faults), bool(mkbatch.broken_rules(text)), name)
+            right = "refused 1 -" if reader.faults else " ".join(["whole", *(str(len(part)) for part in reader.book)])
+            self.assertEqual(outcomes["layout"], right, name)
+            names = [] if reader.faults else reader.book.names
+            self.assertEqual(outcomes["name"], " ".join([f"given {len(names) + 2}", *map(layout.quoted, [*names, b"", b""])]), name)
+        for name, text in CHECK_SOURCES.items():
+            outcomes = found[bytes(CHECK_BOOKS[name])]
+            self.assertTrue(outcomes["layout"].startswith("whole "), name)
+            self.assertEqual(outcomes["check"], mkbatch.said(mkbatch.verdict(text)), name)
+            self.assertEqual(outcomes["init-check"], mkbatch.said(mkbatch.init_verdict(text)), name)
+
+    def test_asked_names(self):
+        """Every name is asked about, but for books with more than 514 names that list none: of them the first and the last eight."""
+        some = []
+        for name, _, _, outcomes in self.sources:
+            count = int(outcomes["layout"].split()[1]) if outcomes["layout"] != "refused 1 -" else 0
+            asked = [question.split(" ", 1)[1] for question in outcomes if question.startswith("uses ")]
+            if len(asked) < count:
+                some.append(name)
+                self.assertGreater(count, 514)
+                self.assertFalse(re.match("given [1-9]", outcomes["list"]), name)
+                names = re.findall(r'"[^"]*"', outcomes["name"])[:count]
+                self.assertEqual(asked, names[:8] + names[-8:], name)
+        self.assertGreater(len(some), 10)
 
     def test_document(self):
         """Each line that docs/REPLAY.md shows for a sentence of document 01 is a line of the list, and each refusal is shown."""
@@ -535,7 +569,8 @@ class Replay(unittest.TestCase):
             return found, {which: sum(words.values()) for which, words in told.items()}
 
         self.assertEqual(joined(rust), (right, {
-            "the Rust's": 34, "the oracle's own, 16": 6, "the oracle's own, 3 for a number outside": 1, "the oracle's own, layout broken": 9}))
+            "the Rust's": 34, "the oracle's own, 16": 6, "the oracle's own, 3 for a number outside": 1,
+            "the oracle's own, its reader of books": 2, "the oracle's own, layout broken": 11}))
         silent = [line if not line.startswith("a list ") else "a list unanswered ring\n" for line in rust if " list-short" not in line]
         self.assertEqual(joined(silent)[0], right)
         self.assertEqual(joined(silent)[1]["unanswered ring"], 2)
@@ -560,11 +595,11 @@ class Batch(unittest.TestCase):
         records, lines = self.batch(CHECK_FOLDER)
         self.assertEqual(dict(records), CHECK_BOOKS)
         self.assertEqual([name for name, _ in records], sorted(CHECK_SOURCES))
-        self.assertEqual([line.split()[0] for line in lines], [name for name in sorted(CHECK_SOURCES) for _ in range(2)])
-        self.assertIn("p09-import refused 14 \"\\00a\"", lines)
-        self.assertIn("p04 passed", lines)
-        self.assertIn("row-04-definition refused 4 -", lines)
-        self.assertEqual("\n".join(lines) + "\n", mkgate.check_batch()[1])
+        for word in ("check", "init-check"):
+            self.assertEqual([line.split()[0] for line in lines if line.split()[1] == word], sorted(CHECK_SOURCES))
+        self.assertIn("p09-import check refused 14 \"\\00a\"", lines)
+        self.assertIn("p04 check passed", lines)
+        self.assertIn("row-04-definition check refused 4 -", lines)
 
     def test_answer_batch(self):
         records, lines = self.batch(LIST_FOLDER)
@@ -582,11 +617,11 @@ class Batch(unittest.TestCase):
         for name, book in records:
             self.assertEqual(book, BOOKS[name])
             if layout.faults(book):
-                found.append(f"{name} refused 1 -")
+                found.append(f"{name} layout refused 1 -")
             else:
-                found.append(" ".join([name, "whole"] + [str(len(part)) for part in layout.Reader(book).book]))
-        self.assertEqual(found, lines)
-        self.assertEqual(sorted(SOURCES), [line.split()[0] for line in lines])
+                found.append(" ".join([name, "layout whole"] + [str(len(part)) for part in layout.Reader(book).book]))
+        self.assertEqual(found, [line for line in lines if line.split()[1] == "layout"])
+        self.assertEqual(sorted(SOURCES), [name for name, _ in records])
 
     def test_gate(self):
         """What the programs are run on and must write is current."""

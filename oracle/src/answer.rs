@@ -24,6 +24,10 @@ const STEPS_OF_RING: u64 = 4_000;
 /// Entries in the list that answer_batch lends for uses.
 const MOST_USES: usize = 4096;
 
+/// A book that has more names and lists none is asked about so many of the first and of the last ones alone.
+const MOST_NAMES: usize = 514;
+const FIRST_AND_LAST: usize = 8;
+
 /// The first number outside every name table. In the Rust it is a text that no name of the book has.
 const OUTSIDE: usize = 1024;
 
@@ -482,31 +486,84 @@ fn verdict<T>(book: &Book, outcome: &Found<T>, unvalidated: &[&Option<String>]) 
     }
 }
 
-const OF_BOOK: [&str; 9] = ["check", "init-check", "list", "marks", "marks-back", "marks-outside", "init", "draft", "empty"];
-const OF_NAME: [&str; 3] = ["uses", "project", "twice"];
-const OF_WHOLE: [&str; 5] = ["uses-outside", "project-outside", "project-none", "project-all", "project-every"];
+/// Of what a line is asked: of every book, of each name of a whole one, and then of a whole one once.
+#[derive(Clone, Copy, PartialEq)]
+enum Of {
+    Book,
+    Name,
+    Whole,
+}
 
-/// Those that are asked again, with one place fewer than the entries that were given.
-const SHORT: [&str; 7] = ["list", "marks", "init", "draft", "empty", "uses", "project-all"];
+/// The questions that the Rust is asked, in the order of their lines, and whether each is asked again, with one place fewer than the entries
+/// that were given.
+const QUESTIONS: [(&str, Of, bool); 17] = [
+    ("check", Of::Book, false),
+    ("init-check", Of::Book, false),
+    ("list", Of::Book, true),
+    ("marks", Of::Book, true),
+    ("marks-back", Of::Book, false),
+    ("marks-outside", Of::Book, false),
+    ("init", Of::Book, true),
+    ("draft", Of::Book, true),
+    ("empty", Of::Book, true),
+    ("uses", Of::Name, true),
+    ("project", Of::Name, false),
+    ("twice", Of::Name, false),
+    ("uses-outside", Of::Whole, false),
+    ("project-outside", Of::Whole, false),
+    ("project-none", Of::Whole, false),
+    ("project-all", Of::Whole, true),
+    ("project-every", Of::Whole, false),
+];
+
+fn words(of: Of) -> impl Iterator<Item = String> {
+    QUESTIONS.into_iter().filter(move |question| question.1 == of).map(|question| question.0.into())
+}
+
+/// The numbers of the names that a book is asked about.
+pub fn asked_names(names: usize, lists_any: bool) -> Vec<usize> {
+    let is_asked = |number: &usize| {
+        lists_any || names <= MOST_NAMES || *number < FIRST_AND_LAST || names - FIRST_AND_LAST <= *number
+    };
+    (0..names).filter(is_asked).collect()
+}
 
 /// A question and its outcome.
 type Line = (String, String);
 
+/// What the oracle's own reader says: the layout; every name by its number, then two numbers outside, which have none.
+fn lines_of_reader(book: Option<&Book>) -> Vec<Line> {
+    let nothing = [vec![], vec![]];
+    let names = book.map_or(&[][..], |book| &book.names).iter().chain(&nothing).map(|name| quoted(name)).collect::<Vec<_>>();
+    let layout = book.map_or("refused 1 -".into(), |book| {
+        format!("whole {} {} {} {}", book.names.len(), book.nodes(), book.definitions.len(), book.files.len())
+    });
+    vec![("layout".into(), layout), ("name".into(), format!("given {} {}", names.len(), names.join(" ")))]
+}
+
 /// The lines of a book.
 fn lines(bytes: &[u8]) -> Vec<Line> {
-    let Some(book) = book::read(bytes) else {
-        return OF_BOOK.iter().map(|word| (word.to_string(), "refused 1 -".into())).collect();
-    };
+    let book = book::read(bytes);
+    let mut lines = lines_of_reader(book.as_ref());
+    lines.extend(match &book {
+        Some(book) => lines_of_rust(book),
+        None => words(Of::Book).map(|word| (word, "refused 1 -".into())).collect(),
+    });
+    lines
+}
+
+fn lines_of_rust(book: &Book) -> Vec<Line> {
     let names: Result<Vec<String>, _> = book.names.iter().map(|name| String::from_utf8(name.clone())).collect();
-    let found = names.ok().map(|names| lines_of(&Texts { book: &book, names, renamed: false }));
+    let found = names.ok().map(|names| lines_of(&Texts { book, names, renamed: false }));
     let is_ambiguous = |lines: &Vec<Line>| lines.iter().any(|line| line.1 == "unanswered ambiguous-text");
-    match (found, other_names(&book)) {
+    match (found, other_names(book)) {
         (Some(lines), None) => lines,
         (Some(lines), Some(_)) if !is_ambiguous(&lines) => lines,
-        (_, Some(names)) => lines_of(&Texts { book: &book, names, renamed: true }),
+        (_, Some(names)) => lines_of(&Texts { book, names, renamed: true }),
         (None, None) => {
-            let of_names = book.names.iter().flat_map(|name| OF_NAME.map(|word| format!("{word} {}", quoted(name))));
-            let questions = OF_BOOK.map(String::from).into_iter().chain(of_names).chain(OF_WHOLE.map(String::from));
+            let asked = asked_names(book.names.len(), false).into_iter().map(|number| named(book, number));
+            let of_names = asked.flat_map(|name| words(Of::Name).map(move |word| format!("{word} {name}")));
+            let questions = words(Of::Book).chain(of_names).chain(words(Of::Whole));
             questions.map(|question| (question, "unanswered utf-8".into())).collect()
         }
     }
@@ -517,7 +574,7 @@ fn say(book: &Book, lines: &mut Vec<Line>, word: &str, name: Option<usize>, outc
     let of = name.map_or(String::new(), |name| format!(" {}", named(book, name)));
     lines.push((format!("{word}{of}"), given(book, &outcome)));
     let entries = outcome.map_or(0, |entries| entries.len());
-    if entries > 0 && SHORT.contains(&word) {
+    if entries > 0 && QUESTIONS.iter().any(|question| question.0 == word && question.2) {
         lines.push((format!("{word}-short{of}"), format!("needs {entries} refused 16 -")));
     }
 }
@@ -570,7 +627,8 @@ fn lines_of(texts: &Texts) -> Vec<Line> {
     };
     let project = |asked: Vec<String>| guarded(STEPS, || texts.project(known.clone()?, asked));
     let mut projected = Ok(vec![]);
-    for (number, name) in texts.names.iter().enumerate() {
+    for number in asked_names(texts.names.len(), listed.as_ref().is_ok_and(|list| !list.is_empty())) {
+        let name = &texts.names[number];
         say("uses", Some(number), uses_of(name));
         let once = project(vec![name.clone()]);
         match (&once, &mut projected) {

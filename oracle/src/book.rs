@@ -31,6 +31,11 @@ pub struct Node {
 }
 
 impl Node {
+    /// How many it has, itself counted.
+    pub fn nodes(&self) -> usize {
+        1 + self.kids.iter().map(|kid| kid.nodes()).sum::<usize>()
+    }
+
     pub fn arguments(&self) -> &[Node] {
         &self.kids[..(self.value & 0xffff) as usize]
     }
@@ -220,6 +225,11 @@ impl Book {
             offset += part.len();
         }
         [bytes, table, nodes, definitions, files].concat()
+    }
+
+    pub fn nodes(&self) -> usize {
+        let trees = self.definitions.iter().map(|row| &row.tree).chain(self.files.iter().filter_map(|file| file.tree.as_ref()));
+        trees.map(|tree| tree.nodes()).sum()
     }
 
     pub fn is_of(&self, definition: &Definition, is_init: bool) -> bool {

@@ -149,7 +149,9 @@ pub fn compared(batch: &[u8], ours: &str, rust: &str) -> (Counts, Vec<Difference
             passes |= line.word == "check" && line.outcome == "passed";
             listed |= line.word == "list" && is_given;
             marked |= line.word == "marks" && is_given;
-            if line.word == "marks-outside" && marked {
+            if ["layout", "name"].contains(&line.word) {
+                *counts.own.entry("layout and names").or_default() += 1;
+            } else if line.word == "marks-outside" && marked {
                 *counts.own.entry("3 for a number outside").or_default() += 1;
             } else if line.asked_before().is_some() {
                 *counts.own.entry("16 for a list too short").or_default() += 1;
@@ -171,29 +173,9 @@ pub fn compared(batch: &[u8], ours: &str, rust: &str) -> (Counts, Vec<Difference
     (counts, differences)
 }
 
-/// The lines of check_batch in the words of answer_batch, and those of the Rust that say the same.
-fn checks_alone(batch: &[u8], checks: &str, rust: &str) -> [String; 2] {
-    let (mut checks, mut rust) = (checks.lines().peekable(), rust.lines().peekable());
-    let mut found = [String::new(), String::new()];
-    for (name, _) in Batch(batch) {
-        for line in lines_of(&mut checks, name) {
-            let of_init = line.whole.strip_prefix("init ").map(|verdict| format!("{name} init-check {verdict}\n"));
-            found[0] += &of_init.unwrap_or_else(|| format!("{name} check {}\n", line.whole));
-        }
-        for line in lines_of(&mut rust, name).into_iter().filter(|line| ["check", "init-check"].contains(&line.word)) {
-            found[1] += &format!("{name} {}\n", line.whole);
-        }
-    }
-    found[0].extend(checks.map(|line| format!("{line}\n")));
-    found
-}
-
-pub fn run(batch: &str, ours: &str, rust: &str, of_checks: bool, difference: Option<&str>) -> i32 {
+pub fn run(batch: &str, ours: &str, rust: &str, difference: Option<&str>) -> i32 {
     let batch = file(batch);
-    let [mut ours, mut rust] = [ours, rust].map(|path| String::from_utf8(file(path)).expect("text"));
-    if of_checks {
-        [ours, rust] = checks_alone(&batch, &ours, &rust);
-    }
+    let [ours, rust] = [ours, rust].map(|path| String::from_utf8(file(path)).expect("text"));
     let (counts, differences) = compared(&batch, &ours, &rust);
     print(&counts, &differences);
     let Some(smallest) = differences.iter().min_by_key(|difference| difference.book.len()) else {

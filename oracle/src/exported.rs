@@ -3,6 +3,7 @@
 //! Each question is asked with a lent list that is long enough, just long enough, one entry too short and empty. Every time the numbers
 //! beyond the result, or all after a refusal, have to be as they were, and those before and after the lent list too.
 
+use crate::answer::asked_names;
 use crate::book::{quoted, Book};
 use crate::ours::{self, Answer, Question, NAMES, NO_NAME, SHORT};
 use std::collections::HashMap;
@@ -169,7 +170,8 @@ impl Said<'_> {
         }
     }
 
-    fn of_book(&mut self) {
+    /// Answers whether any name is listed.
+    fn of_book(&mut self) -> bool {
         self.verdict("check", ours::check(self.bytes));
         self.verdict("init-check", ours::init_check(self.bytes));
         let (_, list) = self.say("list", "", Question::List, true);
@@ -177,11 +179,12 @@ impl Said<'_> {
         self.say("init", "", Question::InitList, true);
         self.say("draft", "", Question::DraftList, true);
         self.say("empty", "", Question::Emptiness, true);
+        !list.is_empty()
     }
 
-    fn of_names(&mut self, names: usize) {
+    fn of_names(&mut self, names: usize, lists_any: bool) {
         let mut offered = Vec::new();
-        for number in 0..names {
+        for number in asked_names(names, lists_any) {
             let (name, every_length) = (number as u16, number < EVERY_LENGTH || number + 1 == names);
             let of = format!(" {}", self.name(number));
             self.say("uses", &of, Question::Uses(name), every_length);
@@ -226,9 +229,9 @@ impl Said<'_> {
 
 pub fn said<'a>(bytes: &'a [u8], book: Option<&'a Book>) -> Said<'a> {
     let mut said = Said { bytes, book, room: Vec::new(), untouched: Vec::new(), lines: HashMap::new(), calls: 0 };
-    said.of_book();
+    let lists_any = said.of_book();
     match book {
-        Some(book) => said.of_names(book.names.len()),
+        Some(book) => said.of_names(book.names.len(), lists_any),
         None => said.of_broken(),
     }
     said

@@ -122,7 +122,6 @@ const USAGE: &str = "usage: oracle answer < BATCH
        oracle generate SEED COUNT [damage] > BATCH
        oracle generate-all main|import|init|sound|type-import|imports|import-init > BATCH
        oracle compare BATCH ANSWERS RUST [DIFFERENCE]
-       oracle compare-checks BATCH CHECKS RUST
        oracle pick BATCH NAME > BOOK
        oracle shrink BOOK ANSWER_BATCH [ARGUMENT ...] > SMALLER";
 
@@ -140,9 +139,8 @@ fn main() {
             ["generate", seed, count] => generate::run(number(seed), number(count), false),
             ["generate", seed, count, "damage"] => generate::run(number(seed), number(count), true),
             ["generate-all", part] => exhaustive::run(part),
-            ["compare", batch, answers, rust] => compare::run(batch, answers, rust, false, None),
-            ["compare", batch, answers, rust, difference] => compare::run(batch, answers, rust, false, Some(difference)),
-            ["compare-checks", batch, checks, rust] => compare::run(batch, checks, rust, true, None),
+            ["compare", batch, answers, rust] => compare::run(batch, answers, rust, None),
+            ["compare", batch, answers, rust, difference] => compare::run(batch, answers, rust, Some(difference)),
             ["pick", batch, name] => compare::pick(batch, name),
             #[cfg(exports)]
             ["bench", samples, length] => answer::bench::run(number(samples), number(length)),

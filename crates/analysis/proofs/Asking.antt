@@ -17,11 +17,9 @@ use lib.Dec.{T, ltb}
 use lib.ListN.{length, getD, set, drop, length-set, length-replicate, getD-replicate, List·getD-eq-default, drop-of-length-le}
 use lib.Seq.{drop-cons, getD-set-same, getD-set-other}
 use Rattle.judgement.specs.Check.{member}
-use Rattle.environment.specs.Flags.{noFlags}
-use Rattle.listing.specs.Offers.{one, times}
-use Rattle.listing.specs.Project.{without, lowest}
-use Rattle.listing.specs.Questions.{leftOver}
-use Rattle.listing.proofs.Projected.{one-same, one-other, member-times, without-times, shrink, shrink-times, listed-times, lowest-least, lowest-listed}
+use Rattle.book.specs.Tables.{noFlags}
+use Rattle.listing.specs.Project.{one, times, without, lowest, leftOver}
+use Rattle.listing.proofs.Project.{one-same, one-other, member-times, without-times, shrink, shrink-times, listed-times, lowest-least, lowest-listed}
 use Rattle.analysis.specs.Projecting.{Asking, countOne, lowerFar, outcomeOf, LowestAs}
 
 -- ---- How often a name stands in a list

@@ -19,13 +19,13 @@ use Rattle.format.specs.Whole.{Within, WholeAt, WholeIn, treeAt}
 use Rattle.format.proofs.References.{varsOf}
 use Rattle.format.proofs.Rows.{kids-whole, node-within}
 use Rattle.format.proofs.Stored.{tree-whole}
-use Rattle.environment.specs.Tables.{blankTable}
-use Rattle.environment.proofs.Defines.{blank-length, blank-at}
-use Rattle.typing.specs.Walk.{Trees}
-use Rattle.typing.specs.Actors.{AllTrees, Top, methodsIn}
-use Rattle.typing.proofs.Classes.{tree-kids}
-use Rattle.typing.proofs.NodeTrees.{node-trees, node-some, node-top}
-use Rattle.listing.proofs.Folds.{Leafy, fits-leafy}
+use Rattle.book.specs.Tables.{blankTable}
+use Rattle.book.proofs.Blank.{blank-length, blank-at}
+use Rattle.environment.specs.Trees.{Trees, AllTrees, Top}
+use Rattle.syntax.specs.Interfaces.{methodsIn}
+use Rattle.syntax.proofs.Stored.{tree-kids}
+use Rattle.environment.proofs.Trees.{node-trees, node-some, node-top}
+use Rattle.listing.proofs.Leaves.{Leafy, fits-leafy}
 use Rattle.analysis.specs.Book.{Rooted, Readable}
 
 abbrev pub untabled : {ns : List ℕ} {names count : ℕ} → AllTrees ns names count → Rooted ns blankTable

@@ -4,7 +4,6 @@ use mathlib.Core.Bool.{Bool, true, false, cond}
 use mathlib.Core.List.{List, [], List·Memᴰ·not-nil}
 use Prim.Native.Nat.{ℕ, _+_, _≤_, _<_}
 use native.Mathlib.Omega.{arith}
-use borrow.Author.Tests.{ne-eqb}
 use lib.Dec.{eqb}
 use lib.ListN.{length, getD, take, replicate, length-replicate}
 use lib.Seq.{slice}
@@ -15,20 +14,20 @@ use Rattle.format.specs.Encode.{Row}
 use Rattle.format.specs.Layout.{rowAt, siblings}
 use Rattle.format.specs.Whole.{WholeAt, actorAt}
 use Rattle.format.proofs.References.{everywhere}
-use Rattle.format.proofs.Stored.{actor-none, actor-some}
+use Rattle.format.proofs.Stored.{actor-some}
 use Rattle.judgement.specs.Environment.{kidsOf}
-use Rattle.judgement.specs.Actor.{isClass, allButLast, classArguments, serviceOf, classOf}
+use Rattle.judgement.specs.Actor.{isClass, allButLast, classArguments, serviceOf, classOf, mergedOf}
 use Rattle.judgement.specs.Check.{member}
-use Rattle.judgement.specs.WellFormed.{none}
-use Rattle.environment.specs.Flags.{noFlags}
-use Rattle.typing.specs.declared.actor.Actor.{Actor}
-use Rattle.typing.specs.Actors.{Tabled, LastAs, methodsIn, mergedOf, actorTree, ActorStored}
-use Rattle.typing.proofs.Classes.{tree-class, arguments-are}
+use Rattle.format.specs.Distinct.{none}
+use Rattle.book.specs.Tables.{noFlags}
+use Rattle.syntax.specs.declared.interface.Interface.{Interface}
+use Rattle.environment.specs.Tables.{Tabled}
+use Rattle.syntax.specs.Interfaces.{methodsIn, interfaceTree}
 use Rattle.listing.specs.Chase.{Walk as State, going, arm, chase, visit, chaseTypes}
 use Rattle.analysis.specs.declared.chase.Walk.{Walk}
-use Rattle.analysis.specs.Book.{Rooted, Readable}
-use Rattle.analysis.specs.Walking.{Goes, Holds, Started, fuel, ChasedAs, Counted, noList, nothingMet, WalkedAs, RootIn, ActorIn}
-use Rattle.analysis.proofs.BookNodes.{here-whole, here-top, here-ends, services-over, services-open}
+use Rattle.analysis.specs.Book.{Readable}
+use Rattle.analysis.specs.Walking.{Goes, Holds, Started, fuel, ChasedAs, Counted, noList, nothingMet, WalkedAs, RootIn, InterfaceIn}
+use Rattle.analysis.proofs.BookNodes.{services-over, services-open}
 
 -- ---- a walk that has met nothing
 no-marks : (m n : ℕ) → eqb (getD (replicate m 0) n 0) 1 ≡ member n []
@@ -81,7 +80,7 @@ module _ (f : ℕ → State → State) where
   chase-beside (tree n kids next) u s = chase-beside next u (arm f (chase f kids) (n .kind) s)
 
   merged-chase : (main methods : Forest Node) (s : State) → chase f (mergedOf main methods) s ≡ chase f methods (chase f (classArguments main) s)
-  unfolding mergedOf classArguments chase arm
+  unfolding classArguments chase arm
   merged-chase main methods s = go (isClass main)
     where
       go : (b : Bool) → chase f (cond b (classOf (cond b (allButLast (kidsOf main)) end) (serviceOf methods)) (serviceOf methods)) s ≡ chase f methods (chase f (cond b (allButLast (kidsOf main)) end) s)
@@ -89,26 +88,8 @@ module _ (f : ℕ → State → State) where
       go false = refl
 
 -- ---- a node of the book
-module _ {ns roots : List ℕ} (b : Rooted ns roots) {n : ℕ} (h : n < b .count) where
-  module _ (q : Row) (is : q ≡ rowAt ns n) where
-    pub written-is : (n ≡ 65535 → ⊥) → siblings ns n (n + q .size) ≡ actorAt ns n
-    written-is s = ap (λ (r : Row). siblings ns n (n + r .size)) is ∙ sym (actor-some ns n s)
-
-    module _ (s : n ≡ 65535 → ⊥) where
-      pub no-class : (q .kind ≡ 25 → ⊥) → classArguments (actorAt ns n) ≡ end
-      unfolding classArguments
-      no-class k = rw (actor-some ns n s, tree-class (here-whole b h), ne-eqb (rowAt ns n .kind) 25 (λ e. k (ap (λ (r : Row). r .kind) is ∙ e)))
-
-      module _ (k : q .kind ≡ 25) {last : ℕ} (l : LastAs ns (n + 1) (n + q .size) last) where
-        pub class-arguments : siblings ns (n + 1) last ≡ classArguments (actorAt ns n)
-        class-arguments = arguments-are (here-top b h) q is k l ∙ ap classArguments (sym (actor-some ns n s))
-
-        pub arguments-readable : Readable ns roots (n + 1) last
-        arguments-readable = record { rooted = b; whole = l .before; inside = omega (arith, l .inside, here-ends b h (ap (λ (r : Row). r .size) is)) }
-
-pub none-class : (ns : List ℕ) (n : ℕ) → n ≡ 65535 → classArguments (actorAt ns n) ≡ end
-unfolding classArguments isClass
-none-class ns n e = rw (actor-none ns n e)
+pub written-is : (ns : List ℕ) {n : ℕ} (q : Row) → q ≡ rowAt ns n → (n ≡ 65535 → ⊥) → siblings ns n (n + q .size) ≡ actorAt ns n
+written-is ns {n} q is s = ap (λ (r : Row). siblings ns n (n + r .size)) is ∙ sym (actor-some ns n s)
 
 -- ---- the loop over services
 pub record ServiceCome (ns : List ℕ) (ds : List Definition) (root count : ℕ) (services : List ℕ) (v : Walk) (k : ℕ) : Type 0 where
@@ -146,14 +127,14 @@ module _ {ns roots : List ℕ} {definitions root count : ℕ} {services : List �
                 same = sym (ap (λ (g : Forest Node). chase f g (y .state)) (services-open ns services h long w is) ∙ chase-beside f kids (methodsIn ns (slice (k + 1) count services)) (y .state)) ∙ y .same;
               }
 
-module _ {ns roots : List ℕ} {definitions : ℕ} (t : Counted ns roots definitions) (a : Actor) where
-  pub actor-written : a .merged ≡ false → (r : Walk) → WalkedAs ns roots definitions (actorAt ns (a .root)) r → WalkedAs ns roots definitions (actorTree ns a) r
-  unfolding actorTree
+module _ {ns roots : List ℕ} {definitions : ℕ} (t : Counted ns roots definitions) (a : Interface) where
+  pub actor-written : a .merged ≡ false → (r : Walk) → WalkedAs ns roots definitions (actorAt ns (a .root)) r → WalkedAs ns roots definitions (interfaceTree ns a) r
+  unfolding interfaceTree
   actor-written m r h = rw m h
 
   pub actor-merged : a .merged ≡ true → {v : Walk} {k : ℕ} → ServicesLeft ns roots definitions (a .root) (a .count) (a .services) v k → a .count ≤ k →
-      WalkedAs ns roots definitions (actorTree ns a) v
-  unfolding actorTree chase chaseTypes
+      WalkedAs ns roots definitions (interfaceTree ns a) v
+  unfolding interfaceTree chase chaseTypes
   actor-merged m {v} {k} l h ds b =
       let c = l .come ds b in
       let f = visit (fuel ds) ds in
@@ -165,9 +146,8 @@ module _ {ns roots : List ℕ} {definitions : ℕ} (t : Counted ns roots definit
       over ∙ sym (merged-chase f main methods (going [] [])) in
       rw m (subst (λ (s : State). Holds ds 0 s v) all (c .holds))
 
--- What a book that passes gives.
-pub actor-in : {ns roots ends′ : List ℕ} {a : Actor} → ActorStored ns roots ends′ a → ActorIn ns roots a
-actor-in s = record { rooted = record { names = s .names; count = s .count; all = s .all; bound = s .bound }; nodes = s .actor }
+pub interface-root : {ns roots : List ℕ} {i : Interface} → InterfaceIn ns roots i → RootIn ns roots (i .root)
+interface-root s = record { rooted = s .rooted; node = s .nodes .root }
 
-pub actor-root : {ns roots : List ℕ} {a : Actor} → ActorIn ns roots a → RootIn ns roots (a .root)
-actor-root s = record { rooted = s .rooted; node = s .nodes .root }
+pub interface-arguments : {ns roots : List ℕ} {i : Interface} (s : InterfaceIn ns roots i) → i .merged ≡ true → Readable ns roots (i .from) (i .until)
+interface-arguments s m = record { rooted = s .rooted; whole = s .arguments m .whole; inside = s .arguments m .inside }

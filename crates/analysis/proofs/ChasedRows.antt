@@ -19,17 +19,16 @@ use Rattle.judgement.specs.Environment.{body, findType}
 use Rattle.judgement.specs.Check.{member}
 use Rattle.judgement.proofs.Lookup.{found-defined}
 use Rattle.environment.specs.Tables.{Binds, foundAt}
-use Rattle.environment.specs.Flags.{isSet}
+use Rattle.book.specs.Tables.{isSet}
 use Rattle.environment.proofs.Links.{in-table, found-none, found-some}
 use Rattle.listing.specs.Chase.{Walk as State, going, unbound, push, chase, visit}
-use Rattle.listing.proofs.Folds.{each}
+use Rattle.listing.proofs.Leaves.{each}
 use Rattle.analysis.specs.declared.chase.Walk.{Walk}
 use Rattle.analysis.specs.Book.{Readable}
 use Rattle.analysis.specs.Walking.{Goes, Holds, Started, fuel, ChasedAs, isNew, Scanned, NextNew, noList}
 use Rattle.analysis.proofs.BookNodes.{here-within, here-ends, here-small, here-readable, rowNames}
 use Rattle.analysis.proofs.Scanning.{new-kind, new-unset}
-use Rattle.analysis.proofs.Chasing.{chase-rows, each-stopped, visit-missing, visit-body, rows-none, rows-name, rows-skip}
-use Rattle.analysis.proofs.Chasing.{marked, extended, holds-goes, holds-stopped, goes-short, goes-enter, goes-list}
+use Rattle.analysis.proofs.Chasing.{chase-rows, each-stopped, visit-missing, visit-body, rows-none, rows-name, rows-skip, marked, extended, holds-goes, holds-stopped, goes-short, goes-enter, goes-list}
 
 -- The names of the rows from row i up to row e, crossing at most k names.
 abbrev pub through : List ℕ → List Definition → (k i e : ℕ) → State → State

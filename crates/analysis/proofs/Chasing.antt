@@ -24,12 +24,14 @@ use Rattle.format.proofs.Rows.{opens, siblings-opens, siblings-none}
 use Rattle.format.proofs.Stored.{tree-opens}
 use Rattle.judgement.specs.Environment.{missing, body, findType}
 use Rattle.judgement.specs.Check.{member}
-use Rattle.judgement.specs.WellFormed.{more, nameOf, Defined}
-use Rattle.judgement.proofs.Lookup.{pigeonhole, member-says}
-use Rattle.judgement.proofs.Steps.{clash}
+use Rattle.format.specs.Distinct.{more}
+use Rattle.judgement.specs.WellFormed.{definedName, Defined}
+use Rattle.format.proofs.Distinct.{pigeonhole}
+use Rattle.judgement.proofs.Lookup.{member-says}
+use Rattle.format.proofs.Logic.{clash}
 use Rattle.environment.specs.Tables.{Nodes}
 use Rattle.listing.specs.Chase.{Walk as State, going, unbound, push, chase, meetName, visit}
-use Rattle.listing.proofs.Folds.{each, Leafy, chase-each}
+use Rattle.listing.proofs.Leaves.{each, Leafy, chase-each}
 use Rattle.analysis.specs.declared.chase.Walk.{Walk}
 use Rattle.analysis.specs.Book.{Agrees, Rooted, Readable}
 use Rattle.analysis.specs.Walking.{Goes, Holds, isNew}
@@ -152,7 +154,7 @@ module _ (ds : List Definition) (entered : ℕ) where
   module _ {seen out : List ℕ} {w : Walk} (g : Goes ds entered seen out w) where
     -- Names seen are distinct and defined.
     pub goes-short : length seen ≤ length ds
-    goes-short = rw (length-map ds nameOf) at (pigeonhole (g .once) (map nameOf ds) (g .defined))
+    goes-short = rw (length-map ds definedName) at (pigeonhole (g .once) (map definedName ds) (g .defined))
 
 module _ {ds : List Definition} {entered : ℕ} {seen out : List ℕ} {w : Walk} (g : Goes ds entered seen out w) (n : ℕ) where
   pub goes-enter : n < 1024 → member n seen ≡ false → Defined ds n → Goes ds (entered + 1) (n ∷ seen) out (marked w n)

@@ -11,13 +11,13 @@ use native.Mathlib.Omega.{arith}
 use borrow.Author.Tests.{eq-eqb, ne-eqb}
 use lib.ListN.{length, take, getD, set, length-set, length-replicate}
 use lib.Seq.{take-suc-set}
-use Rattle.environment.specs.Flags.{isSet, flagged}
-use Rattle.listing.specs.Recursive.{ascending}
+use Rattle.book.specs.Tables.{isSet, flagged}
+use Rattle.listing.specs.Recursive.{sorted}
 use Rattle.analysis.specs.Book.{Agrees}
 use Rattle.analysis.specs.Handed.{noNames}
 
-pub flags-ascending : (flags l : List ℕ) → Agrees flags l → (n k : ℕ) → n + k ≤ 1024 → flagged flags n k ≡ ascending l n k
-unfolding flagged ascending
+pub flags-ascending : (flags l : List ℕ) → Agrees flags l → (n k : ℕ) → n + k ≤ 1024 → flagged flags n k ≡ sorted l n k
+unfolding flagged sorted
 flags-ascending flags l h n zero le = refl
 flags-ascending flags l h n (suc k) le = rw (h n (omega arith), flags-ascending flags l h (suc n) k (omega arith))
 

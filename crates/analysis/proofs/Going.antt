@@ -21,12 +21,12 @@ use Rattle.format.specs.References.{references}
 use Rattle.format.specs.Whole.{Within, treeAt}
 use Rattle.format.proofs.References.{everywhere, references-siblings}
 use Rattle.judgement.specs.Check.{member}
-use Rattle.environment.specs.Flags.{noFlags, isSet}
-use Rattle.typing.specs.Actors.{AllTrees}
+use Rattle.book.specs.Tables.{noFlags, isSet}
+use Rattle.environment.specs.Trees.{AllTrees}
 use Rattle.listing.specs.Recursive.{marking, unbound, note, noteName, go}
 use Rattle.listing.specs.Recursive as listing
-use Rattle.listing.proofs.Folds.{each}
-use Rattle.listing.proofs.Marked.{go-each}
+use Rattle.listing.proofs.Leaves.{each}
+use Rattle.listing.proofs.Recursive.{go-each}
 use Rattle.analysis.specs.declared.recursive.Marks.{Marks}
 use Rattle.analysis.specs.Book.{Agrees}
 use Rattle.analysis.specs.Marking.{MarksHold}

@@ -1,51 +1,19 @@
--- What a question needs of the walks: what a book that passes gives them, and what a walk that is over answers. Assumes nothing.
---     passes-counted, passes-actor          what `chase_types` and `chase_actor` ask
---     passes-tabled, passes-walked          what they say of the book's definitions and its actor
+-- What a walk that is over answers. Assumes nothing.
 --     hand-stopped                          the walk was stopped: the question is refused
 --     hand-given, hand-short, hand-wide     it was not: the question is answered by the names listed, for which there was room
-use mathlib.Core.Path.{_≡_, sym, ap, subst, _∙_}
+use mathlib.Core.Path.{_≡_, sym, ap, _∙_}
 use mathlib.Core.Bool.{true, false}
 use mathlib.Core.List.{List}
 use Prim.Native.Nat.{ℕ, _-_, _≤_}
 use native.Mathlib.Omega.{arith}
-use lib.ListN.{length, take, length-map}
-use Rattle.format.specs.Forest.{Forest}
-use Rattle.format.specs.Node.{Node}
-use Rattle.format.specs.Book.{Definition, Book}
-use Rattle.format.specs.Fits.{Fits}
-use Rattle.format.specs.Layout.{run, entryAt}
-use Rattle.format.specs.Whole.{definitionAt}
-use Rattle.format.proofs.Encoded.{fit-parts}
-use Rattle.format.proofs.Lists.{run-length}
-use Rattle.book.specs.declared.refusal.Refusal as refusal
-use Rattle.judgement.specs.Environment.{mainDefinitions}
-use Rattle.judgement.specs.Actor.{resolveActor}
-use Rattle.typing.specs.declared.check.Checked.{Checked}
-use Rattle.typing.specs.Actors.{Tabled, actorTree}
-use Rattle.typing.specs.Checking.{Passes}
-use Rattle.listing.specs.Chase.{Walk as State, chaseTypes}
-use Rattle.listing.specs.Questions.{refused, given, walked}
+use lib.ListN.{length, take}
+use Rattle.format.specs.Book.{Definition}
+use Rattle.refusals.specs.declared.Refusal as refusal
+use Rattle.listing.specs.Chase.{Walk as State, walked}
+use Rattle.refusals.specs.Outcome.{refused, given}
 use Rattle.analysis.specs.declared.chase.Walk.{Walk}
-use Rattle.analysis.specs.Walking.{Holds, Counted, WalkedAs, ActorIn}
+use Rattle.analysis.specs.Walking.{Holds}
 use Rattle.analysis.proofs.Chasing.{holds-goes, holds-stopped, goes-short}
-use Rattle.analysis.proofs.ChasedActor.{actor-in}
-
--- ---- A book that passes
-module _ {rows entries : List ℕ} {b : Book} {r : Checked} (p : Passes rows entries b r) where
-  pub passes-tabled : Tabled rows (r .roots) (r .main) (mainDefinitions b)
-  passes-tabled = (
-    p .checked .env .binds,
-    ap length (p .definitions) ∙ length-map (run (entryAt entries) 0 (r .main - 0)) (definitionAt rows) ∙ run-length (entryAt entries) 0 (r .main - 0) ∙ omega arith,
-  )
-
-  pub passes-counted : Fits b → Counted rows (r .roots) (r .main)
-  passes-counted f = record { ds = mainDefinitions b; tabled = passes-tabled; few = omega (arith, p .within, fit-parts f .fewDefinitions) }
-
-  pub passes-actor : ActorIn rows (r .roots) (r .actor)
-  passes-actor = actor-in (p .stored)
-
-  pub passes-walked : (w : Walk) → WalkedAs rows (r .roots) (r .main) (actorTree rows (r .actor)) w → Holds (mainDefinitions b) 0 (chaseTypes (mainDefinitions b) (resolveActor b)) w
-  passes-walked w h = subst (λ (t : Forest Node). Holds (mainDefinitions b) 0 (chaseTypes (mainDefinitions b) t) w) (p .actor) (h (mainDefinitions b) passes-tabled)
 
 -- ---- A walk that is over
 

@@ -18,13 +18,13 @@ use Rattle.format.specs.References.{references}
 use Rattle.format.specs.Whole.{treeAt}
 use Rattle.judgement.specs.Environment.{Found, missing, body, findType}
 use Rattle.judgement.specs.Check.{member}
-use Rattle.judgement.proofs.Steps.{clash}
-use Rattle.environment.specs.Flags.{noFlags, isSet}
+use Rattle.format.proofs.Logic.{clash}
+use Rattle.book.specs.Tables.{noFlags, isSet}
 use Rattle.environment.specs.Tables.{foundAt, Binds}
 use Rattle.environment.proofs.Links.{found-none, found-some}
 use Rattle.listing.specs.Recursive.{marking, unbound, note, noteName, see, listed, inferFrom, inferRec}
 use Rattle.listing.specs.Recursive as listing
-use Rattle.listing.proofs.Folds.{each}
+use Rattle.listing.proofs.Leaves.{each}
 use Rattle.analysis.specs.declared.recursive.Marks.{Marks}
 use Rattle.analysis.specs.Book.{Rooted}
 use Rattle.analysis.specs.Marking.{Flagged, MarksHold}

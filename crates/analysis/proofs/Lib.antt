@@ -1,7 +1,6 @@
 -- Laws that the proofs of the functions cite, and those that callers do: Handed (`handed-refused`), Handing and Marked (what an answer is,
 -- by what the code found), Flagged (`flags-ascending`), ReachRows (`near-reachable`), ReachOwners (`admitted-defining`), Interfaces
 -- (`offering`), SitedEntries (`uses-answer`, `puts-all`), Projecting (`interface-services`).
-pub mod Handed
 pub mod Flagged
 pub mod Going
 pub mod Inferring
@@ -17,8 +16,6 @@ pub mod ReachRows
 pub mod ReachOwners
 pub mod ReachLinks
 pub mod ReachWork
-pub mod ChainEnds
-pub mod Interfaces
 pub mod SitedEntries
 pub mod SitedTrees
 pub mod SitedMethods

@@ -4,12 +4,13 @@ use mathlib.Core.Bool.{true, false}
 use Prim.Native.Nat.{ℕ, _≤_}
 use native.Mathlib.Omega.{arith}
 use lib.ListN.{length}
-use Rattle.book.specs.declared.refusal.Refusal.the-variants.{Unbound}
-use Rattle.judgement.proofs.Steps.{clash}
-use Rattle.environment.specs.Flags.{flagged}
+use Rattle.refusals.specs.declared.Refusal.the-variants.{Unbound}
+use Rattle.format.proofs.Logic.{clash}
+use Rattle.book.specs.Tables.{flagged}
 use Rattle.listing.specs.Recursive.{marking, unbound}
 use Rattle.listing.specs.Recursive as listing
-use Rattle.listing.specs.Questions.{refused, given, marked}
+use Rattle.refusals.specs.Outcome.{refused, given}
+use Rattle.listing.specs.Marks.{marked}
 use Rattle.analysis.specs.declared.recursive.Marks.{Marks}
 use Rattle.analysis.specs.Marking.{MarksHold}
 use Rattle.analysis.proofs.Flagged.{flags-ascending}

@@ -23,25 +23,24 @@ use Rattle.format.specs.Layout.{rowAt, siblings, nodeOf}
 use Rattle.format.specs.Whole.{Within}
 use Rattle.format.proofs.Trees.{beside-end, beside-assoc}
 use Rattle.format.proofs.Rows.{siblings-none, siblings-opens}
-use Rattle.book.specs.declared.refusal.Refusal.the-variants.{Absent, Short}
+use Rattle.refusals.specs.declared.Refusal.the-variants.{Absent, Short}
 use Rattle.judgement.specs.Environment.{aliasEnd, methodsAt}
 use Rattle.judgement.specs.Actor.{belowClass}
 use Rattle.judgement.specs.Check.{member}
-use Rattle.environment.specs.Tables.{blankTable}
-use Rattle.typing.specs.Walk.{Methods}
-use Rattle.typing.specs.Actors.{AllTrees, methodsIn}
-use Rattle.typing.proofs.Walk.{opened, ends-inside, one-at-least, row-within, method-label, rest-methods, kids-methods}
-use Rattle.listing.specs.Project.{without, Projection, take′, projectFrom}
-use Rattle.listing.specs.Questions.{given, projected}
-use Rattle.analysis.specs.Projecting.{Asking, outcomeOf, LowestAs, placeAt, placeAll, Way, Come, comesTo, Projects, Room, MethodTaken, MethodsTaken, Services, ProjectedAs, AllProjected}
-use Rattle.analysis.specs.declared.interface.Interface.{Interface}
-use Rattle.analysis.specs.declared.hand.Answer.{Answer}
-use Rattle.analysis.specs.declared.hand.Answer.the-variants.{Given, Refused}
-use Rattle.analysis.specs.Handed.{HandedAs}
-use Rattle.analysis.specs.Interfaces.{InterfaceAs}
+use Rattle.book.specs.Tables.{blankTable}
+use Rattle.environment.specs.Trees.{Methods, AllTrees}
+use Rattle.syntax.specs.Interfaces.{methodsIn, InterfaceAs}
+use Rattle.environment.proofs.Trees.{opened, ends-inside, one-at-least, row-within, method-label, rest-methods, kids-methods}
+use Rattle.listing.specs.Project.{without, Projection, take′, projectFrom, projected}
+use Rattle.refusals.specs.Outcome.{given}
+use Rattle.analysis.specs.Projecting.{Asking, outcomeOf, LowestAs, placeAt, placeAll, Underway, Come, comesTo, Projects, Room, MethodTaken, MethodsTaken, Services, ProjectedAs, AllProjected}
+use Rattle.syntax.specs.declared.interface.Interface.{Interface}
+use Rattle.refusals.specs.declared.Answer.{Answer}
+use Rattle.refusals.specs.declared.Answer.the-variants.{Given, Refused}
+use Rattle.refusals.specs.Handed.{HandedAs}
 use Rattle.analysis.proofs.Asking.{member-none, member-some, asking-shrunk, same-counts, less-counts}
 use Rattle.analysis.proofs.BookNodes.{untabled, here-within, here-trees, here-some, services-over, services-open}
-use Rattle.analysis.proofs.Handed.{handed-refused, handed-short, handed-long}
+use Rattle.refusals.proofs.Handed.{handed-refused, handed-short, handed-long}
 
 -- ---- Places
 pub place-in : (places k x : ℕ) (old : List ℕ) → k < places → set old k x ≡ placeAt places k x old
@@ -103,7 +102,7 @@ unfolding beside
 besides n kids next g = refl
 
 -- ---- One method
-module _ {places n : ℕ} (v : Way) (r : Room places 1 v) (h : n < 1024) where
+module _ {places n : ℕ} (v : Underway) (r : Room places 1 v) (h : n < 1024) where
   pub method-left : getD (v .left) n 0 ≡ 0 → MethodTaken places n v (v .left) (v .out) (v .taken)
   method-left e =
       record {
@@ -128,7 +127,7 @@ module _ {places n : ℕ} (v : Way) (r : Room places 1 v) (h : n < 1024) where
       }
 
 -- what it comes to with that method, and with those after it
-project-step : (places : ℕ) (v : Way) (n : Node) (kids next : Forest Node) (l left : List ℕ) (name : ℕ) → labelValue (n .label) ≡ name →
+project-step : (places : ℕ) (v : Underway) (n : Node) (kids next : Forest Node) (l left : List ℕ) (name : ℕ) → labelValue (n .label) ≡ name →
     {out : List ℕ} {taken : ℕ} → taken ≡ cond (member name l) (v .taken + 1) (v .taken) → out ≡ cond (member name l) (placeAt places (v .taken) (v .at) (v .out)) (v .out) →
     comesTo places (record { at = v .at + 1; taken = taken; left = left; out = out }) (projectFrom (v .at + 1) next (cond (member name l) (without name l) l))
     ≡ comesTo places v (projectFrom (v .at) (tree n kids next) l)
@@ -145,7 +144,7 @@ project-step places v n kids next l left name e {out} {taken} t o =
     go false p = refl
 
 -- ---- The methods of a service: from node i on what is left comes to the same
-pub record MethodsLeft (ns : List ℕ) (places from until : ℕ) (v : Way) (i : ℕ) (w : Way) : Type 0 where
+pub record MethodsLeft (ns : List ℕ) (places from until : ℕ) (v : Underway) (i : ℕ) (w : Underway) : Type 0 where
   pub roots : List ℕ
   pub ends′ : List ℕ
   pub methods : Methods ns roots ends′ i until
@@ -156,7 +155,7 @@ pub record MethodsLeft (ns : List ℕ) (places from until : ℕ) (v : Way) (i : 
   pub held : length (w .out) ≡ length (v .out)
   pub goes : Projects places (siblings ns i until) w (siblings ns from until) v
 
-pub methods-start : {ns roots ends′ : List ℕ} {places from until : ℕ} {v : Way} → Methods ns roots ends′ from until → Room places (until - from) v → MethodsLeft ns places from until v from v
+pub methods-start : {ns roots ends′ : List ℕ} {places from until : ℕ} {v : Underway} → Methods ns roots ends′ from until → Room places (until - from) v → MethodsLeft ns places from until v from v
 methods-start {roots = roots} {ends′ = ends′} m r =
     record {
       roots = roots;
@@ -170,7 +169,7 @@ methods-start {roots = roots} {ends′ = ends′} m r =
       goes = λ far l a. record { names = l; asking = a; same = λ g. refl };
     }
 
-module _ {ns : List ℕ} {places from until : ℕ} {v : Way} {i : ℕ} {w : Way} (x : MethodsLeft ns places from until v i w) where
+module _ {ns : List ℕ} {places from until : ℕ} {v : Underway} {i : ℕ} {w : Underway} (x : MethodsLeft ns places from until v i w) where
   pub methods-end : length (v .left) ≡ 1024 → until ≤ i → MethodsTaken places (until - from) (siblings ns from until) v w
   methods-end e h =
       record {
@@ -221,7 +220,7 @@ module _ {ns : List ℕ} {places from until : ℕ} {v : Way} {i : ℕ} {w : Way}
                 };
           }
         where
-          way : Way
+          way : Underway
           way = record { at = w .at + 1; taken = taken; left = left; out = out }
 
           name-is : labelValue (nodeOf (rowAt ns i) .label) ≡ r .label
@@ -231,7 +230,7 @@ module _ {ns : List ℕ} {places from until : ℕ} {v : Way} {i : ℕ} {w : Way}
           opens-before g = sym (ap (λ (f : Forest Node). beside f g) (siblings-opens (opened (x .methods .trees) h)) ∙ besides (nodeOf (rowAt ns i)) (siblings ns (i + 1) (i + rowAt ns i .size)) (siblings ns (i + rowAt ns i .size) until) g)
 
 -- ---- The services: from service k on what is left comes to the same
-pub record ServicesLeft (ns services : List ℕ) (count places : ℕ) (v : Way) (k : ℕ) (w : Way) : Type 0 where
+pub record ServicesLeft (ns services : List ℕ) (count places : ℕ) (v : Underway) (k : ℕ) (w : Underway) : Type 0 where
   pub passed : k ≤ count
   pub near : w .at ≤ k * 4096
   pub fewer : w .taken ≤ w .at
@@ -239,7 +238,7 @@ pub record ServicesLeft (ns services : List ℕ) (count places : ℕ) (v : Way) 
   pub held : length (w .out) ≡ length (v .out)
   pub goes : Projects places (methodsIn ns (slice k count services)) w (methodsIn ns (take count services)) v
 
-abbrev pub outset : List ℕ → List ℕ → Way
+abbrev pub outset : List ℕ → List ℕ → Underway
 outset left out = record { at = 0; taken = 0; left = left; out = out }
 
 pub services-start : (ns services : List ℕ) (count places : ℕ) (left out : List ℕ) → length left ≡ 1024 → ServicesLeft ns services count places (outset left out) 0 (outset left out)
@@ -253,7 +252,7 @@ services-start ns services count places left out e =
       goes = λ far l a. record { names = l; asking = a; same = λ g. refl };
     }
 
-module _ {ns services : List ℕ} {count places : ℕ} {v : Way} {k : ℕ} {w : Way} (x : ServicesLeft ns services count places v k w) (y : Services ns services count) where
+module _ {ns services : List ℕ} {count places : ℕ} {v : Underway} {k : ℕ} {w : Underway} (x : ServicesLeft ns services count places v k w) (y : Services ns services count) where
   module _ (h : k < count) where
     abbrev node : ℕ
     node = getD services k 0
@@ -276,7 +275,7 @@ module _ {ns services : List ℕ} {count places : ℕ} {v : Way} {k : ℕ} {w : 
       pub service-room : places ≤ length (v .out) → Room places (node + r .size - (node + 1)) w
       service-room q = record { few = omega (arith, service-ends, x .near, y .few); fewer = x .fewer; names = x .names; held = omega (arith, x .held) }
 
-      pub services-on : {w′ : Way} →
+      pub services-on : {w′ : Underway} →
           MethodsTaken places (node + r .size - (node + 1)) (siblings ns (node + 1) (node + r .size)) w w′ → ServicesLeft ns services count places v (k + 1) w′
       unfolding beside
       services-on {w′} t =
@@ -300,7 +299,7 @@ module _ {ns services : List ℕ} {count places : ℕ} {v : Way} {k : ℕ} {w : 
                 };
           }
 
-services-is : {ns services : List ℕ} {count places : ℕ} {left out : List ℕ} {k : ℕ} {w : Way} → ServicesLeft ns services count places (outset left out) k w → count ≤ k →
+services-is : {ns services : List ℕ} {count places : ℕ} {left out : List ℕ} {k : ℕ} {w : Underway} → ServicesLeft ns services count places (outset left out) k w → count ≤ k →
     (far : ℕ) (l : List ℕ) → Asking left far l → ProjectedAs places (methodsIn ns (take count services)) far l out (w .left) (w .out) (w .taken)
 unfolding comesTo projectFrom placeAll beside
 services-is {ns} {services} {count} {places} {left} {out} {k} {w} x h far l a =
@@ -315,7 +314,7 @@ services-is {ns} {services} {count} {places} {left} {out} {k} {w} x h far l a =
       written = ap (λ (c : Come). c .out) same;
     }
 
-pub services-end : {ns services : List ℕ} {count places : ℕ} {left out : List ℕ} {k : ℕ} {w : Way} → ServicesLeft ns services count places (outset left out) k w → Services ns services count → count ≤ k →
+pub services-end : {ns services : List ℕ} {count places : ℕ} {left out : List ℕ} {k : ℕ} {w : Underway} → ServicesLeft ns services count places (outset left out) k w → Services ns services count → count ≤ k →
     AllProjected places (methodsIn ns (take count services)) left out (w .left) (w .out) (w .taken)
 services-end x y h = record { few = omega (arith, x .near, x .fewer, x .passed, y .few); kept = x .names; held = x .held; is = services-is x h }
 

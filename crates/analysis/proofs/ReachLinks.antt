@@ -10,8 +10,8 @@ use Rattle.format.specs.Encode.{Row}
 use Rattle.format.specs.Layout.{rowAt}
 use Rattle.format.proofs.References.{everywhere}
 use Rattle.environment.specs.Tables.{Nodes}
-use Rattle.environment.specs.Merging.{zeroTable}
-use Rattle.environment.proofs.Hashes.{zero-length}
+use Rattle.book.specs.Tables.{zeroTable}
+use Rattle.book.proofs.Blank.{zero-length}
 use Rattle.analysis.specs.Reaching.{IsName, noRows, LastName, LinksAs}
 use Rattle.analysis.proofs.ReachNear.{name-small}
 use Rattle.analysis.proofs.ReachOwners.{rows-length}

@@ -20,7 +20,7 @@ use Rattle.format.proofs.References.{everywhere}
 use Rattle.format.proofs.Stored.{tree-count}
 use Rattle.format.proofs.Encoded.{definitions-run}
 use Rattle.format.proofs.Admitted.{admitted-parts, definitions-body, definition-stored}
-use Rattle.typing.proofs.Split.{nodes-known, entries-known}
+use Rattle.syntax.proofs.Book.{nodes-known, entries-known}
 use Rattle.analysis.specs.Reaching.{Apart, Defining, OwnedBy, OwnersAs, noRows}
 
 pub rows-length : length noRows ≡ 4096

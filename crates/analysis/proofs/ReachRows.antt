@@ -22,9 +22,9 @@ use Rattle.format.specs.References.{references}
 use Rattle.format.specs.Whole.{definitionAt}
 use Rattle.format.proofs.References.{varsOf, references-siblings}
 use Rattle.environment.specs.Tables.{Nodes, definitionsIn}
-use Rattle.listing.specs.References.{Refers, Reachable, direct, onward, Way, last, step}
-use Rattle.listing.proofs.Chased.{way-snoc}
-use Rattle.analysis.specs.Reaching.{Reaches, ReachAs, IsName, NearAs, OwnedBy}
+use Rattle.listing.specs.References.{Refers, Reachable, direct, onward, Way, last, step, Reaches}
+use Rattle.listing.proofs.Chases.{way-snoc}
+use Rattle.analysis.specs.Reaching.{ReachAs, IsName, NearAs, OwnedBy}
 use Rattle.analysis.proofs.ReachNear.{name-small, HitBetween, near-says}
 
 -- ---- Runs

@@ -14,11 +14,10 @@ use Rattle.format.specs.Book.{Definition}
 use Rattle.format.proofs.Logic.{eq-says}
 use Rattle.format.proofs.References.{everywhere}
 use Rattle.environment.specs.Tables.{definitionsIn}
-use Rattle.environment.specs.Merging.{zeroTable}
-use Rattle.environment.specs.Flags.{noFlags}
-use Rattle.environment.proofs.Hashes.{zero-length}
-use Rattle.listing.specs.References.{Refers, Way, last, step}
-use Rattle.analysis.specs.Reaching.{Reaches, ReachAs, IsName, Defining, OwnedBy, OwnersAs, LastName, LinksAs}
+use Rattle.book.specs.Tables.{zeroTable, noFlags}
+use Rattle.book.proofs.Blank.{zero-length}
+use Rattle.listing.specs.References.{Refers, Way, last, step, Reaches}
+use Rattle.analysis.specs.Reaching.{ReachAs, IsName, Defining, OwnedBy, OwnersAs, LastName, LinksAs}
 use Rattle.analysis.proofs.ReachRows.{refers-rows}
 use Rattle.analysis.proofs.ReachOwners.{owned-inside, owned-small}
 

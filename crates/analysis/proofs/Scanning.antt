@@ -12,8 +12,8 @@ use Rattle.format.specs.Encode.{Row}
 use Rattle.format.specs.Layout.{rowAt}
 use Rattle.format.specs.Whole.{Within}
 use Rattle.format.proofs.Rows.{node-within}
-use Rattle.judgement.proofs.Steps.{clash}
-use Rattle.environment.specs.Flags.{isSet}
+use Rattle.format.proofs.Logic.{clash}
+use Rattle.book.specs.Tables.{isSet}
 use Rattle.analysis.specs.Walking.{isNew, Scanned, NextNew}
 
 -- ---- one node

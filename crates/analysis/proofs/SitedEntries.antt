@@ -14,17 +14,18 @@ use borrow.Author.Tests.{lt-ltb, le-ltb}
 use lib.Dec.{ltb}
 use lib.ListN.{length, set, drop, length-append}
 use lib.Seq.{sets, length-sets, sets-eq}
-use Rattle.format.specs.Encode.{flat}
+use Rattle.refusals.specs.Lists.{flat}
 use Rattle.format.specs.Forest.{Forest}
 use Rattle.format.specs.Node.{Node}
 use Rattle.format.specs.Book.{Definition}
 use Rattle.judgement.specs.Environment.{aliasEnd, methodsAt}
 use Rattle.judgement.specs.Actor.{classArguments, belowClass}
 use Rattle.listing.specs.Chase.{chaseTypes}
-use Rattle.listing.specs.Uses.{Use, Site, classSites, methodSites, typeOf, sites, isListed, usesOf}
-use Rattle.listing.specs.Offers.{kept, entryOf}
-use Rattle.listing.proofs.Used.{uses-kept}
-use Rattle.analysis.specs.Entries.{Test, usesBy, numbers, put, putAll, Puts}
+use Rattle.refusals.specs.Handed.{Use, numbers}
+use Rattle.listing.specs.Sites.{Site, classSites, methodSites, typeOf, sites}
+use Rattle.listing.specs.Uses.{isListed, usesOf, kept, entryOf}
+use Rattle.listing.proofs.Uses.{uses-kept}
+use Rattle.analysis.specs.Entries.{Test, usesBy, put, putAll, Puts}
 
 -- ---- One entry
 pub put-in : (places k : ℕ) (e : Use) (old : List ℕ) → k < places → put places k e old ≡ sets old (3 * k) (numbers e)

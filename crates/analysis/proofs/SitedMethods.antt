@@ -23,15 +23,16 @@ use Rattle.format.proofs.References.{kind-alone}
 use Rattle.format.proofs.Rows.{Opened, opens, kids-whole, node-within, siblings-none, siblings-opens, count-siblings}
 use Rattle.format.proofs.Stored.{tree-opens}
 use Rattle.judgement.specs.Environment.{End, unbound, circle, ends, aliasEnd}
-use Rattle.environment.specs.Tables.{EndAt, Ended}
-use Rattle.typing.specs.Actors.{methodsIn}
-use Rattle.typing.proofs.Classes.{siblings-join}
-use Rattle.listing.specs.Uses.{Use, Site, classSites, funcSites, kindSites, endSites, methodSites}
+use Rattle.environment.specs.Tables.{EndAt, Ended, endNode}
+use Rattle.syntax.specs.Interfaces.{methodsIn}
+use Rattle.syntax.proofs.Stored.{siblings-join}
+use Rattle.refusals.specs.Handed.{Use}
+use Rattle.listing.specs.Sites.{Site, classSites, funcSites, kindSites, endSites, methodSites}
 use Rattle.listing.specs.Offers.{firstTrees, functionSites, indexed}
 use Rattle.listing.proofs.Sites.{class-indexed, function-indexed}
-use Rattle.analysis.specs.Entries.{Test, usesBy, Puts, AtMost, HitsIn, SkipsTo, endNode, Known, Offered}
+use Rattle.analysis.specs.Entries.{Test, usesBy, Puts, AtMost, HitsIn, SkipsTo, Known, Offered}
 use Rattle.analysis.proofs.BookNodes.{services-over, services-open}
-use Rattle.analysis.proofs.ChainEnds.{served-until, served-at, end-at, end-inside}
+use Rattle.environment.proofs.ChainEnds.{served-until, served-at, end-at, end-inside}
 use Rattle.analysis.proofs.SitedEntries.{puts-none, puts-then, Leads, leads-start, leads-on, leads-end, uses-none, uses-append}
 
 -- ---- Parts

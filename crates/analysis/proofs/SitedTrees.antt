@@ -15,8 +15,8 @@ use Rattle.format.specs.Whole.{Within, Whole, treeAt}
 use Rattle.format.proofs.Trees.{breadth-beside}
 use Rattle.format.proofs.Rows.{Opened, opens, node-within, nothing, siblings-none, siblings-opens}
 use Rattle.format.proofs.Stored.{tree-whole, tree-opens}
-use Rattle.typing.proofs.Classes.{whole-join, siblings-join}
-use Rattle.listing.specs.Uses.{Use}
+use Rattle.syntax.proofs.Stored.{whole-join, siblings-join}
+use Rattle.refusals.specs.Handed.{Use}
 use Rattle.listing.specs.Offers.{site, indexed}
 use Rattle.analysis.specs.Entries.{Test, usesBy, put, putAll, Puts, AtMost, hit, HitsIn, SkipsTo}
 use Rattle.analysis.proofs.SitedEntries.{put-length, puts-none, Leads, leads-start, leads-on, leads-end, oneUse, uses-one, uses-none}

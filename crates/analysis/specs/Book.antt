@@ -5,8 +5,8 @@ use Prim.Native.Nat.{ℕ, _≤_, _<_}
 use Rattle.format.specs.Whole.{Whole}
 use Rattle.judgement.specs.Check.{member}
 use Rattle.environment.specs.Tables.{Roots}
-use Rattle.environment.specs.Flags.{isSet}
-use Rattle.typing.specs.Actors.{AllTrees}
+use Rattle.book.specs.Tables.{isSet}
+use Rattle.environment.specs.Trees.{AllTrees}
 
 -- All nodes of a book, and a table of roots.
 pub record Rooted (ns roots : List ℕ) : Type 0 where

@@ -7,7 +7,7 @@ use mathlib.Core.Path.{_≡_}
 use mathlib.Core.Bool.{Bool, cond}
 use mathlib.Core.List.{List, [], _∷_, map}
 use Prim.Native.Nat.{ℕ, suc, _+_, _*_, _≤_, _<_}
-use lib.Dec.{eqb, ltb}
+use lib.Dec.{ltb}
 use lib.ListN.{length, getD}
 use lib.Seq.{sets}
 use Rattle.format.specs.Forest.{Forest, breadth}
@@ -16,8 +16,9 @@ use Rattle.format.specs.Book.{Definition}
 use Rattle.format.specs.Layout.{rowAt, siblings}
 use Rattle.format.specs.Whole.{Whole, treeAt}
 use Rattle.environment.specs.Tables.{Nodes, EndNodes, Chains}
-use Rattle.listing.specs.Uses.{Use, Site}
-use Rattle.listing.specs.Offers.{kept, entryOf}
+use Rattle.refusals.specs.Handed.{Use, numbers}
+use Rattle.listing.specs.Sites.{Site}
+use Rattle.listing.specs.Uses.{kept, entryOf}
 
 -- ---- Which entries
 
@@ -30,10 +31,6 @@ unfoldable pub usesBy : Test → List Site → List Use
 usesBy used ss = map entryOf (kept (λ (s : Site). used (s .type)) ss)
 
 -- ---- Entries in a lent slice
-
--- The three numbers of an entry.
-unfoldable pub numbers : Use → List ℕ
-numbers e = e .method ∷ e .result ∷ e .index ∷ []
 
 -- Entry k, where there are places for more than k entries; else nothing changes.
 unfoldable pub put : (places k : ℕ) → Use → List ℕ → List ℕ
@@ -73,10 +70,6 @@ pub record SkipsTo (ns : List ℕ) (from until count at : ℕ) : Type 0 where
   pub enough : at < until → breadth (siblings ns from at) ≡ count
 
 -- ---- Methods
-
--- Where the chain from a node ends, by a table of alias ends; 65,535 for none.
-unfoldable pub endNode : List ℕ → List ℕ → ℕ → ℕ
-endNode ns ends′ node = cond (eqb (rowAt ns node .kind) 18) (getD ends′ (rowAt ns node .value) 65535) node
 
 -- What is known of a book: its table of alias ends is that of the definitions, and the test says what the numbers say.
 pub record Known (ns ends′ near : List ℕ) (names nodes : ℕ) (ds : List Definition) (used : Test) : Type 0 where

@@ -4,6 +4,5 @@ pub mod Handed
 pub mod Walking
 pub mod Marking
 pub mod Reaching
-pub mod Interfaces
 pub mod Entries
 pub mod Projecting

@@ -7,12 +7,12 @@ use lib.Dec.{eqb, ltb}
 use lib.ListN.{length, getD, set}
 use Rattle.format.specs.Forest.{Forest, end, beside}
 use Rattle.format.specs.Node.{Node}
-use Rattle.book.specs.declared.refusal.Refusal as refusal
+use Rattle.refusals.specs.declared.Refusal as refusal
 use Rattle.judgement.specs.Check.{member}
-use Rattle.typing.specs.Actors.{AllTrees, IsService}
-use Rattle.listing.specs.Offers.{times}
-use Rattle.listing.specs.Project.{without, Projection, projectFrom}
-use Rattle.listing.specs.Questions.{Outcome, refused, given, leftOver}
+use Rattle.environment.specs.Trees.{AllTrees}
+use Rattle.syntax.specs.Interfaces.{IsService}
+use Rattle.listing.specs.Project.{times, without, Projection, projectFrom, leftOver}
+use Rattle.refusals.specs.Outcome.{Outcome, refused, given}
 
 -- ---- The names still asked for
 
@@ -50,7 +50,7 @@ placeAll places k [] old = old
 placeAll places k (x ∷ l) old = placeAll places (suc k) l (placeAt places k x old)
 
 -- ---- Projection on its way: the next position, the positions taken so far, the names left and the places
-pub record Way : Type 0 where
+pub record Underway : Type 0 where
   pub at : ℕ
   pub taken : ℕ
   pub left : List ℕ
@@ -62,27 +62,27 @@ pub record Come : Type 0 where
   pub out : List ℕ
   pub left : List ℕ
 
-unfoldable pub comesTo : ℕ → Way → Projection → Come
+unfoldable pub comesTo : ℕ → Underway → Projection → Come
 comesTo places w p = record { taken = w .taken + length (p .taken); out = placeAll places (w .taken) (p .taken) (w .out); left = p .left }
 
 -- From w with the methods f it comes to the same as from v with the methods e, whatever methods follow: l are the names left at v.
-pub record Same (places far : ℕ) (f : Forest Node) (w : Way) (e : Forest Node) (v : Way) (l : List ℕ) : Type 0 where
+pub record Same (places far : ℕ) (f : Forest Node) (w : Underway) (e : Forest Node) (v : Underway) (l : List ℕ) : Type 0 where
   pub names : List ℕ
   pub asking : Asking (w .left) far names
   pub same : (g : Forest Node) → comesTo places w (projectFrom (w .at) (beside f g) names) ≡ comesTo places v (projectFrom (v .at) (beside e g) l)
 
-abbrev pub Projects : ℕ → Forest Node → Way → Forest Node → Way → Type 0
+abbrev pub Projects : ℕ → Forest Node → Underway → Forest Node → Underway → Type 0
 Projects places f w e v = (far : ℕ) (l : List ℕ) → Asking (v .left) far l → Same places far f w e v l
 
 -- The room that a walk over so many nodes asks for: positions are below 65,536.
-pub record Room (places nodes : ℕ) (w : Way) : Type 0 where
+pub record Room (places nodes : ℕ) (w : Underway) : Type 0 where
   pub few : w .at + nodes ≤ 65536
   pub fewer : w .taken ≤ w .at
   pub names : length (w .left) ≡ 1024
   pub held : places ≤ length (w .out)
 
 -- The method at a position, with name n.
-pub record MethodTaken (places n : ℕ) (v : Way) (left out : List ℕ) (taken : ℕ) : Type 0 where
+pub record MethodTaken (places n : ℕ) (v : Underway) (left out : List ℕ) (taken : ℕ) : Type 0 where
   pub more : taken ≤ v .taken + 1
   pub kept : length left ≡ length (v .left)
   pub held : length out ≡ length (v .out)
@@ -91,7 +91,7 @@ pub record MethodTaken (places n : ℕ) (v : Way) (left out : List ℕ) (taken :
   pub placed : (far : ℕ) (l : List ℕ) → Asking (v .left) far l → out ≡ cond (member n l) (placeAt places (v .taken) (v .at) (v .out)) (v .out)
 
 -- From v to w over the methods f, which have so many nodes.
-pub record MethodsTaken (places nodes : ℕ) (f : Forest Node) (v w : Way) : Type 0 where
+pub record MethodsTaken (places nodes : ℕ) (f : Forest Node) (v w : Underway) : Type 0 where
   pub near : w .at ≤ v .at + nodes
   pub fewer : w .taken ≤ w .at
   pub kept : length (w .left) ≡ length (v .left)

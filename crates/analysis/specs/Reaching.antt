@@ -8,14 +8,10 @@ use lib.ListN.{length, getD, replicate}
 use Rattle.format.specs.Book.{Definition}
 use Rattle.format.specs.Layout.{rowAt, entryAt}
 use Rattle.environment.specs.Tables.{Nodes, Entries}
-use Rattle.environment.specs.Flags.{isSet}
-use Rattle.listing.specs.References.{Way}
+use Rattle.book.specs.Tables.{isSet}
+use Rattle.listing.specs.References.{Reaches}
 
 -- ---- What is answered
-
--- By one reference or more from m to n.
-abbrev pub Reaches : List Definition → ℕ → ℕ → Type 0
-Reaches ds m n = (l : List ℕ) × Way ds m l n
 
 -- A flag for each name: set where the wanted name is it or is reached from it.
 pub record ReachAs (ds : List Definition) (wanted : ℕ) (flags : List ℕ) : Type 0 where

@@ -9,14 +9,17 @@ use Rattle.format.specs.Forest.{Forest}
 use Rattle.format.specs.Node.{Node}
 use Rattle.format.specs.Book.{Definition}
 use Rattle.format.specs.Layout.{rowAt, siblings}
-use Rattle.judgement.specs.WellFormed.{Distinct, Defined}
-use Rattle.environment.specs.Tables.{Nodes, Binds}
-use Rattle.environment.specs.Flags.{noFlags, isSet}
-use Rattle.typing.specs.declared.actor.Actor.{Actor}
-use Rattle.typing.specs.Actors.{Tabled, ActorNodes}
+use Rattle.format.specs.Distinct.{Distinct}
+use Rattle.judgement.specs.WellFormed.{Defined}
+use Rattle.environment.specs.Tables.{Nodes, Binds, Tabled}
+use Rattle.book.specs.Tables.{noFlags, isSet}
+use Rattle.syntax.specs.declared.interface.Interface.{Interface}
+use Rattle.syntax.specs.Interfaces.{InterfaceNodes}
+use Rattle.syntax.specs.Classes.{ArgumentsAs}
 use Rattle.listing.specs.Chase.{Walk as State, going, unbound, chase, visit, chaseTypes}
 use Rattle.analysis.specs.declared.chase.Walk.{Walk}
 use Rattle.analysis.specs.Book.{Agrees, Rooted}
+use Rattle.format.specs.Whole.{actorAt}
 
 -- ---- The walk
 
@@ -94,11 +97,12 @@ nothingMet = record { seen = noFlags; list = noList; len = 0; stopped = false; b
 abbrev pub WalkedAs : (ns roots : List ℕ) (definitions : ℕ) (start : Forest Node) (r : Walk) → Type 0
 WalkedAs ns roots definitions start r = (ds : List Definition) → Tabled ns roots definitions ds → Holds ds 0 (chaseTypes ds start) r
 
--- A root that is a node of the book, or 65,535; and an actor whose nodes are.
+-- A root that is a node of the book, or 65,535; and an interface whose nodes are, with the arguments of its root where it is merged.
 pub record RootIn (ns roots : List ℕ) (root : ℕ) : Type 0 where
   pub rooted : Rooted ns roots
   pub node : (root ≡ 65535 → ⊥) → root < rooted .count
 
-pub record ActorIn (ns roots : List ℕ) (a : Actor) : Type 0 where
+pub record InterfaceIn (ns roots : List ℕ) (i : Interface) : Type 0 where
   pub rooted : Rooted ns roots
-  pub nodes : ActorNodes ns (rooted .count) a
+  pub nodes : InterfaceNodes ns (rooted .count) i
+  pub arguments : i .merged ≡ true → ArgumentsAs ns (rooted .count) (actorAt ns (i .root)) (i .from) (i .until)

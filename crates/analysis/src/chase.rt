@@ -4,15 +4,14 @@ ghost use mathlib.Core.Path.{_≡_};
 ghost use Prim.Native.Nat.{_+_, _≤_};
 ghost use Rattle.format.specs.Layout.{siblings};
 ghost use Rattle.format.specs.Whole.{actorAt};
-ghost use Rattle.judgement.specs.Actor.{classArguments};
-ghost use Rattle.typing.specs.Actors.{actorTree};
+ghost use Rattle.syntax.specs.Interfaces.{interfaceTree};
 ghost use Rattle.analysis.specs.Book.{Readable};
-ghost use Rattle.analysis.specs.Walking.{Started, ChasedAs, isNew, Scanned, NextNew, Counted, noList, nothingMet, WalkedAs, RootIn, ActorIn};
+ghost use Rattle.analysis.specs.Walking.{Started, ChasedAs, isNew, Scanned, NextNew, Counted, noList, nothingMet, WalkedAs, RootIn, InterfaceIn};
 use book::kinds::Kind;
 use book::read::Entry;
 use book::read::Node;
 use environment::Table;
-use typing::actor::Actor;
+use syntax::interface::Interface;
 
 // How far a walk has come: a mark for each name seen, the names listed so far, and the name without definition that stopped it.
 pub struct Walk {
@@ -147,7 +146,7 @@ pub fn chase_types(
 }
 
 // An actor as written, where there is one.
-fn chase_written(rows: &[u8], roots: &[u16], root: u16, definitions: usize) -> Walk
+pub fn chase_written(rows: &[u8], roots: &[u16], root: u16, definitions: usize) -> Walk
     requires { ⌜ RootIn (now rows) (now roots) root × Counted (now rows) (now roots) definitions ⌝ }
     ensures { λ r. ⌜ WalkedAs (now (rows .entry)) (now (roots .entry)) definitions (actorAt (now (rows .entry)) root) r ⌝ }
 {
@@ -159,35 +158,18 @@ fn chase_written(rows: &[u8], roots: &[u16], root: u16, definitions: usize) -> W
     chase_types(rows, roots, n, n + t.size, definitions)
 }
 
-// The arguments of main's class, where it is one.
-fn chase_arguments(rows: &[u8], roots: &[u16], root: u16, definitions: usize) -> Walk
-    requires { ⌜ RootIn (now rows) (now roots) root × Counted (now rows) (now roots) definitions ⌝ }
-    ensures { λ r. ⌜ WalkedAs (now (rows .entry)) (now (roots .entry)) definitions (classArguments (actorAt (now (rows .entry)) root)) r ⌝ }
-{
-    if root == Entry::NO_ROOT {
-        return fresh();
-    }
-    let n = root as usize;
-    let t = Node::at(rows, n);
-    if t.kind != Kind::CLASS {
-        return fresh();
-    }
-    let last = typing::actor::last_child(rows, n + 1, n + t.size);
-    chase_types(rows, roots, n + 1, last, definitions)
-}
-
 // `chase_actor`. A merged actor: main's arguments, and then the methods of each service.
-pub fn chase_actor(rows: &[u8], roots: &[u16], actor: Actor, definitions: usize) -> Walk
-    requires { ⌜ ActorIn (now rows) (now roots) actor × Counted (now rows) (now roots) definitions ⌝ }
-    ensures { λ r. ⌜ WalkedAs (now (rows .entry)) (now (roots .entry)) definitions (actorTree (now (rows .entry)) actor) r ⌝ }
+pub fn chase_actor(rows: &[u8], roots: &[u16], interface: Interface, definitions: usize) -> Walk
+    requires { ⌜ InterfaceIn (now rows) (now roots) interface × Counted (now rows) (now roots) definitions ⌝ }
+    ensures { λ r. ⌜ WalkedAs (now (rows .entry)) (now (roots .entry)) definitions (interfaceTree (now (rows .entry)) interface) r ⌝ }
 {
-    if !actor.merged {
-        return chase_written(rows, roots, actor.root, definitions);
+    if !interface.merged {
+        return chase_written(rows, roots, interface.root, definitions);
     }
-    let mut v = chase_arguments(rows, roots, actor.root, definitions);
-    let services = actor.services;
+    let mut v = chase_types(rows, roots, interface.from, interface.until, definitions);
+    let services = interface.services;
     let mut k = 0;
-    while k < actor.count {
+    while k < interface.count {
         let s = services[k] as usize;
         let t = Node::at(rows, s);
         v = chase(rows, roots, s + 1, s + t.size, v);

@@ -12,10 +12,10 @@ ghost use Rattle.format.specs.Layout.{rowAt, siblings};
 ghost use Rattle.format.specs.Whole.{Whole, WholeAt};
 ghost use Rattle.judgement.specs.Environment.{End};
 ghost use Rattle.environment.specs.Tables.{EndAt, Ended};
-ghost use Rattle.typing.specs.Actors.{methodsIn};
-ghost use Rattle.listing.specs.Uses.{classSites, funcSites, endSites, methodSites};
+ghost use Rattle.syntax.specs.Interfaces.{methodsIn};
+ghost use Rattle.listing.specs.Sites.{classSites, funcSites, endSites, methodSites};
 ghost use Rattle.listing.specs.Offers.{indexed};
-ghost use Rattle.analysis.specs.Entries.{Test, usesBy, put, Puts, AtMost, hit, HitsIn, SkipsTo, endNode, Known, Offered};
+ghost use Rattle.analysis.specs.Entries.{Test, usesBy, put, Puts, AtMost, hit, HitsIn, SkipsTo, Known, Offered};
 use book::kinds::Kind;
 use book::read::Node;
 use environment::Table;
@@ -132,18 +132,6 @@ fn put_func(
     put_trees(rows, near, results, until, method, 1, at, places, out)
 }
 
-// The node at which the chain from a node ends, or NONE.
-pub fn end_of(rows: &[u8], ends: &[u16], node: usize) -> u16
-    requires { ⌜ Ended (now rows) (now ends) node ⌝ }
-    ensures { λ r. ⌜ r ≡ endNode (now (rows .entry)) (now (ends .entry)) node ⌝ }
-{
-    let t = Node::at(rows, node);
-    if t.kind != Kind::VAR {
-        return node as u16;
-    }
-    ends[t.value as usize]
-}
-
 // The entries of a method whose chain ends at node e: none where that is NONE or no function.
 fn put_end(
     rows: &[u8],
@@ -203,7 +191,7 @@ fn put_methods(
     let mut m = first;
     let mut at = k;
     while i < until {
-        let e = end_of(rows, ends, i);
+        let e = environment::end_of(rows, ends, i);
         at = put_end(rows, near, e, m as u16, at, places, out);
         let u = Node::at(rows, i);
         m += 1;

@@ -2,33 +2,11 @@
 ghost use mathlib.Core.Path.{_≡_};
 ghost use Prim.Native.Nat.{_≤_, _<_};
 ghost use lib.ListN.{length, take};
-ghost use Rattle.environment.specs.Flags.{flagged};
-ghost use Rattle.listing.specs.Questions.{given};
-ghost use Rattle.analysis.specs.Handed.{noNames, HandedAs};
-use book::refusal::Refusal;
-
-// What a question answers: how many entries stand at the front of the lent list, or why there are none.
-pub enum Answer {
-    Given(usize),
-    Refused(Refusal),
-}
-
-// Hands a list over into a lent one; 16 where that is shorter.
-pub fn hand(list: &[u16], out: &mut [u16]) -> Answer
-    requires { ⌜ length (now list) < 4294967296 ⌝ }
-    ensures { λ r. ⌜ HandedAs (given (now (list .entry))) (now (out .entry)) (now (out .exit)) r ⌝ }
-{
-    let n = list.len();
-    if out.len() < n {
-        return Answer::Refused(Refusal::Short(n as u32));
-    }
-    let mut j = 0;
-    while j < n {
-        out[j] = list[j];
-        j += 1;
-    }
-    Answer::Given(n)
-}
+ghost use Rattle.book.specs.Tables.{flagged};
+ghost use Rattle.refusals.specs.Outcome.{given};
+ghost use Rattle.analysis.specs.Handed.{noNames};
+ghost use Rattle.refusals.specs.Handed.{HandedAs};
+use refusals::Answer;
 
 // Name numbers: the first `len` of the list.
 pub struct Names {
@@ -72,5 +50,5 @@ pub fn hand_names(names: Names, out: &mut [u16]) -> Answer
 {
     let list = names.list;
     let n = names.len;
-    hand(&list[..n], out)
+    refusals::hand(&list[..n], out)
 }

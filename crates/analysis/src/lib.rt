@@ -3,7 +3,6 @@
 pub mod chase;
 pub mod def_use;
 pub mod hand;
-pub mod interface;
 pub mod project;
 pub mod reaching;
 pub mod recursive;

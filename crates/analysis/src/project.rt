@@ -4,22 +4,16 @@ ghost use mathlib.Core.Path.{_≡_};
 ghost use mathlib.Core.List.{List};
 ghost use Prim.Native.Nat.{ℕ, _+_, _-_, _≤_, _<_};
 ghost use lib.ListN.{length, getD, take};
-ghost use Rattle.format.specs.Book.{Definition};
 ghost use Rattle.format.specs.Layout.{siblings};
-ghost use Rattle.judgement.specs.Environment.{aliasEnd, methodsAt};
-ghost use Rattle.judgement.specs.Actor.{belowClass};
-ghost use Rattle.environment.specs.Flags.{noFlags};
-ghost use Rattle.typing.specs.Walk.{Methods};
-ghost use Rattle.typing.specs.Actors.{methodsIn, actorTree};
-ghost use Rattle.listing.specs.Project.{projectFrom};
-ghost use Rattle.listing.specs.Questions.{projected};
-ghost use Rattle.analysis.specs.Handed.{HandedAs};
-ghost use Rattle.analysis.specs.Interfaces.{Offering};
+ghost use Rattle.book.specs.Tables.{noFlags};
+ghost use Rattle.environment.specs.Trees.{Methods};
+ghost use Rattle.syntax.specs.Interfaces.{methodsIn};
+ghost use Rattle.listing.specs.Project.{projectFrom, projected};
+ghost use Rattle.refusals.specs.Handed.{HandedAs};
 ghost use Rattle.analysis.specs.Projecting.{Asking, countOne, lowerFar, LowestAs, placeAt, Room, MethodTaken, MethodsTaken, Services, AllProjected};
-use crate::hand::Answer;
 use book::read::Node;
-use book::refusal::Refusal;
-use typing::actor::Actor;
+use refusals::Answer;
+use refusals::Refusal;
 
 // How often each of the 1,024 names is asked for.
 pub type Counts = [usize; 1024];
@@ -205,22 +199,4 @@ pub fn project(rows: &[u8], services: &[u16], count: usize, list: &[u16], out: &
     let mut again = a.left;
     let written = project_methods(rows, services, count, &mut again, places, out);
     Answer::Given(written)
-}
-
-// The positions of an actor's methods.
-pub fn project_actor(
-    rows: &[u8],
-    ends: &[u16],
-    actor: Actor,
-    list: &[u16],
-    out: &mut [u16],
-) -> Answer
-    requires { ⌜ ((names count : ℕ) × (ds : List Definition) × Offering (now rows) (now ends) actor names count ds) ⌝ }
-    ensures { λ r. ⌜ ((names count : ℕ) (ds : List Definition) → Offering (now (rows .entry)) (now (ends .entry)) actor names count ds →
-        HandedAs (projected (projectFrom 0 (methodsAt (aliasEnd ds (belowClass (actorTree (now (rows .entry)) actor)))) (now (list .entry))))
-        (now (out .entry)) (now (out .exit)) r) ⌝ }
-{
-    let i = crate::interface::interface_of(rows, ends, actor);
-    let services = i.services;
-    project(rows, &services, i.count, list, out)
 }

@@ -5,7 +5,6 @@ ghost use mathlib.Core.Path.{_≡_};
 ghost use Prim.Native.Nat.{_+_, _<_};
 ghost use lib.ListN.{length};
 ghost use Rattle.environment.specs.Tables.{definitionsIn};
-ghost use Rattle.environment.specs.Merging.{zeroTable};
 ghost use Rattle.analysis.specs.Reaching.{BookRows, ReachAs, FirstHit, NearAs, Defining, OwnersAs, noRows, noPlaces, LinksAs};
 use book::kinds::Kind;
 use book::read::Entry;
@@ -89,18 +88,12 @@ struct Links {
     pub next: [u16; 4096],
 }
 
-fn no_heads() -> environment::ByName
-    ensures { λ r. ⌜ r ≡ zeroTable ⌝ }
-{
-    [0u16; 1024]
-}
-
 // The links of all rows that are names, in one pass.
 fn link(rows: &[u8], nodes: usize) -> Links
     requires { ⌜ BookRows (now rows) nodes ⌝ }
     ensures { λ r. ⌜ LinksAs (now (rows .entry)) nodes (r .head) (r .next) ⌝ }
 {
-    let mut head = no_heads();
+    let mut head = book::tables::no_links();
     let mut next = no_rows();
     let mut j = 0;
     while j < nodes {
@@ -137,8 +130,8 @@ pub fn reaching(
     let linked = link(rows, nodes);
     let head = linked.head;
     let next = linked.next;
-    let mut flags = environment::empty::no_flags();
-    let mut queue = no_heads();
+    let mut flags = book::tables::no_flags();
+    let mut queue = book::tables::no_links();
     flags[wanted] = 1;
     queue[0] = wanted as u16;
     let mut len = 1;

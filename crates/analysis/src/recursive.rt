@@ -39,9 +39,9 @@ pub fn infer_rec(rows: &[u8], roots: &[u16], list: &[u16]) -> Marks
     requires { ⌜ Rooted (now rows) (now roots) ⌝ }
     ensures { λ r. ⌜ ((ds : List Definition) → Binds (now (rows .entry)) (now (roots .entry)) ds → MarksHold (inferRec ds (now (list .entry))) r) ⌝ }
 {
-    let mut seen = environment::empty::no_flags();
-    let mut marked = environment::empty::no_flags();
-    let mut done = environment::empty::no_flags();
+    let mut seen = book::tables::no_flags();
+    let mut marked = book::tables::no_flags();
+    let mut done = book::tables::no_flags();
     let mut i = 0;
     while i < list.len() {
         let name = list[i];

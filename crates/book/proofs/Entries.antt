@@ -1,21 +1,21 @@
 -- The tests of entries, one by one as code makes them. Assumes nothing.
-use mathlib.Core.Path.{_≡_, refl, sym, ap, ap₂, subst, _∙_}
-use mathlib.Core.Bool.{Bool, true, false, _&&_, not, Bool·beq, cond, false≢true}
+use mathlib.Core.Path.{_≡_, sym, ap, subst, _∙_}
+use mathlib.Core.Bool.{Bool, true, false, not, Bool·beq, false≢true}
 use mathlib.Core.Logic.{_⊎_, inl, inr}
 use mathlib.Core.List.{List, [], _∷_}
-use Prim.Native.Nat.{ℕ, zero, suc, _+_, _-_, _≤_, _<_}
+use Prim.Native.Nat.{ℕ, suc, _+_, _-_, _≤_, _<_}
 use native.Mathlib.Nat.{sub-zero}
 use native.Mathlib.Decide.{ℕ-discrete}
 use native.Mathlib.Omega.{arith}
-use borrow.Author.Tests.{lt-ltb, le-ltb, le-leb, eq-eqb, ne-eqb}
-use lib.Dec.{T, T-not, ltb, leb, eqb}
+use borrow.Author.Tests.{lt-ltb, le-leb, eq-eqb, ne-eqb}
+use lib.Dec.{T, T-not, eqb}
 use Rattle.format.specs.Forest.{Forest, end, tree, count}
 use Rattle.format.specs.Encode.{Row, Entry}
 use Rattle.format.specs.Layout.{run, rowAt, entryAt, rowTrees}
 use Rattle.format.specs.Rules.{goodRole, goodFiles, goodEntries, noEntries, noTrees}
-use Rattle.format.specs.Whole.{Within, Whole, WholeAt}
+use Rattle.format.specs.Whole.{Within, Whole}
 use Rattle.format.proofs.Logic.{is-true, is-false, says}
-use Rattle.format.proofs.Rows.{Opened, opens, none, nothing, node-within, count-rowTrees}
+use Rattle.format.proofs.Rows.{Opened, opens, none, node-within, count-rowTrees}
 use Rattle.format.proofs.Lists.{run-none, run-cons}
 use Rattle.book.specs.declared.rules.Next.the-variants.{Broken as Stop, At}
 use Rattle.book.specs.Steps.{DefinitionAs, DefinitionsAs, FileAs}

@@ -5,3 +5,5 @@ mod Trees
 mod Names
 mod Parts
 pub mod Named
+pub mod Opened
+pub mod Blank

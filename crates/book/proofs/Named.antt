@@ -1,44 +1,21 @@
 -- From what `layout` answers to the book, and the loop that finds a name. Assumes nothing.
-use mathlib.Core.Path.{_≡_, refl, sym, ap, subst, _∙_}
+use mathlib.Core.Path.{_≡_, refl, sym, ap, _∙_}
 use mathlib.Core.List.{List, [], _∷_}
 use Prim.Native.Nat.{ℕ, zero, suc, _+_, _-_, _≤_, _<_}
 use native.Mathlib.Decide.{decLe, decLt}
 use native.Mathlib.Omega.{arith}
 use lib.ListN.{length, getD, take, drop, List·getD-eq-default}
-use Rattle.format.specs.Book.{Book}
-use Rattle.format.specs.Encode.{encode, flat, nameBytes, namesBytes}
-use Rattle.format.specs.Fits.{Fits}
-use Rattle.format.specs.Layout.{namesOf, part, namesPart, Layout, broken, whole, layout}
+use Rattle.format.specs.Encode.{nameBytes, namesBytes}
+use Rattle.refusals.specs.Lists.{flat}
+use Rattle.format.specs.Layout.{namesOf, part, namesPart, Layout, broken, whole, layout, nameIn}
 use Rattle.format.proofs.Names.{Filled, names-all, names-none, names-step, filled-step, filled-not}
 use Rattle.format.proofs.Encoded.{fit-parts, placed, names-part}
 use Rattle.format.proofs.Theorems.{found}
-use Rattle.book.specs.declared.refusal.Refusal.the-variants.{Broken as BrokenBook}
 use Rattle.book.specs.declared.kinds.Contents.{Contents}
-use Rattle.book.specs.declared.Reading.{Reading}
 use Rattle.book.specs.declared.Reading.the-variants.{Broken, Whole}
-use Rattle.book.specs.declared.Admission.{Admission}
-use Rattle.book.specs.declared.Admission.the-variants.{Refused, Admitted}
-use Rattle.book.specs.Reading.{contentsOf, asReading, reading, asAdmission, admission, nameOf, nameIn, HasName}
-
--- ---- admission goes by the reading
-abbrev admitted : Reading → Admission
-admitted Broken = Refused BrokenBook
-admitted (Whole c) = Admitted c
-
-pub admission-of : (bs : List ℕ) (r : Reading) → r ≡ reading bs → admitted r ≡ admission bs
-unfolding reading admission
-admission-of bs r e = ap admitted e ∙ go (layout bs)
-  where
-    go : (l : Layout) → admitted (asReading l) ≡ asAdmission l
-    go broken = refl
-    go (whole b) = refl
+use Rattle.book.specs.Reading.{contentsOf, asReading, reading, Admitted, HasName}
 
 -- ---- the book of a reading
-pub record Book-of (bs : List ℕ) (c : Contents) : Type 0 where
-  pub book : Book
-  pub laid : layout bs ≡ whole book
-  pub table : contentsOf book ≡ c
-
 pub broken-of : (bs : List ℕ) → Broken ≡ reading bs → layout bs ≡ broken
 unfolding reading
 broken-of bs e = go (layout bs) e
@@ -51,15 +28,15 @@ pub name-broken : (bs : List ℕ) (n : ℕ) → Broken ≡ reading bs → [] ≡
 unfolding nameIn
 name-broken bs n e = rw (broken-of bs e)
 
-pub book-of : (bs : List ℕ) (c : Contents) → Whole c ≡ reading bs → Book-of bs c
+pub book-of : (bs : List ℕ) (c : Contents) → Whole c ≡ reading bs → Admitted bs c
 unfolding reading
 book-of bs c e = go (layout bs) refl e
   where
-    go : (l : Layout) → layout bs ≡ l → Whole c ≡ asReading l → Book-of bs c
+    go : (l : Layout) → layout bs ≡ l → Whole c ≡ asReading l → Admitted bs c
     go broken w e = let z : _≡_ {A = ℕ} 0 1 = cc in let f : ⊥ = omega arith in absurd f
     go (whole b) w e = record { book = b; laid = w; table = cc }
 
-module _ {bs : List ℕ} {c : Contents} (o : Book-of bs c) where
+module _ {bs : List ℕ} {c : Contents} (o : Admitted bs c) where
   pub names-are : length (o .book .names) ≡ c .names
   unfolding contentsOf
   names-are = ap (λ (d : Contents). d .names) (o .table)

@@ -3,13 +3,12 @@ use mathlib.Core.Path.{_≡_, refl, sym, ap, subst, _∙_}
 use mathlib.Core.Bool.{Bool, true, false, _&&_, true≢false, false≢true}
 use mathlib.Core.List.{List, [], _∷_}
 use Prim.Native.Nat.{ℕ, zero, suc, _+_, _-_, _≤_, _<_}
-use native.Mathlib.Nat.{sub-zero, add-zero}
 use native.Mathlib.Omega.{arith}
 use native.Mathlib.Numerals.{add-one}
 use borrow.Author.Tests.{eq-eqb}
 use lib.Dec.{T, eqb, eqb→eq}
-use lib.ListN.{length, getD, take, drop}
-use Rattle.format.specs.Fits.{before, ascending}
+use lib.ListN.{length, getD, drop}
+use Rattle.format.specs.Fits.{ascending}
 use Rattle.format.specs.Layout.{namesOf, part}
 use Rattle.format.specs.Rules.{Names}
 use Rattle.format.proofs.Logic.{of-true, and-says}

@@ -1,17 +1,15 @@
 -- From the tests that `layout` makes, on the parts that a table of contents states, to what the bytes are. Assumes nothing.
-use mathlib.Core.Path.{_≡_, refl, sym, ap, subst, _∙_}
-use mathlib.Core.Bool.{Bool, true, false}
-use mathlib.Core.List.{List, [], _∷_}
-use Prim.Native.Nat.{ℕ, _+_, _-_, _*_, _≤_, _<_}
+use mathlib.Core.Path.{_≡_, sym, ap, subst}
+use mathlib.Core.List.{List}
+use Prim.Native.Nat.{ℕ, _+_, _-_, _*_, _≤_}
 use native.Mathlib.Omega.{arith}
 use lib.Dec.{T}
 use lib.ListN.{length}
 use Rattle.format.specs.declared.Place.the-variants.{Root}
-use Rattle.format.specs.Encode.{Entry}
 use Rattle.format.specs.Layout.{le32, run, entryAt, part, namesPart, nodesPart, definitionsPart, filesPart, rowTrees, read}
-use Rattle.format.specs.Rules.{Bytes, goodEntries, goodFiles, Names, Rules}
+use Rattle.format.specs.Rules.{Bytes, goodEntries, Names, Rules}
 use Rattle.format.specs.Rules as rules
-use Rattle.format.specs.Whole.{Within, Whole}
+use Rattle.format.specs.Whole.{Within}
 use Rattle.format.proofs.Bytes.{part-length}
 use Rattle.format.proofs.Theorems.{rules-whole, rules-broken, rules-placed}
 use Rattle.book.specs.declared.kinds.Contents.{Contents}

@@ -1,19 +1,19 @@
 -- The walk over trees that stand beside each other: what is left is good just where all of it is. Assumes nothing.
-use mathlib.Core.Path.{_≡_, refl, sym, ap, subst, _∙_}
-use mathlib.Core.Bool.{Bool, true, false, _&&_}
+use mathlib.Core.Path.{_≡_, sym, ap, subst, _∙_}
+use mathlib.Core.Bool.{true, false}
 use mathlib.Core.List.{List}
-use Prim.Native.Nat.{ℕ, suc, _+_, _-_, _*_, _≤_, _<_}
+use Prim.Native.Nat.{ℕ, suc, _+_, _-_, _≤_, _<_}
 use native.Mathlib.Omega.{arith}
 use lib.Dec.{T}
 use Rattle.format.specs.declared.Place.{Place}
-use Rattle.format.specs.Forest.{Forest, end, tree, count, breadth}
+use Rattle.format.specs.Forest.{Forest, end, breadth}
 use Rattle.format.specs.Encode.{Row}
 use Rattle.format.specs.Layout.{rowAt, rowTrees}
 use Rattle.format.specs.Rules.{Sized, goodRow, goodForest, belowKind}
-use Rattle.format.specs.Whole.{Within, Whole, WholeAt}
+use Rattle.format.specs.Whole.{Within, Whole}
 use Rattle.format.proofs.Logic.{of-true, and-says}
-use Rattle.format.proofs.Rows.{Opened, opens, closes, none, nothing, count-rowTrees}
-use Rattle.book.specs.declared.rules.Walked.the-variants.{Broken, Count}
+use Rattle.format.proofs.Rows.{Opened, opens, closes, none}
+use Rattle.book.specs.declared.rules.Walked.the-variants.{Count}
 use Rattle.book.specs.Steps.{Good, TreesAs}
 
 module _ (names : ℕ) (p : Place) (ns : List ℕ) (i e : ℕ) where

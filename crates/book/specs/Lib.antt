@@ -1,4 +1,4 @@
--- What the contracts of the reader cite: Refusal and Reading are definitions.
-pub mod Refusal
+-- What the contracts of the reader cite: Reading and Tables are definitions.
 pub mod Reading
+pub mod Tables
 pub mod Steps

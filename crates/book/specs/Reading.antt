@@ -1,19 +1,17 @@
--- What the reader answers, from the definitions of the crate `format`: the layout, admission, and a name. Definitions; assumes nothing.
-use mathlib.Core.List.{List, [], _∷_}
+-- What the reader answers, from the definitions of the crate `format`. Definitions; assumes nothing.
+use mathlib.Core.List.{List}
 use mathlib.Core.Path.{_≡_}
 use Prim.Native.Nat.{ℕ, _+_, _*_, _≤_, _<_}
-use lib.ListN.{length, getD}
+use lib.ListN.{length}
 use Rattle.format.specs.Forest.{count}
 use Rattle.format.specs.Book.{Book, trees}
-use Rattle.format.specs.Encode.{Row, flat, nameBytes, namesBytes, nodesBytes, definitionsBytes}
+use Rattle.format.specs.Encode.{Row, nameBytes, namesBytes, nodesBytes, definitionsBytes}
+use Rattle.refusals.specs.Lists.{flat}
 use Rattle.format.specs.Encode as stored
 use Rattle.format.specs.Layout.{namesOf, Layout, broken, whole, layout}
-use Rattle.book.specs.declared.refusal.Refusal.the-variants.{Broken as BrokenBook}
 use Rattle.book.specs.declared.kinds.Contents.{Contents}
 use Rattle.book.specs.declared.Reading.{Reading}
 use Rattle.book.specs.declared.Reading.the-variants.{Broken, Whole}
-use Rattle.book.specs.declared.Admission.{Admission}
-use Rattle.book.specs.declared.Admission.the-variants.{Refused, Admitted}
 use Rattle.book.specs.declared.read.Node.{Node}
 use Rattle.book.specs.declared.read.Entry.{Entry}
 
@@ -40,21 +38,11 @@ asReading (whole b) = Whole (contentsOf b)
 unfoldable pub reading : List ℕ → Reading
 reading bs = asReading (layout bs)
 
--- What every question starts with. A book whose layout is broken is refused with 1.
-abbrev pub asAdmission : Layout → Admission
-asAdmission broken = Refused BrokenBook
-asAdmission (whole b) = Admitted (contentsOf b)
-
-unfoldable pub admission : List ℕ → Admission
-admission bs = asAdmission (layout bs)
-
--- The bytes of name n; none for a broken book or a number outside the table.
-abbrev pub nameOf : Layout → ℕ → List ℕ
-nameOf broken n = []
-nameOf (whole b) n = getD (b .names) n []
-
-unfoldable pub nameIn : List ℕ → ℕ → List ℕ
-nameIn bs n = nameOf (layout bs) n
+-- Bytes that were admitted are a book, with this table of contents: what all code after admission stands on.
+pub record Admitted (bs : List ℕ) (c : Contents) : Type 0 where
+  pub book : Book
+  pub laid : layout bs ≡ whole book
+  pub table : contentsOf book ≡ c
 
 -- ---- What the readers of rows, entries and names ask and say
 

@@ -1,8 +1,8 @@
 -- What the tests that `layout` is made of promise each other, by the rules of format, specs/Rules.antt. Definitions; assumes nothing.
 use mathlib.Core.Path.{_≡_}
 use mathlib.Core.Bool.{Bool, true, false}
-use mathlib.Core.List.{List, [], _∷_}
-use Prim.Native.Nat.{ℕ, zero, suc, _+_, _≤_}
+use mathlib.Core.List.{List, _∷_}
+use Prim.Native.Nat.{ℕ, zero, suc}
 use lib.Dec.{T}
 use Rattle.format.specs.declared.Place.{Place}
 use Rattle.format.specs.Forest.{breadth}

@@ -1,8 +1,8 @@
 // The numbers that document 01 gives to kinds, roles and limits, each with the type that it describes.
 ghost use mathlib.Core.Path.{_≡_};
-ghost use mathlib.Core.Bool.{_&&_};
-ghost use lib.Dec.{leb};
 ghost use Rattle.format.specs.Rules.{belowKind};
+ghost use Rattle.format.specs.Layout.{namesPart, nodesPart, definitionsPart, filesPart};
+ghost use Rattle.book.specs.Reading.{Admitted};
 use format::Place;
 
 // A node's kind. Kinds below VAR hold no other type and no name.
@@ -153,6 +153,41 @@ pub struct Contents {
 impl Contents {
     // The bytes of the table itself.
     pub const SIZE: usize = 32;
+
+    // The names' part of the book whose table this is; then its nodes', definitions' and files'.
+    pub fn names(self, book: &[u8]) -> &[u8]
+        requires { ⌜ Admitted (now book) self ⌝ }
+        ensures { λ r. ⌜ now r ≡ namesPart (now (book .entry)) ⌝ }
+    {
+        let end = self.nodes_at;
+        &book[Contents::SIZE..end]
+    }
+
+    pub fn nodes(self, book: &[u8]) -> &[u8]
+        requires { ⌜ Admitted (now book) self ⌝ }
+        ensures { λ r. ⌜ now r ≡ nodesPart (now (book .entry)) ⌝ }
+    {
+        let at = self.nodes_at;
+        let end = self.definitions_at;
+        &book[at..end]
+    }
+
+    pub fn definitions(self, book: &[u8]) -> &[u8]
+        requires { ⌜ Admitted (now book) self ⌝ }
+        ensures { λ r. ⌜ now r ≡ definitionsPart (now (book .entry)) ⌝ }
+    {
+        let at = self.definitions_at;
+        let end = self.files_at;
+        &book[at..end]
+    }
+
+    pub fn files(self, book: &[u8]) -> &[u8]
+        requires { ⌜ Admitted (now book) self ⌝ }
+        ensures { λ r. ⌜ now r ≡ filesPart (now (book .entry)) ⌝ }
+    {
+        let at = self.files_at;
+        &book[at..]
+    }
 }
 
 // A function's mode, a digit in base 4 of its value's upper half.

@@ -1,19 +1,18 @@
-// The declaration book, read from bytes that nobody vouches for: `layout` and `admit` decide whether they are a book, and `name` hands
-// out a name. What a book is, is defined in the crate `format`.
+// The declaration book, read from bytes that nobody vouches for: `layout` decides whether they are a book, and `name` hands out a name. What a book is, is defined in the crate `format`.
 ghost use mathlib.Core.Path.{_≡_};
-ghost use Rattle.book.specs.Reading.{reading, admission, nameIn};
+ghost use Rattle.book.specs.Reading.{reading};
+ghost use Rattle.format.specs.Layout.{nameIn};
 ghost use Rattle.book.specs.Steps.{ContentsAs};
 
 pub mod kinds;
 pub mod read;
-pub mod refusal;
 mod rules;
+pub mod tables;
 
 use crate::kinds::Contents;
 use crate::kinds::Limits;
 use crate::read::Entry;
 use crate::read::Node;
-use crate::refusal::Refusal;
 use crate::rules::Next;
 use crate::rules::Walked;
 use format::Place;
@@ -113,22 +112,6 @@ pub fn layout(book: &[u8]) -> Reading
         return Reading::Broken;
     }
     Reading::Whole(c)
-}
-
-// What every question starts with: a refusal, or the book's table of contents.
-pub enum Admission {
-    Refused(Refusal),
-    Admitted(Contents),
-}
-
-// Admits a book: today, one whose layout is not broken.
-pub fn admit(book: &[u8]) -> Admission
-    ensures { λ r. ⌜ r ≡ admission (now (book .entry)) ⌝ }
-{
-    match layout(book) {
-        Reading::Broken => Admission::Refused(Refusal::Broken),
-        Reading::Whole(c) => Admission::Admitted(c),
-    }
 }
 
 // The bytes of a name, as a part of the book; an empty part for a broken book or a number outside the table of names.

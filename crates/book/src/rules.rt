@@ -1,7 +1,7 @@
 // The tests that `layout` is made of: the rules of format, specs/Rules.antt, on rows, entries and names. Private to the crate.
 ghost use mathlib.Core.Path.{_≡_};
 ghost use mathlib.Core.Bool.{true};
-ghost use Prim.Native.Nat.{_+_, _*_, _≤_, _<_};
+ghost use Prim.Native.Nat.{_+_, _≤_, _<_};
 ghost use lib.ListN.{length};
 ghost use Rattle.format.specs.Fits.{before};
 ghost use Rattle.format.specs.Rules.{goodModes, goodKind, goodPlace, goodLabel, goodRow, goodRole, goodFiles, Names};

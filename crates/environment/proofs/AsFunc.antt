@@ -1,6 +1,6 @@
--- Where the chain of the type at a node ends, by the table of alias ends; so that says what `asFunc` and `asService` say. Assumes nothing.
+-- Where the chain of the type at a node ends, by the table of alias ends; so that says what `asFunc` says. Assumes nothing.
 --     stays, node-ends, name-ends     where it ends
---     ends-func, ends-service         for a table without circles, whatever the definitions are that it was made of
+--     ends-func                       for a table without circles, whatever the definitions are that it was made of
 use mathlib.Core.Path.{_≡_, refl, sym, ap, _∙_}
 use mathlib.Core.Bool.{Bool, true, false, cond}
 use mathlib.Core.List.{List}
@@ -16,7 +16,7 @@ use Rattle.format.specs.Layout.{rowAt, kinds, kindOf, nodeOf}
 use Rattle.format.specs.Whole.{WholeAt, treeAt}
 use Rattle.format.proofs.References.{kind-alone}
 use Rattle.format.proofs.Stored.{tree-opens}
-use Rattle.judgement.specs.Environment.{findType, other, head, End, unbound, circle, ends, chain, aliasEnd, isFuncKind, isServKind, rootPasses, asFunc, asService}
+use Rattle.judgement.specs.Environment.{findType, other, head, End, unbound, circle, ends, chain, aliasEnd, isFuncKind, rootPasses, asFunc}
 use Rattle.environment.specs.Tables.{Nodes, Binds, nameEnd, EndAt, AliasEndsAs, endIs}
 use Rattle.environment.proofs.Links.{chain-other, head-var, head-other}
 use Rattle.environment.proofs.Names.{to-name}
@@ -52,7 +52,7 @@ module _ (test : Kind → Bool) (kind : ℕ) (says : (k v : ℕ) → test (kindO
     by-end k (ends t) q =
         let e = getD ends′ (rowAt ns n .value) 65535 in
         sym (is-end kind ns ends′ n (rowAt ns n) refl k (q .0) e refl (rowAt ns e) refl)
-        ∙ sym (root-kind (x .tree e (a .nodes .node (rowAt ns n .value) (q .0)) .whole))
+        ∙ sym (root-kind (x .tree e (a .nodes refl .node (rowAt ns n .value) (q .0)) .whole))
         ∙ ap (λ (u : Forest Node). rootPasses test (ends u)) (sym (q .1))
 
     ends-pass : endIs kind ns ends′ n ≡ rootPasses test (aliasEnd ds (treeAt ns n))
@@ -68,7 +68,7 @@ module _ (test : Kind → Bool) (kind : ℕ) (says : (k v : ℕ) → test (kindO
             ∙ sym (root-kind (x .tree n h .whole))
             ∙ ap (rootPasses test) (sym (node-ends x ds h k))
 
-as-test : (b : Bool) → cond b true false ≡ b
+pub as-test : (b : Bool) → cond b true false ≡ b
 as-test true = refl
 as-test false = refl
 
@@ -76,16 +76,8 @@ func-kind : (k v : ℕ) → isFuncKind (kindOf k v) ≡ eqb k 23
 unfolding isFuncKind kinds
 func-kind k v = kind-alone isFuncKind false true 23 v (omega arith) refl refl k ∙ as-test (eqb k 23)
 
-service-kind : (k v : ℕ) → isServKind (kindOf k v) ≡ eqb k 24
-unfolding isServKind kinds
-service-kind k v = kind-alone isServKind false true 24 v (omega arith) refl refl k ∙ as-test (eqb k 24)
-
 module _ {ns roots ends′ : List ℕ} {names count definitions : ℕ} (x : Nodes ns names count) (a : AliasEndsAs ns roots names count definitions ends′ 65535)
     (ds : List Definition) (b : Binds ns roots ds) (l : length ds ≡ definitions) (n : ℕ) (h : n < count) where
   pub ends-func : endIs 23 ns ends′ n ≡ asFunc ds (treeAt ns n)
   unfolding asFunc
   ends-func = ends-pass isFuncKind 23 func-kind x a ds b l n h
-
-  pub ends-service : endIs 24 ns ends′ n ≡ asService ds (treeAt ns n)
-  unfolding asService
-  ends-service = ends-pass isServKind 24 service-kind x a ds b l n h

@@ -7,14 +7,15 @@ use native.Mathlib.Decide.{ℕ-discrete}
 use native.Mathlib.Omega.{arith}
 use borrow.Author.Tests.{eq-eqb, ne-eqb}
 use lib.Dec.{eqb}
-use lib.ListN.{length, getD, set, length-set, length-replicate}
+use lib.ListN.{length, getD, set, length-set}
 use lib.Seq.{getD-set-same, getD-set-other}
 use Rattle.format.specs.Encode.{Entry}
 use Rattle.format.specs.Layout.{run, entryAt}
 use Rattle.format.proofs.Lists.{run-none, run-cons}
-use Rattle.format.proofs.References.{everywhere}
 use Rattle.judgement.specs.Check.{member}
-use Rattle.environment.specs.Tables.{blankTable, Entries, rootIn, repeated, DefinesAs}
+use Rattle.book.specs.Tables.{blankTable}
+use Rattle.environment.specs.Tables.{Entries, rootIn, repeated, DefinesAs}
+use Rattle.book.proofs.Blank.{blank-length, blank-at}
 
 pub record TableLeft (es : List ℕ) (names count from to : ℕ) (roots : List ℕ) (d : ℕ) : Type 0 where
   pub began : from ≤ d
@@ -25,14 +26,6 @@ pub record TableLeft (es : List ℕ) (names count from to : ℕ) (roots : List �
   pub seen : List ℕ
   pub marks : (n : ℕ) → member n seen ≡ not (eqb (getD roots n 65535) 65535)
   pub rest : repeated seen (run (entryAt es) d (to - d)) ≡ repeated [] (run (entryAt es) from (to - from))
-
-pub blank-length : length blankTable ≡ 1024
-unfolding blankTable
-blank-length = length-replicate {A = ℕ} 1024 65535
-
-pub blank-at : (n : ℕ) → getD blankTable n 65535 ≡ 65535
-unfolding blankTable
-blank-at n = everywhere {A = ℕ} 1024 n 65535
 
 pub table-start : (es : List ℕ) (names count from to : ℕ) → Entries es names count from to → TableLeft es names count from to blankTable from
 unfolding member

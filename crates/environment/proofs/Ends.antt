@@ -7,19 +7,20 @@ use native.Mathlib.Nat.{sub-zero}
 use native.Mathlib.Numerals.{add-one}
 use native.Mathlib.Decide.{ℕ-discrete, decLt}
 use native.Mathlib.Omega.{arith}
-use borrow.Author.Tests.{eq-eqb, ne-eqb}
+use borrow.Author.Tests.{ne-eqb}
 use lib.ListN.{length, getD, set, length-set}
 use lib.Seq.{getD-set-same, getD-set-other}
 use Rattle.format.specs.Book.{Definition}
-use Rattle.book.specs.declared.refusal.Refusal as refusal
-use Rattle.book.specs.declared.refusal.Verdict.{Verdict}
-use Rattle.book.specs.Refusal.{andThen, unless}
+use Rattle.refusals.specs.declared.Refusal as refusal
+use Rattle.refusals.specs.declared.Verdict.{Verdict}
+use Rattle.refusals.specs.Verdict.{andThen, unless}
 use Rattle.judgement.specs.Environment.{Found, missing, body, findType, End, unbound, circle, ends}
 use Rattle.judgement.specs.Check.{eachName, isCircle, circleVerdict}
-use Rattle.environment.specs.Tables.{blankTable, Binds, nameEnd, EndAt, EndKnown, FollowedAs, Unfinished, endBefore, Unbegun, NotedAs, AliasEndsAs, endsIf}
+use Rattle.book.specs.Tables.{blankTable}
+use Rattle.environment.specs.Tables.{Binds, nameEnd, EndAt, EndKnown, FollowedAs, Unfinished, endBefore, Unbegun, NotedAs, AliasEndsAs}
 use Rattle.environment.proofs.Links.{getD-within}
 use Rattle.environment.proofs.Names.{none-known}
-use Rattle.environment.proofs.Defines.{blank-length, blank-at}
+use Rattle.book.proofs.Blank.{blank-length, blank-at}
 
 -- ---- the verdict on a name, by the end of its chain
 by-end : (ds : List Definition) (n : ℕ) (f : Found) → circleVerdict ds n f ≡ unless (not (isCircle (nameEnd ds n f))) (refusal.Refusal.Circle n)
@@ -83,15 +84,6 @@ module _ {roots : List ℕ} {names : ℕ} (long : length roots ≡ 1024) (few : 
       before′ m j (yes z) = rw z here
       before′ m j (no z) = getD-set-other ends′ n m e 65535 z ∙ s .table .before m (omega arith)
 
--- ---- the table that is made
-pub ends-none : (circle′ : ℕ) (ends′ : List ℕ) → (circle′ ≡ 65535 → ⊥) → endsIf circle′ ends′ ≡ blankTable
-unfolding endsIf
-ends-none circle′ ends′ h = rw (ne-eqb circle′ 65535 h) refl
-
-pub ends-some : (circle′ : ℕ) (ends′ : List ℕ) → circle′ ≡ 65535 → endsIf circle′ ends′ ≡ ends′
-unfolding endsIf
-ends-some circle′ ends′ h = rw (eq-eqb circle′ 65535 h) refl
-
 -- ---- the loop
 abbrev verdicts : List Definition → ℕ → Verdict
 verdicts ds n = circleVerdict ds n (findType ds n)
@@ -123,12 +115,12 @@ ends-start ns roots names count definitions ends′ u =
     known′ n h q (no e) = absurd (q (u .before n h ∙ sym (begun-open (getD roots n 65535) e)))
 
 module _ {ns roots : List ℕ} {names count definitions : ℕ} (few : names ≤ 1024) {ends′ : List ℕ} {n : ℕ} (s : EndsLeft ns roots names count definitions ends′ n) where
-  ends-now : names ≤ n → AliasEndsAs ns roots names count definitions ends′ 65535
+  pub ends-end : names ≤ n → AliasEndsAs ns roots names count definitions ends′ 65535
   unfolding eachName
-  ends-now h =
+  ends-end h =
       let z : names - n ≡ 0 = omega arith in
       record {
-        nodes = record { long = s .table .long; node = λ m q. node′ m q (decLt m names) };
+        nodes = λ e. record { long = s .table .long; node = λ m q. node′ m q (decLt m names) };
         lowest = λ ds b l. sym (s .rest ds b l) ∙ rw z;
         all = λ e ds b l m i. s .table .known m i (s .done m (omega arith)) .is ds b;
       }
@@ -137,16 +129,13 @@ module _ {ns roots : List ℕ} {names count definitions : ℕ} (few : names ≤ 
       node′ m q (yes i) = s .table .known m i (s .done m (omega arith)) .node q
       node′ m q (no i) = absurd (q (s .table .beyond m (omega arith)))
 
-  pub ends-end : names ≤ n → AliasEndsAs ns roots names count definitions (endsIf 65535 ends′) 65535
-  ends-end h = rw (ends-some 65535 ends′ refl) (ends-now h)
-
   module _ (h : n < names) (e : ℕ) (x : FollowedAs ns roots count definitions n e) where
-    pub ends-circle : e ≡ 65534 → AliasEndsAs ns roots names count definitions (endsIf n ends′) n
+    pub ends-circle : e ≡ 65534 → AliasEndsAs ns roots names count definitions ends′ n
     unfolding isCircle
     ends-circle c =
         let never : n ≡ 65535 → ⊥ = λ e. let f : ⊥ = omega arith in f in
         record {
-          nodes = rw (ends-none n ends′ never) (record { long = blank-length; node = λ m q. absurd (q (blank-at m)) });
+          nodes = λ e. absurd (never e);
           lowest = λ ds b l. sym (s .rest ds b l) ∙ each-cons (verdicts ds) n names h ∙ rw (by-end ds n (findType ds n), x .never c ds b l, ne-eqb n 65535 never);
           all = λ e. absurd (never e);
         }

@@ -14,9 +14,9 @@ use Rattle.format.specs.Encode.{Entry}
 use Rattle.format.specs.Layout.{run, entryAt}
 use Rattle.format.specs.Whole.{treeAt, definitionAt}
 use Rattle.format.proofs.Lists.{All, all-between, run-length}
-use Rattle.book.specs.declared.refusal.Refusal as refusal
-use Rattle.book.specs.declared.refusal.Verdict.the-variants.{Passed, Refused}
-use Rattle.book.specs.Refusal.{andThen, unless}
+use Rattle.refusals.specs.declared.Refusal as refusal
+use Rattle.refusals.specs.declared.Verdict.the-variants.{Passed, Refused}
+use Rattle.refusals.specs.Verdict.{andThen, unless}
 use Rattle.judgement.specs.Environment.{body, findType}
 use Rattle.judgement.specs.Check.{member, onceVerdict}
 use Rattle.environment.specs.Tables.{Entries, definitionsIn, rootIn, foundAt, Binds, repeated, DefinesAs}

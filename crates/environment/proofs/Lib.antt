@@ -6,8 +6,8 @@ pub mod Ends
 pub mod EndKinds
 pub mod Laws
 pub mod AsFunc
+pub mod ChainEnds
 pub mod Hashes
 pub mod Same
 pub mod Merges
-pub mod Emptied
-pub mod EmptyFields
+pub mod Trees

@@ -1,21 +1,19 @@
 -- The links of an alias chain, on definitions and on stored nodes. Assumes nothing.
 use mathlib.Core.Path.{_≡_, refl, sym, ap, _∙_}
-use mathlib.Core.Bool.{Bool, true, false, cond}
 use mathlib.Core.List.{List, [], _∷_}
-use Prim.Native.Nat.{ℕ, zero, suc, _+_, _-_, _≤_, _<_}
+use Prim.Native.Nat.{ℕ, zero, suc, _+_, _-_, _<_}
 use native.Mathlib.Omega.{arith}
 use borrow.Author.Tests.{ne-eqb}
-use lib.Dec.{eqb}
 use lib.ListN.{length, getD}
-use Rattle.format.specs.Forest.{Forest, end, tree}
+use Rattle.format.specs.Forest.{Forest, tree}
 use Rattle.format.specs.Node.{Kind, PrimT, VarT, OptT, VecT, RecordT, VariantT, FuncT, ServT, ClassT, InitT, Node}
 use Rattle.format.specs.Book.{Definition}
 use Rattle.format.specs.Encode.{Row}
-use Rattle.format.specs.Layout.{rowAt, nodeOf, siblings}
-use Rattle.format.specs.Whole.{Within, WholeAt, WholeIn, RowFits, treeAt}
+use Rattle.format.specs.Layout.{rowAt, nodeOf}
+use Rattle.format.specs.Whole.{Within, WholeAt, treeAt}
 use Rattle.format.proofs.References.{node-var, var-node}
 use Rattle.format.proofs.Stored.{tree-opens}
-use Rattle.judgement.specs.Environment.{Found, missing, body, findType, Head, named, other, headKind, head, End, unbound, circle, ends, met, link, chainFrom}
+use Rattle.judgement.specs.Environment.{missing, body, findType, named, other, headKind, head, unbound, circle, ends, met, link, chainFrom}
 use Rattle.environment.specs.declared.Alias.{Alias}
 use Rattle.environment.specs.declared.Alias.the-variants.{Unbound, Circle, Ends}
 use Rattle.environment.specs.Tables.{Nodes, Roots, foundAt, Binds, asEnd, InRange}

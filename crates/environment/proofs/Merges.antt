@@ -20,17 +20,17 @@ use Rattle.format.specs.Layout.{rowAt, siblings}
 use Rattle.format.specs.Whole.{Within, WholeIn, treeAt}
 use Rattle.format.proofs.Rows.{node-within}
 use Rattle.format.proofs.Stored.{tree-whole}
-use Rattle.book.specs.declared.refusal.Refusal as refusal
-use Rattle.book.specs.declared.refusal.Verdict.{Verdict}
-use Rattle.book.specs.declared.refusal.Verdict.the-variants.{Passed, Refused}
-use Rattle.book.specs.Refusal.{unless}
+use Rattle.refusals.specs.declared.Refusal as refusal
+use Rattle.refusals.specs.declared.Verdict.{Verdict}
+use Rattle.refusals.specs.declared.Verdict.the-variants.{Passed, Refused}
+use Rattle.refusals.specs.Verdict.{unless}
 use Rattle.judgement.specs.Environment.{findType, mergeDefinitions, sameForest}
 use Rattle.judgement.specs.Check.{eachName, sameVerdict, mergeVerdict}
 use Rattle.judgement.proofs.Lookup.{merge-first, merge-second}
-use Rattle.environment.specs.Tables.{blankTable, Roots, foundAt, Binds}
-use Rattle.environment.specs.Merging.{HashesAgree, Compared, Mergeable, Rooted, sameRoots, eitherRoot, MergedAs}
+use Rattle.environment.specs.Tables.{Roots, foundAt, Binds}
+use Rattle.book.specs.Tables.{HashesAgree}
+use Rattle.environment.specs.Merging.{Compared, Mergeable, ComparedRoots, sameRoots, eitherRoot, MergedAs}
 use Rattle.environment.proofs.Links.{found-none, found-some, getD-within, in-table}
-use Rattle.environment.proofs.Defines.{blank-length}
 use Rattle.environment.proofs.Ends.{each-cons}
 use Rattle.environment.proofs.Same.{SameAs}
 
@@ -58,7 +58,7 @@ module _ (names : List (List ℕ)) (ns : List ℕ) (a b : ℕ) where
       go (no h) (yes e) = rw (found-some ns a h, found-none ns b e, ← second-none h e)
       go (no h) (no k) = rw (found-some ns a h, found-some ns b k, ← both-some h k)
 
-module _ {ns hashes : List ℕ} {a b : ℕ} (x : Rooted ns hashes a b) (h : a ≡ 65535 → ⊥) (k : b ≡ 65535 → ⊥) where
+module _ {ns hashes : List ℕ} {a b : ℕ} (x : ComparedRoots ns hashes a b) (h : a ≡ 65535 → ⊥) (k : b ≡ 65535 → ⊥) where
   first-tree : WholeIn ns a (x .count)
   first-tree = x .nodes .tree a (x .first h)
 
@@ -120,7 +120,7 @@ module _ {ns hashes init main : List ℕ} {names n : ℕ} (x : Mergeable ns hash
     pub second-at : getD main n 0 ≡ getD main n 65535
     second-at = in-table (x .second) (omega (arith, x .nodes .fewNames))
 
-    pub roots-at : Rooted ns hashes (getD init n 0) (getD main n 0)
+    pub roots-at : ComparedRoots ns hashes (getD init n 0) (getD main n 0)
     roots-at =
         record {
           names = names;
@@ -156,8 +156,8 @@ pub record MergedLeft (init main roots : List ℕ) (n : ℕ) : Type 0 where
   pub long : length roots ≡ 1024
   pub done : (m : ℕ) → m < n → getD roots m 65535 ≡ eitherRoot (getD init m 65535) (getD main m 65535)
 
-pub merged-start : (init main : List ℕ) → MergedLeft init main blankTable 0
-merged-start init main = record { passed = omega arith; long = blank-length; done = λ m h. absurd (omega arith) }
+pub merged-start : (init main both : List ℕ) → length both ≡ 1024 → MergedLeft init main both 0
+merged-start init main both l = record { passed = omega arith; long = l; done = λ m h. absurd (omega arith) }
 
 module _ {init main roots : List ℕ} {n : ℕ} (long : length init ≡ 1024) (long′ : length main ≡ 1024) (l : MergedLeft init main roots n) where
   pub merged-end : 1024 ≤ n → MergedAs init main roots

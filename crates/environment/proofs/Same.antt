@@ -16,7 +16,8 @@ use Rattle.format.specs.Whole.{Within, Whole, RowFits}
 use Rattle.format.proofs.Nodes.{place-below}
 use Rattle.format.proofs.Rows.{opens, kids-whole, node-within, siblings-none, siblings-opens}
 use Rattle.judgement.specs.Environment.{sameForest}
-use Rattle.environment.specs.Merging.{HashesAgree, sameNode, Compared}
+use Rattle.book.specs.Tables.{HashesAgree}
+use Rattle.environment.specs.Merging.{sameNode, Compared}
 
 -- What is answered of two forests, and of two nodes.
 abbrev pub SameAs : List ℕ → List ℕ → Place → ℕ → ℕ → ℕ → ℕ → Bool → Type 0

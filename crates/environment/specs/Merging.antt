@@ -1,39 +1,18 @@
 -- What the merge of two sets of definitions asks and says. Definitions; assumes nothing.
 use mathlib.Core.Path.{_≡_}
 use mathlib.Core.Bool.{Bool, true, cond, _&&_}
-use mathlib.Core.List.{List, []}
+use mathlib.Core.List.{List}
 use Prim.Native.Nat.{ℕ, _≤_, _<_}
-use lib.ListN.{length, getD, replicate}
+use lib.ListN.{length, getD}
 use lib.Dec.{eqb}
-use Rattle.labels.specs.Number.{labelNumber}
 use Rattle.format.specs.declared.Place.{Place}
 use Rattle.format.specs.declared.Place.the-variants.{Root}
 use Rattle.format.specs.Node.{Node, labelValue}
-use Rattle.format.specs.Encode.{flat, nameBytes}
-use Rattle.format.specs.Layout.{namesOf, labelOf}
+use Rattle.format.specs.Layout.{labelOf}
 use Rattle.format.specs.Whole.{Whole, treeAt}
-use Rattle.judgement.specs.Environment.{sameKind, sameLabel, sameForest}
+use Rattle.judgement.specs.Environment.{sameKind, sameForest}
+use Rattle.format.specs.Labels.{sameLabel}
 use Rattle.environment.specs.Tables.{Nodes, Roots}
-
--- ---- Label numbers by name number
-
--- A table that has 0 for each of the 1,024 names.
-unfoldable pub zeroTable : List ℕ
-zeroTable = replicate 1024 0
-
--- The bytes are `count` names.
-pub record NamesIn (bs : List ℕ) (count : ℕ) : Type 0 where
-  pub filled : flat nameBytes (namesOf (length bs) bs) ≡ bs
-  pub counted : length (namesOf (length bs) bs) ≡ count
-  pub few : count ≤ 1024
-
--- A table has the label number of each name; beyond the names 0, which is that of no bytes.
-abbrev pub HashesAgree : List ℕ → List (List ℕ) → Type 0
-HashesAgree hashes names = (n : ℕ) → getD hashes n 0 ≡ labelNumber (getD names n [])
-
-pub record HashesOf (hashes : List ℕ) (names : List (List ℕ)) : Type 0 where
-  pub long : length hashes ≡ 1024
-  pub agree : HashesAgree hashes names
 
 -- ---- Two forests
 
@@ -68,7 +47,7 @@ pub record Mergeable (ns hashes init main : List ℕ) (names : ℕ) : Type 0 whe
   pub second : Roots main count
 
 -- A root of each table, that is none or a node.
-pub record Rooted (ns hashes : List ℕ) (a b : ℕ) : Type 0 where
+pub record ComparedRoots (ns hashes : List ℕ) (a b : ℕ) : Type 0 where
   pub names : ℕ
   pub count : ℕ
   pub nodes : Nodes ns names count

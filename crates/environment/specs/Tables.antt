@@ -1,21 +1,18 @@
 -- Tables by name number, and what they say of an environment. Definitions; assumes nothing.
 use mathlib.Core.Path.{_≡_}
-use mathlib.Core.Bool.{Bool, true, false, cond, _||_}
+use mathlib.Core.Bool.{Bool, false, cond}
 use mathlib.Core.List.{List, [], _∷_, map}
-use Prim.Native.Nat.{ℕ, zero, suc, _+_, _-_, _*_, _≤_, _<_}
-use lib.ListN.{length, getD, replicate}
+use Prim.Native.Nat.{ℕ, _-_, _*_, _≤_, _<_}
+use lib.ListN.{length, getD}
 use lib.Dec.{eqb}
-use Rattle.format.specs.Forest.{Forest}
-use Rattle.format.specs.Node.{Node}
 use Rattle.format.specs.Book.{Definition}
 use Rattle.format.specs.Encode.{Entry}
 use Rattle.format.specs.Layout.{run, entryAt, rowAt}
 use Rattle.format.specs.Whole.{Within, WholeIn, RowFits, treeAt, definitionAt}
 use Rattle.judgement.specs.Environment.{Found, missing, body, findType, End, unbound, circle, ends, aliasEnd}
 use Rattle.judgement.specs.Check.{member, eachName, circleVerdict}
-use Rattle.book.specs.declared.refusal.Refusal as refusal
-use Rattle.book.specs.declared.refusal.Verdict.{Verdict}
-use Rattle.book.specs.declared.refusal.Verdict.the-variants.{Passed, Refused}
+use Rattle.refusals.specs.declared.Refusal as refusal
+use Rattle.refusals.specs.declared.Verdict.the-variants.{Passed, Refused}
 use Rattle.environment.specs.declared.Alias.{Alias}
 use Rattle.environment.specs.declared.Alias.the-variants.{Unbound, Circle, Ends}
 
@@ -39,10 +36,6 @@ pub record Entries (es : List ℕ) (names count from to : ℕ) : Type 0 where
 abbrev pub definitionsIn : List ℕ → List ℕ → ℕ → ℕ → List Definition
 definitionsIn ns es from to = map (definitionAt ns) (run (entryAt es) from (to - from))
 
--- A table that has nothing: 65,535 for each of the 1,024 names.
-unfoldable pub blankTable : List ℕ
-blankTable = replicate 1024 65535
-
 -- ---- A table of roots: 65,535 for a name without definition, else the root of its first one
 unfoldable pub rootIn : List Entry → ℕ → ℕ
 rootIn [] n = 65535
@@ -58,6 +51,10 @@ foundAt ns root = cond (eqb root 65535) missing (body (treeAt ns root))
 -- The table has what the definitions say.
 abbrev pub Binds : List ℕ → List ℕ → List Definition → Type 0
 Binds ns roots ds = (n : ℕ) → findType ds n ≡ foundAt ns (getD roots n 65535)
+
+-- The table is that of these definitions, of which there are so many.
+abbrev pub Tabled : List ℕ → List ℕ → ℕ → List Definition → Type 0
+Tabled ns roots definitions ds = Binds ns roots ds × (length ds ≡ definitions)
 
 -- The first name that an earlier entry has; 65,535 where there is none.
 unfoldable pub repeated : List ℕ → List Entry → ℕ
@@ -135,14 +132,10 @@ pub record NotedAs (ns roots : List ℕ) (names count n : ℕ) (before after : L
 
 -- The lowest name whose chain never ends, as the check refuses it; and, where there is none, all ends.
 pub record AliasEndsAs (ns roots : List ℕ) (names count definitions : ℕ) (ends′ : List ℕ) (circle′ : ℕ) : Type 0 where
-  pub nodes : EndNodes ends′ count
+  pub nodes : circle′ ≡ 65535 → EndNodes ends′ count
   pub lowest : (ds : List Definition) → Binds ns roots ds → length ds ≡ definitions →
       eachName (λ n. circleVerdict ds n (findType ds n)) 0 names ≡ cond (eqb circle′ 65535) Passed (Refused (refusal.Refusal.Circle circle′))
   pub all : circle′ ≡ 65535 → (ds : List Definition) → Binds ns roots ds → length ds ≡ definitions → Chains ns ends′ names ds
-
--- The table that is made of them, which has nothing to say where a chain never ends.
-unfoldable pub endsIf : ℕ → List ℕ → List ℕ
-endsIf circle′ ends′ = cond (eqb circle′ 65535) ends′ blankTable
 
 -- A node of a book, with a table of alias ends.
 pub record Ended (ns ends′ : List ℕ) (node : ℕ) : Type 0 where
@@ -158,3 +151,7 @@ endIs kind ns ends′ node =
     cond (eqb (rowAt ns node .kind) 18)
     (let e = getD ends′ (rowAt ns node .value) 65535 in cond (eqb e 65535) false (eqb (rowAt ns e .kind) kind))
     (eqb (rowAt ns node .kind) kind)
+
+-- The node at which the chain from a node ends; 65,535 for none.
+unfoldable pub endNode : List ℕ → List ℕ → ℕ → ℕ
+endNode ns ends′ node = cond (eqb (rowAt ns node .kind) 18) (getD ends′ (rowAt ns node .value) 65535) node

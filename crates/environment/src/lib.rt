@@ -1,4 +1,5 @@
-// What names stand for: type_env.rs. A table from name number to definition is made once a call, and so is one of alias ends.
+// What names stand for: type_env.rs. A table from name number to definition is made once a call, and so is one of alias ends; both
+// are lent by the caller.
 // Functions ask of their caller what an admitted book gives: nodes that are whole trees with numbers in range (specs/Tables.antt).
 ghost use mathlib.Core.Path.{_≡_};
 ghost use mathlib.Core.List.{List};
@@ -7,34 +8,26 @@ ghost use lib.ListN.{length};
 ghost use Rattle.format.specs.Book.{Definition};
 ghost use Rattle.format.specs.Whole.{treeAt};
 ghost use Rattle.judgement.specs.Environment.{chainFrom};
-ghost use Rattle.environment.specs.Tables.{blankTable, Nodes, Entries, Roots, Binds, asEnd, InRange, DefinesAs, Ended, EndKnown, FollowedAs, Unfinished, endBefore, Unbegun, NotedAs, AliasEndsAs, endsIf, endIs};
+ghost use Rattle.book.specs.Tables.{blankTable};
+ghost use Rattle.environment.specs.Tables.{Nodes, Entries, Roots, Binds, asEnd, InRange, DefinesAs, Ended, EndKnown, FollowedAs, Unfinished, endBefore, Unbegun, NotedAs, AliasEndsAs, endIs, endNode};
 
-pub mod empty;
 pub mod merge;
 
 use book::kinds::Kind;
 use book::read::Entry;
 use book::read::Node;
 
-// A number for each name. `twice` is the first name defined twice, or NONE.
+// What a table has for a name: a node, or one of these.
 pub struct Table {
-    pub roots: [u16; 1024],
-    pub twice: u16,
+    pub entry: u16,
 }
 
 impl Table {
     // No node, and no name.
     pub const NONE: u16 = 65535;
-}
 
-// A node number for each of the 1,024 names.
-pub type ByName = [u16; 1024];
-
-// A table that has nothing.
-pub fn blank() -> ByName
-    ensures { λ r. ⌜ r ≡ blankTable ⌝ }
-{
-    [65535u16; 1024]
+    // An end that is not known yet, in a table that is being made; and that of a chain that never ends.
+    const OPEN: u16 = 65534;
 }
 
 // Enters the definitions of entries `from` up to `to` in a table that has nothing: the first name defined twice, or NONE.
@@ -60,16 +53,6 @@ pub fn enter(
         d += 1;
     }
     Table::NONE
-}
-
-// The table of the definitions of entries `from` up to `to`.
-pub fn define(entries: &[u8], names: usize, nodes: usize, from: usize, to: usize) -> Table
-    requires { ⌜ Entries (now entries) names nodes from to × (names ≤ 1024) × (nodes ≤ 4096) ⌝ }
-    ensures { λ r. ⌜ DefinesAs (now (entries .entry)) nodes from to (r .roots) (r .twice) ⌝ }
-{
-    let mut roots = blank();
-    let twice = enter(entries, names, nodes, from, to, &mut roots);
-    Table { roots, twice }
 }
 
 // Where an alias chain ends: at a name without definition, never, or at a node that is no name.
@@ -113,17 +96,6 @@ pub fn alias_end(
     }
 }
 
-// A node for each name: where the chain of its definition ends. `circle` is the lowest name whose chain never ends, or NONE.
-pub struct AliasEnds {
-    pub ends: [u16; 1024],
-    pub circle: u16,
-}
-
-impl AliasEnds {
-    // An end that is not known yet, in a table that is being made; and that of a chain that never ends.
-    const OPEN: u16 = 65534;
-}
-
 // What the table has for a name of this root before any chain is followed.
 fn end_before(root: u16) -> u16
     ensures { λ r. ⌜ r ≡ endBefore root ⌝ }
@@ -131,7 +103,7 @@ fn end_before(root: u16) -> u16
     if root == Table::NONE {
         return Table::NONE;
     }
-    AliasEnds::OPEN
+    Table::OPEN
 }
 
 // Opens the ends of all names that have a definition, in a table that has nothing.
@@ -164,11 +136,11 @@ fn follow(
     let mut k = definitions;
     loop {
         let known = ends[m];
-        if known != AliasEnds::OPEN {
+        if known != Table::OPEN {
             return known;
         }
         if k == 0 {
-            return AliasEnds::OPEN;
+            return Table::OPEN;
         }
         k -= 1;
         let root = roots[m];
@@ -195,7 +167,7 @@ fn note(
     ensures { λ r. ⌜ NotedAs (now (rows .entry)) (now (roots .entry)) names nodes n (now (ends .entry)) (now (ends .exit)) ⌝ }
 {
     let mut m = n;
-    while ends[m] == AliasEnds::OPEN {
+    while ends[m] == Table::OPEN {
         ends[m] = end;
         let t = Node::at(rows, roots[m] as usize);
         if t.kind != Kind::VAR {
@@ -216,13 +188,13 @@ pub fn find_ends(
     ends: &mut [u16],
 ) -> u16
     requires { ⌜ Nodes (now rows) names nodes × Roots (now roots) nodes × (now ends ≡ blankTable) ⌝ }
-    ensures { λ r. ⌜ AliasEndsAs (now (rows .entry)) (now (roots .entry)) names nodes definitions (endsIf r (now (ends .exit))) r ⌝ }
+    ensures { λ r. ⌜ AliasEndsAs (now (rows .entry)) (now (roots .entry)) names nodes definitions (now (ends .exit)) r ⌝ }
 {
     open_ends(roots, names, ends);
     let mut n = 0;
     while n < names {
         let end = follow(rows, roots, ends, names, nodes, definitions, n);
-        if end == AliasEnds::OPEN {
+        if end == Table::OPEN {
             return n as u16;
         }
         note(rows, roots, names, nodes, n, end, ends);
@@ -231,26 +203,16 @@ pub fn find_ends(
     Table::NONE
 }
 
-// The same by value.
-pub fn alias_ends(
-    rows: &[u8],
-    roots: &[u16],
-    names: usize,
-    nodes: usize,
-    definitions: usize,
-) -> AliasEnds
-    requires { ⌜ Nodes (now rows) names nodes × Roots (now roots) nodes ⌝ }
-    ensures { λ r. ⌜ AliasEndsAs (now (rows .entry)) (now (roots .entry)) names nodes definitions (r .ends) (r .circle) ⌝ }
+// The node at which the chain from a node ends, or NONE, by the table of alias ends.
+pub fn end_of(rows: &[u8], ends: &[u16], node: usize) -> u16
+    requires { ⌜ Ended (now rows) (now ends) node ⌝ }
+    ensures { λ r. ⌜ r ≡ endNode (now (rows .entry)) (now (ends .entry)) node ⌝ }
 {
-    let mut ends = blank();
-    let circle = find_ends(rows, roots, names, nodes, definitions, &mut ends);
-    if circle != Table::NONE {
-        return AliasEnds {
-            ends: blank(),
-            circle,
-        };
+    let t = Node::at(rows, node);
+    if t.kind != Kind::VAR {
+        return node as u16;
     }
-    AliasEnds { ends, circle }
+    ends[t.value as usize]
 }
 
 // Whether the chain from a node ends at a function: `as_func`, by the table of alias ends.
@@ -258,30 +220,14 @@ pub fn as_func(rows: &[u8], ends: &[u16], node: usize) -> bool
     requires { ⌜ Ended (now rows) (now ends) node ⌝ }
     ensures { λ r. ⌜ r ≡ endIs 23 (now (rows .entry)) (now (ends .entry)) node ⌝ }
 {
-    ends_at(rows, ends, Kind::FUNC, node)
-}
-
-// Whether it ends at a service: `as_service`, below a class's top.
-pub fn as_service(rows: &[u8], ends: &[u16], node: usize) -> bool
-    requires { ⌜ Ended (now rows) (now ends) node ⌝ }
-    ensures { λ r. ⌜ r ≡ endIs 24 (now (rows .entry)) (now (ends .entry)) node ⌝ }
-{
-    ends_at(rows, ends, Kind::SERVICE, node)
-}
-
-// Whether the chain from a node ends at a node of this kind.
-fn ends_at(rows: &[u8], ends: &[u16], kind: u8, node: usize) -> bool
-    requires { ⌜ Ended (now rows) (now ends) node ⌝ }
-    ensures { λ r. ⌜ r ≡ endIs kind (now (rows .entry)) (now (ends .entry)) node ⌝ }
-{
     let t = Node::at(rows, node);
     if t.kind != Kind::VAR {
-        return t.kind == kind;
+        return t.kind == Kind::FUNC;
     }
     let e = ends[t.value as usize];
     if e == Table::NONE {
         return false;
     }
     let u = Node::at(rows, e as usize);
-    u.kind == kind
+    u.kind == Kind::FUNC
 }

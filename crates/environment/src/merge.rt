@@ -5,50 +5,23 @@ ghost use mathlib.Core.List.{List};
 ghost use Prim.Native.Nat.{ℕ};
 ghost use lib.ListN.{length};
 ghost use Rattle.format.specs.Book.{Definition};
-ghost use Rattle.format.specs.Layout.{namesOf, labelOf, nodeOf, siblings};
+ghost use Rattle.format.specs.Layout.{labelOf, nodeOf, siblings};
 ghost use Rattle.format.specs.Whole.{RowFits};
 ghost use Rattle.book.specs.Reading.{asRow};
-ghost use Rattle.judgement.specs.Environment.{labelId, sameLabel, sameForest};
+ghost use Rattle.format.specs.Labels.{labelId, sameLabel};
+ghost use Rattle.judgement.specs.Environment.{sameForest};
 ghost use Rattle.judgement.specs.Check.{mergeVerdict};
 ghost use Rattle.environment.specs.Tables.{Binds};
-ghost use Rattle.environment.specs.Merging.{zeroTable, NamesIn, HashesAgree, HashesOf, StoredLabel, sameNode, Compared, Mergeable, Rooted, sameRoots, eitherRoot, MergedAs};
-use crate::ByName;
+ghost use Rattle.book.specs.Tables.{HashesAgree};
+ghost use Rattle.environment.specs.Merging.{StoredLabel, sameNode, Compared, Mergeable, ComparedRoots, sameRoots, eitherRoot, MergedAs};
 use crate::Table;
 use book::kinds::Kind;
 use book::kinds::Limits;
 use book::read::Node;
-use book::refusal::Refusal;
-use book::refusal::Verdict;
 use format::Place;
 use labels::Label;
-
-// A label number for each of the 1,024 names.
-pub type HashByName = [u32; 1024];
-
-// A table that has 0 for each name.
-pub fn zeros() -> HashByName
-    ensures { λ r. ⌜ r ≡ zeroTable ⌝ }
-{
-    [0u32; 1024]
-}
-
-// The label number of each name, in one pass over their bytes.
-pub fn name_hashes(names: &[u8], count: usize) -> HashByName
-    requires { ⌜ NamesIn (now names) count ⌝ }
-    ensures { λ r. ⌜ HashesOf r (namesOf (length (now (names .entry))) (now (names .entry))) ⌝ }
-{
-    let mut hashes = zeros();
-    let mut at = 0;
-    let mut n = 0;
-    while n < count {
-        let from = at + 1;
-        let until = from + names[at] as usize;
-        hashes[n] = labels::idl_hash(&names[from..until]);
-        at = until;
-        n += 1;
-    }
-    hashes
-}
+use refusals::Refusal;
+use refusals::Verdict;
 
 // The number of a label.
 fn label_id(hashes: &[u32], kind: u8, label: u32) -> u32
@@ -131,7 +104,7 @@ pub fn same_trees(
 
 // Whether the trees at two roots are the same, or one is none.
 fn same_roots(rows: &[u8], hashes: &[u32], a: u16, b: u16) -> bool
-    requires { ⌜ Rooted (now rows) (now hashes) a b ⌝ }
+    requires { ⌜ ComparedRoots (now rows) (now hashes) a b ⌝ }
     ensures { λ r. ⌜ ((names : List (List ℕ)) → HashesAgree (now (hashes .entry)) names → r ≡ sameRoots names (now (rows .entry)) a b) ⌝ }
 {
     if a == Table::NONE {
@@ -173,16 +146,14 @@ fn either_root(a: u16, b: u16) -> u16
     a
 }
 
-// The table of both: a name that both have keeps its first definition.
-pub fn merged(init: &[u16], main: &[u16]) -> ByName
-    requires { ⌜ (length (now init) ≡ 1024) × (length (now main) ≡ 1024) ⌝ }
-    ensures { λ r. ⌜ MergedAs (now (init .entry)) (now (main .entry)) r ⌝ }
+// The table of both, into `both`: a name that both have keeps its first definition.
+pub fn merged(init: &[u16], main: &[u16], both: &mut [u16])
+    requires { ⌜ (length (now init) ≡ 1024) × (length (now main) ≡ 1024) × (length (now both) ≡ 1024) ⌝ }
+    ensures { λ r. ⌜ MergedAs (now (init .entry)) (now (main .entry)) (now (both .exit)) ⌝ }
 {
-    let mut roots = crate::blank();
     let mut n = 0;
     while n < Limits::NAMES {
-        roots[n] = either_root(init[n], main[n]);
+        both[n] = either_root(init[n], main[n]);
         n += 1;
     }
-    roots
 }

@@ -5,23 +5,26 @@ use Prim.Native.Nat.{ℕ}
 use Rattle.labels.specs.Number.{weightedSum, labelNumber}
 use Rattle.format.specs.Forest.{beside}
 use Rattle.format.specs.Book.{Book}
-use Rattle.book.specs.Reading.{nameIn}
-use Rattle.judgement.specs.Environment.{methodsAt, sameKind, labelId, sameLabel, sameForest}
+use Rattle.format.specs.Layout.{nameIn}
+use Rattle.judgement.specs.Environment.{methodsAt, sameKind, sameForest}
+use Rattle.format.specs.Labels.{labelId, sameLabel}
 use Rattle.judgement.specs.Actor.{methodsOf, importedMethods, mergedActor}
 use Rattle.judgement.specs.Check.{serviceVerdict, importedVerdict, hashesVerdict, mainVerdict, checkBytes, initCheckBytes}
-use Rattle.judgement.specs.Check as checks
-use Rattle.judgement.specs.Empty.{visitField, visitFields, visitType, visitFound, store, visitMarked, isEmpty, keysFrom, visitAll, isEmptyMark, emptyFrom, replaceEmpty, emptyNames}
-use Rattle.listing.specs.Recursive.{note, noteName, markArm, go, see, listed, inferFrom, inferRec, ascending}
-use Rattle.listing.specs.Project.{without, take′, projectFrom, lowest}
-use Rattle.listing.specs.Questions.{Outcome, marked, marksOver, leftOver, projected, project, emptiness, onLayout}
+use Rattle.listing.specs.Empty.{visitField, visitFields, visitType, visitFound, store, visitMarked, isEmpty, keysFrom, visitAll, isEmptyMark, emptyFrom, replaceEmpty}
+use Rattle.listing.specs.Emptiness.{emptyNames, emptiness}
+use Rattle.listing.specs.Recursive.{note, noteName, markArm, go, see, listed, inferFrom, inferRec, sorted}
+use Rattle.listing.specs.Project.{without, take′, projectFrom, lowest, leftOver, projected, project}
+use Rattle.refusals.specs.Outcome.{Outcome, asked, judged}
+use Rattle.listing.specs.Marks.{marked, marksOver}
+use Rattle.format.specs.Admission.{admittedBy, admitted}
 use Rattle.listing.proofs.Examples.{init-listed}
 use Rattle.samples.proofs.Computed.{layout-computed, samples-computed}
-use Rattle.examples.specs.Answer.{Question, Answer, refusal, ofVerdict, ofOutcome, spelt, listMarks, answer}
+use Rattle.examples.specs.Answer.{Question, Answer, refusedAs, ofVerdict, ofOutcome, spelt, listMarks, answer}
 use Rattle.examples.specs.Table.{Example, examples}
 
 -- The marks over a list, by every definition of the check and of both kinds of list besides.
 unfoldable pub marks-computed : Book → List ℕ → Outcome (List ℕ)
-unfolding init-listed beside note noteName markArm go see listed inferFrom inferRec ascending marked marksOver
+unfolding init-listed beside note noteName markArm go see listed inferFrom inferRec sorted marked marksOver
 marks-computed = marksOver
 
 -- The answers, by every definition of the format, the check and the questions.
@@ -30,10 +33,10 @@ unfolding
     weightedSum labelNumber layout-computed nameIn marks-computed
     methodsAt sameKind labelId sameLabel sameForest
     methodsOf importedMethods mergedActor
-    serviceVerdict importedVerdict hashesVerdict mainVerdict checks.onLayout checkBytes initCheckBytes
+    serviceVerdict importedVerdict hashesVerdict mainVerdict checkBytes initCheckBytes
     visitField visitFields visitType visitFound store visitMarked isEmpty keysFrom visitAll isEmptyMark emptyFrom replaceEmpty emptyNames
-    without take′ projectFrom lowest leftOver projected project emptiness onLayout
-    refusal ofVerdict ofOutcome spelt listMarks answer
+    without take′ projectFrom lowest leftOver projected project emptiness admittedBy admitted asked judged
+    refusedAs ofVerdict ofOutcome spelt listMarks answer
 answer-computed = answer
 
 -- The table, by the bytes in it.

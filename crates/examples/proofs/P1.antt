@@ -1,6 +1,6 @@
 -- P1 of document 01, as it is read from its bytes, is a book and a draft as demand 3 speaks of. Assumes nothing.
 --     p1-answers, p1-listed, p1-marked    the demand's sentences hold of it; its list is pair and tree, and tree is marked
---     p1-read, p1-list, p1-marks          its bytes, and what is answered, by computation
+--     p1-read, p1-admitted, p1-list, p1-marks          its bytes, and what is answered, by computation
 --     p1-draft                            they hold of it as a draft
 use mathlib.Core.Path.{_≡_, refl, sym, ap, _∙_}
 use mathlib.Core.List.{[], _∷_, map, List·Memᴰ·head}
@@ -8,12 +8,17 @@ use Prim.Native.Nat.{ℕ}
 use native.Mathlib.Omega.{arith}
 use Rattle.format.specs.Forest.{end}
 use Rattle.format.specs.Layout.{whole, layout}
-use Rattle.book.specs.declared.refusal.Verdict.the-variants.{Passed}
+use Rattle.format.specs.Admission.{admittedBy, admitted}
+use Rattle.refusals.specs.declared.Verdict.the-variants.{Passed}
 use Rattle.judgement.specs.Actor.{mainActor, resolveActor}
 use Rattle.judgement.specs.Check.{check}
-use Rattle.judgement.specs.WellFormed.{Distinct, nameOf}
+use Rattle.format.specs.Distinct.{Distinct}
+use Rattle.judgement.specs.WellFormed.{definedName}
 use Rattle.judgement.proofs.Decs.{once-says}
-use Rattle.listing.specs.Questions.{given, list, marksOver, draftDefinitions}
+use Rattle.refusals.specs.Outcome.{given}
+use Rattle.listing.specs.List.{list}
+use Rattle.listing.specs.Marks.{marksOver}
+use Rattle.listing.specs.DraftList.{draftDefinitions}
 use Rattle.listing.proofs.Examples.{drafted}
 use Rattle.listing.proofs.Demand3.{Answers, DraftAnswers, sent, sent-draft}
 use Rattle.samples.specs.Bytes as bytes
@@ -27,6 +32,10 @@ pub p1-read : layout bytes.p1 ≡ whole p1
 unfolding samples
 p1-read = all-read _ (List·Memᴰ·head refl)
 
+pub p1-admitted : admitted bytes.p1 ≡ given p1
+unfolding admitted admittedBy
+p1-admitted = rw p1-read
+
 -- ---- As a book: it passes, and has an actor
 passes : check p1 ≡ Passed
 unfolding marks-computed samples-computed
@@ -37,7 +46,7 @@ unfolding marks-computed samples-computed
 has-actor e = let z : _≡_ {A = ℕ} 0 1 = cc in omega arith
 
 pub p1-answers : Answers p1
-p1-answers = sent bytes.p1 p1 p1-read passes has-actor
+p1-answers = sent bytes.p1 p1 p1-admitted passes has-actor
 
 pub p1-list : list p1 ≡ given (3 ∷ 6 ∷ [])
 unfolding marks-computed samples-computed
@@ -58,9 +67,9 @@ main-actor : mainActor p1 ≡ end → ⊥
 unfolding drafted samples-computed
 main-actor e = let z : _≡_ {A = ℕ} 0 1 = cc in omega arith
 
-once : Distinct (map nameOf (draftDefinitions p1))
+once : Distinct (map definedName (draftDefinitions p1))
 unfolding drafted samples-computed
 once = once-says (draftDefinitions p1) .0 refl
 
 pub p1-draft : DraftAnswers p1
-p1-draft = sent-draft bytes.p1 p1 p1-read main-actor once
+p1-draft = sent-draft bytes.p1 p1 p1-admitted main-actor once

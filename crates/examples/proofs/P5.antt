@@ -5,7 +5,8 @@ use mathlib.Core.List.{[], _∷_, List·Memᴰ·head, List·Memᴰ·tail}
 use Rattle.format.specs.Book.{Definition}
 use Rattle.format.specs.Layout.{whole, layout}
 use Rattle.judgement.specs.Environment.{mainDefinitions}
-use Rattle.judgement.specs.WellFormed.{here, first, arrived, onward}
+use Rattle.format.specs.Occurs.{here, first}
+use Rattle.judgement.specs.WellFormed.{arrived, onward}
 use Rattle.samples.specs.Bytes as bytes
 use Rattle.samples.specs.Written.{p5}
 use Rattle.samples.specs.Table.{samples}

@@ -4,15 +4,19 @@ use mathlib.Core.List.{List, map}
 use Prim.Native.Nat.{ℕ}
 use Rattle.labels.specs.Number.{labelNumber}
 use Rattle.format.specs.Book.{Book}
-use Rattle.format.specs.Layout.{layout}
-use Rattle.book.specs.declared.refusal.Refusal.{Refusal}
-use Rattle.book.specs.declared.refusal.Verdict.{Verdict}
-use Rattle.book.specs.declared.refusal.Verdict.the-variants.{Passed, Refused}
-use Rattle.book.specs.Refusal as refusals
-use Rattle.book.specs.Reading.{nameIn}
+use Rattle.refusals.specs.declared.Refusal.{Refusal}
+use Rattle.refusals.specs.declared.Verdict.{Verdict}
+use Rattle.refusals.specs.declared.Verdict.the-variants.{Passed, Refused}
+use Rattle.refusals.specs.Refusal as refusals
+use Rattle.format.specs.Layout.{nameIn}
 use Rattle.judgement.specs.Check.{checkBytes, initCheckBytes}
-use Rattle.listing.specs.Questions.{Outcome, given, marksOver, onLayout}
-use Rattle.listing.specs.Questions as questions
+use Rattle.refusals.specs.Outcome.{Outcome, given}
+use Rattle.refusals.specs.Outcome as outcomes
+use Rattle.listing.specs.Marks.{marksOver}
+use Rattle.format.specs.Admission.{onBytes}
+use Rattle.listing.specs.List as lists
+use Rattle.listing.specs.Project as projection
+use Rattle.listing.specs.Emptiness as empties
 
 -- The hash is asked of a name's bytes, all others of a book's. Marks are those of the book's own list; names are asked for by number.
 pub data Question : Type 0 where
@@ -27,15 +31,15 @@ pub data Answer : Type 0 where
   names : List (List ℕ) → Answer
   methods : (positions : List ℕ) → Answer
 
-unfoldable pub refusal : List ℕ → Refusal → Answer
-refusal bs r = refused (refusals.numberOf r) (nameIn bs (refusals.nameOf r))
+unfoldable pub refusedAs : List ℕ → Refusal → Answer
+refusedAs bs r = refused (refusals.numberOf r) (nameIn bs (refusals.nameOf r))
 
 unfoldable pub ofVerdict : List ℕ → Verdict → Answer
 ofVerdict bs Passed = passes
-ofVerdict bs (Refused r) = refusal bs r
+ofVerdict bs (Refused r) = refusedAs bs r
 
 unfoldable pub ofOutcome : List ℕ → (List ℕ → Answer) → Outcome (List ℕ) → Answer
-ofOutcome bs say (questions.refused r) = refusal bs r
+ofOutcome bs say (outcomes.refused r) = refusedAs bs r
 ofOutcome bs say (given l) = say l
 
 unfoldable pub spelt : List ℕ → List ℕ → Answer
@@ -43,14 +47,14 @@ spelt bs l = names (map (nameIn bs) l)
 
 -- The marks over what was listed.
 unfoldable pub listMarks : Book → Outcome (List ℕ) → Outcome (List ℕ)
-listMarks b (questions.refused r) = questions.refused r
+listMarks b (outcomes.refused r) = outcomes.refused r
 listMarks b (given l) = marksOver b l
 
 unfoldable pub answer : Question → List ℕ → Answer
 answer hash bs = number (labelNumber bs)
 answer check bs = ofVerdict bs (checkBytes bs)
 answer initCheck bs = ofVerdict bs (initCheckBytes bs)
-answer list bs = ofOutcome bs (spelt bs) (onLayout questions.list (layout bs))
-answer marks bs = ofOutcome bs (spelt bs) (onLayout (λ b. listMarks b (questions.list b)) (layout bs))
-answer emptiness bs = ofOutcome bs (spelt bs) (onLayout questions.emptiness (layout bs))
-answer (project asked) bs = ofOutcome bs methods (onLayout (λ b. questions.project b asked) (layout bs))
+answer list bs = ofOutcome bs (spelt bs) (onBytes lists.list bs)
+answer marks bs = ofOutcome bs (spelt bs) (onBytes (λ b. listMarks b (lists.list b)) bs)
+answer emptiness bs = ofOutcome bs (spelt bs) (onBytes empties.emptiness bs)
+answer (project asked) bs = ofOutcome bs methods (onBytes (λ b. projection.project b asked) bs)

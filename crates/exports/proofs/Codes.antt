@@ -2,12 +2,12 @@
 use mathlib.Core.Path.{_≡_, sym, _∙_}
 use Prim.Native.Nat.{ℕ, _+_, _*_}
 use borrow.Author.Tests.{ne-eqb}
-use Rattle.book.specs.declared.refusal.Refusal.{Refusal}
-use Rattle.book.specs.declared.refusal.Verdict.{Verdict}
-use Rattle.book.specs.declared.refusal.Verdict.the-variants.{Passed, Refused}
-use Rattle.book.specs.Refusal.{numberOf, nameOf, neededOf}
-use Rattle.analysis.specs.declared.hand.Answer.{Answer}
-use Rattle.analysis.specs.declared.hand.Answer.the-variants.{Given, Refused as RefusedAnswer}
+use Rattle.refusals.specs.declared.Refusal.{Refusal}
+use Rattle.refusals.specs.declared.Verdict.{Verdict}
+use Rattle.refusals.specs.declared.Verdict.the-variants.{Passed, Refused}
+use Rattle.refusals.specs.Refusal.{numberOf, nameOf, neededOf}
+use Rattle.refusals.specs.declared.Answer.{Answer}
+use Rattle.refusals.specs.declared.Answer.the-variants.{Given, Refused as RefusedAnswer}
 use Rattle.exports.specs.Coded.{coded, lowOf, codedBy}
 
 pub passed-code : {v : Verdict} → v ≡ Passed → 0 ≡ coded v

@@ -1,5 +1,3 @@
 -- Laws that the proofs of the functions cite.
 pub mod Codes
-pub mod Few
-pub mod Methods
 pub mod Small

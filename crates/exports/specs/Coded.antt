@@ -3,15 +3,15 @@ use mathlib.Core.Bool.{cond}
 use mathlib.Core.List.{List}
 use Prim.Native.Nat.{ℕ, _+_, _*_, _<_}
 use lib.Dec.{eqb}
-use Rattle.book.specs.declared.refusal.Refusal.{Refusal}
-use Rattle.book.specs.declared.refusal.Verdict.{Verdict}
-use Rattle.book.specs.declared.refusal.Verdict.the-variants.{Passed, Refused}
-use Rattle.book.specs.Refusal.{numberOf, nameOf, neededOf}
+use Rattle.refusals.specs.declared.Refusal.{Refusal}
+use Rattle.refusals.specs.declared.Verdict.{Verdict}
+use Rattle.refusals.specs.declared.Verdict.the-variants.{Passed, Refused}
+use Rattle.refusals.specs.Refusal.{numberOf, nameOf, neededOf}
 use Rattle.format.specs.Book.{Book}
-use Rattle.format.specs.Layout.{layout}
-use Rattle.listing.specs.Questions.{Outcome, fit, onLayout}
-use Rattle.analysis.specs.declared.hand.Answer.{Answer}
-use Rattle.analysis.specs.declared.hand.Answer.the-variants.{Given, Refused as RefusedAnswer}
+use Rattle.refusals.specs.Outcome.{Outcome, fit}
+use Rattle.format.specs.Admission.{onBytes}
+use Rattle.refusals.specs.declared.Answer.{Answer}
+use Rattle.refusals.specs.declared.Answer.the-variants.{Given, Refused as RefusedAnswer}
 
 -- 0 where it passes; else the refusal's row in document 01 in the high 16 bits, and in the low ones the number of its name, 65,535 for none.
 unfoldable pub coded : Verdict → ℕ
@@ -46,5 +46,5 @@ abbrev pub codedUses : Answer → ℕ
 codedUses a = codedBy wide a
 
 -- What a question is answered on bytes, with so many places.
-abbrev pub onBytes : {A : Type 0} → (Book → Outcome (List A)) → List ℕ → ℕ → Outcome (List A)
-onBytes question bs places = fit places (onLayout question (layout bs))
+abbrev pub inPlaces : {A : Type 0} → (Book → Outcome (List A)) → List ℕ → ℕ → Outcome (List A)
+inPlaces question bs places = fit places (onBytes question bs)

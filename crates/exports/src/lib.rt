@@ -2,15 +2,20 @@
 ghost use mathlib.Core.Path.{_≡_};
 ghost use Prim.Native.Nat.{_<_, _/_};
 ghost use lib.ListN.{length};
-ghost use Rattle.book.specs.Refusal.{neededOf};
+ghost use Rattle.refusals.specs.Refusal.{neededOf};
 ghost use Rattle.judgement.specs.Check.{checkBytes, initCheckBytes};
-ghost use Rattle.listing.specs.Questions.{list, initList, draftList, marksOver, uses, project, emptiness};
-ghost use Rattle.analysis.specs.Handed.{answerOf, leftIn};
-ghost use Rattle.questions.specs.Uses.{usesIn};
-ghost use Rattle.exports.specs.Coded.{coded, lowOf, codedAnswer, codedUses, Below, small, wide, onBytes};
-use analysis::hand::Answer;
-use book::refusal::Refusal;
-use book::refusal::Verdict;
+ghost use Rattle.listing.specs.List.{list};
+ghost use Rattle.listing.specs.InitList.{initList};
+ghost use Rattle.listing.specs.DraftList.{draftList};
+ghost use Rattle.listing.specs.Marks.{marksOver};
+ghost use Rattle.listing.specs.Uses.{uses};
+ghost use Rattle.listing.specs.Project.{project};
+ghost use Rattle.listing.specs.Emptiness.{emptiness};
+ghost use Rattle.refusals.specs.Handed.{answerOf, leftIn, usesLeft};
+ghost use Rattle.exports.specs.Coded.{coded, lowOf, codedAnswer, codedUses, Below, small, wide, inPlaces};
+use refusals::Answer;
+use refusals::Refusal;
+use refusals::Verdict;
 
 // A verdict as one number.
 fn code(v: Verdict) -> u32
@@ -27,7 +32,7 @@ fn code(v: Verdict) -> u32
 pub extern "C" fn ludzepin_check(book: &[u8]) -> u32
     ensures { λ r. ⌜ r ≡ coded (checkBytes (now (book .entry))) ⌝ }
 {
-    code(typing::check::check(book))
+    code(questions::check(book))
 }
 
 // The init check of a book.
@@ -35,7 +40,7 @@ pub extern "C" fn ludzepin_check(book: &[u8]) -> u32
 pub extern "C" fn ludzepin_init_check(book: &[u8]) -> u32
     ensures { λ r. ⌜ r ≡ coded (initCheckBytes (now (book .entry))) ⌝ }
 {
-    code(typing::check::init_check(book))
+    code(questions::init_check(book))
 }
 
 // The low bits of a refusal's number.
@@ -74,8 +79,8 @@ fn uses_code(a: Answer) -> u64
 // The definition list of a book, into a lent list of name numbers; 512 places are always enough.
 #[no_mangle]
 pub extern "C" fn ludzepin_list(book: &[u8], out: &mut [u16]) -> u32
-    ensures answer { λ r. ⌜ r ≡ codedAnswer (answerOf (onBytes list (now (book .entry)) (length (now (out .entry))))) ⌝ }
-    ensures left { λ _. ⌜ now (out .exit) ≡ leftIn (onBytes list (now (book .entry)) (length (now (out .entry)))) (now (out .entry)) ⌝ }
+    ensures answer { λ r. ⌜ r ≡ codedAnswer (answerOf (inPlaces list (now (book .entry)) (length (now (out .entry))))) ⌝ }
+    ensures left { λ _. ⌜ now (out .exit) ≡ leftIn (inPlaces list (now (book .entry)) (length (now (out .entry)))) (now (out .entry)) ⌝ }
 {
     answer_code(questions::list(book, out))
 }
@@ -83,8 +88,8 @@ pub extern "C" fn ludzepin_list(book: &[u8], out: &mut [u16]) -> u32
 // The definition list of its init arguments; 512 places are always enough.
 #[no_mangle]
 pub extern "C" fn ludzepin_init_list(book: &[u8], out: &mut [u16]) -> u32
-    ensures answer { λ r. ⌜ r ≡ codedAnswer (answerOf (onBytes initList (now (book .entry)) (length (now (out .entry))))) ⌝ }
-    ensures left { λ _. ⌜ now (out .exit) ≡ leftIn (onBytes initList (now (book .entry)) (length (now (out .entry)))) (now (out .entry)) ⌝ }
+    ensures answer { λ r. ⌜ r ≡ codedAnswer (answerOf (inPlaces initList (now (book .entry)) (length (now (out .entry))))) ⌝ }
+    ensures left { λ _. ⌜ now (out .exit) ≡ leftIn (inPlaces initList (now (book .entry)) (length (now (out .entry)))) (now (out .entry)) ⌝ }
 {
     answer_code(questions::init_list(book, out))
 }
@@ -92,8 +97,8 @@ pub extern "C" fn ludzepin_init_list(book: &[u8], out: &mut [u16]) -> u32
 // The definition list of a draft; 512 places are always enough.
 #[no_mangle]
 pub extern "C" fn ludzepin_draft_list(book: &[u8], out: &mut [u16]) -> u32
-    ensures answer { λ r. ⌜ r ≡ codedAnswer (answerOf (onBytes draftList (now (book .entry)) (length (now (out .entry))))) ⌝ }
-    ensures left { λ _. ⌜ now (out .exit) ≡ leftIn (onBytes draftList (now (book .entry)) (length (now (out .entry)))) (now (out .entry)) ⌝ }
+    ensures answer { λ r. ⌜ r ≡ codedAnswer (answerOf (inPlaces draftList (now (book .entry)) (length (now (out .entry))))) ⌝ }
+    ensures left { λ _. ⌜ now (out .exit) ≡ leftIn (inPlaces draftList (now (book .entry)) (length (now (out .entry)))) (now (out .entry)) ⌝ }
 {
     answer_code(questions::draft_list(book, out))
 }
@@ -102,9 +107,9 @@ pub extern "C" fn ludzepin_draft_list(book: &[u8], out: &mut [u16]) -> u32
 #[no_mangle]
 pub extern "C" fn ludzepin_marks(book: &[u8], list: &[u16], out: &mut [u16]) -> u32
     ensures answer { λ r. ⌜ r ≡
-        codedAnswer (answerOf (onBytes (λ b. marksOver b (now (list .entry))) (now (book .entry)) (length (now (out .entry))))) ⌝ }
+        codedAnswer (answerOf (inPlaces (λ b. marksOver b (now (list .entry))) (now (book .entry)) (length (now (out .entry))))) ⌝ }
     ensures left { λ _. ⌜ now (out .exit) ≡
-        leftIn (onBytes (λ b. marksOver b (now (list .entry))) (now (book .entry)) (length (now (out .entry)))) (now (out .entry)) ⌝ }
+        leftIn (inPlaces (λ b. marksOver b (now (list .entry))) (now (book .entry)) (length (now (out .entry)))) (now (out .entry)) ⌝ }
 {
     answer_code(questions::marks(book, list, out))
 }
@@ -112,8 +117,8 @@ pub extern "C" fn ludzepin_marks(book: &[u8], list: &[u16], out: &mut [u16]) -> 
 // The names that become empty; 512 places are always enough.
 #[no_mangle]
 pub extern "C" fn ludzepin_emptiness(book: &[u8], out: &mut [u16]) -> u32
-    ensures answer { λ r. ⌜ r ≡ codedAnswer (answerOf (onBytes emptiness (now (book .entry)) (length (now (out .entry))))) ⌝ }
-    ensures left { λ _. ⌜ now (out .exit) ≡ leftIn (onBytes emptiness (now (book .entry)) (length (now (out .entry)))) (now (out .entry)) ⌝ }
+    ensures answer { λ r. ⌜ r ≡ codedAnswer (answerOf (inPlaces emptiness (now (book .entry)) (length (now (out .entry))))) ⌝ }
+    ensures left { λ _. ⌜ now (out .exit) ≡ leftIn (inPlaces emptiness (now (book .entry)) (length (now (out .entry)))) (now (out .entry)) ⌝ }
 {
     answer_code(questions::emptiness(book, out))
 }
@@ -122,9 +127,9 @@ pub extern "C" fn ludzepin_emptiness(book: &[u8], out: &mut [u16]) -> u32
 #[no_mangle]
 pub extern "C" fn ludzepin_project(book: &[u8], asked: &[u16], out: &mut [u16]) -> u32
     ensures answer { λ r. ⌜ r ≡
-        codedAnswer (answerOf (onBytes (λ b. project b (now (asked .entry))) (now (book .entry)) (length (now (out .entry))))) ⌝ }
+        codedAnswer (answerOf (inPlaces (λ b. project b (now (asked .entry))) (now (book .entry)) (length (now (out .entry))))) ⌝ }
     ensures left { λ _. ⌜ now (out .exit) ≡
-        leftIn (onBytes (λ b. project b (now (asked .entry))) (now (book .entry)) (length (now (out .entry)))) (now (out .entry)) ⌝ }
+        leftIn (inPlaces (λ b. project b (now (asked .entry))) (now (book .entry)) (length (now (out .entry)))) (now (out .entry)) ⌝ }
 {
     answer_code(questions::project(book, asked, out))
 }
@@ -132,9 +137,9 @@ pub extern "C" fn ludzepin_project(book: &[u8], asked: &[u16], out: &mut [u16]) 
 // The uses of a name, three numbers for each entry; the answer counts entries.
 #[no_mangle]
 pub extern "C" fn ludzepin_uses(book: &[u8], name: u16, out: &mut [u16]) -> u64
-    ensures answer { λ r. ⌜ r ≡ codedUses (answerOf (onBytes (λ b. uses b name) (now (book .entry)) (length (now (out .entry)) / 3))) ⌝ }
+    ensures answer { λ r. ⌜ r ≡ codedUses (answerOf (inPlaces (λ b. uses b name) (now (book .entry)) (length (now (out .entry)) / 3))) ⌝ }
     ensures left { λ _. ⌜ now (out .exit) ≡
-        usesIn (onBytes (λ b. uses b name) (now (book .entry)) (length (now (out .entry)) / 3)) (now (out .entry)) ⌝ }
+        usesLeft (inPlaces (λ b. uses b name) (now (book .entry)) (length (now (out .entry)) / 3)) (now (out .entry)) ⌝ }
 {
     uses_code(questions::uses(book, name, out))
 }

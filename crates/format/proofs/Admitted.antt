@@ -17,7 +17,8 @@ use Rattle.format.specs.declared.Place.the-variants.{Root}
 use Rattle.format.specs.Forest.{Forest, count, preorder}
 use Rattle.format.specs.Node.{Node}
 use Rattle.format.specs.Book.{Definition, File, Book, bodies, actors, trees}
-use Rattle.format.specs.Encode.{Row, rowBytes, sized, Entry, flat, nameBytes, roleNumber, definitionEntries, fileEntries, namesBytes, nodesBytes, definitionsBytes, filesBytes, contentsBytes, encode}
+use Rattle.format.specs.Encode.{Row, rowBytes, sized, Entry, nameBytes, roleNumber, definitionEntries, fileEntries, namesBytes, nodesBytes, definitionsBytes, filesBytes, contentsBytes, encode}
+use Rattle.refusals.specs.Lists.{flat}
 use Rattle.format.specs.Fits.{definitionFits, fileFits, Fits}
 use Rattle.format.specs.Layout.{rowAt, entryAt, run, namesOf, namesPart, nodesPart, definitionsPart, filesPart, rowTrees, siblings, roleOf, whole, layout}
 use Rattle.format.specs.References.{references}

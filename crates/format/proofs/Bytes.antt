@@ -12,7 +12,8 @@ use native.Mathlib.Nat.{not-suc-le-zero, add-zero, add-assoc, zero-mul, suc-mul,
 use native.Mathlib.Omega.{arith}
 use lib.ListN.{length, getD, take, drop, length-append, length-drop}
 use lib.Seq.{take-all, take-length, take-at, drop-at, drop-drop, take-add, getD-take, getD-drop, length-take-le}
-use Rattle.format.specs.Encode.{bytes16, bytes32, flat, Row, rowBytes, Entry, entryBytes, tocRow}
+use Rattle.format.specs.Encode.{bytes16, bytes32, Row, rowBytes, Entry, entryBytes, tocRow}
+use Rattle.refusals.specs.Lists.{flat}
 use Rattle.format.specs.Layout.{le16, le32, rowAt, entryAt, run, part}
 use Rattle.format.specs.Rules.{Bytes}
 use Rattle.format.proofs.Lists.{All, all-of}

@@ -11,7 +11,8 @@ use Rattle.format.specs.declared.Place.the-variants.{Root}
 use Rattle.format.specs.Forest.{Forest, count, preorder, mapForest, afterTrees}
 use Rattle.format.specs.Node.{Node}
 use Rattle.format.specs.Book.{Book, bodies, trees}
-use Rattle.format.specs.Encode.{Row, rowBytes, sized, Entry, entryBytes, flat, namesBytes, nodesBytes, definitionsBytes, filesBytes, contentsBytes, encode}
+use Rattle.format.specs.Encode.{Row, rowBytes, sized, Entry, entryBytes, namesBytes, nodesBytes, definitionsBytes, filesBytes, contentsBytes, encode}
+use Rattle.refusals.specs.Lists.{flat}
 use Rattle.format.specs.Layout.{le32, rowAt, entryAt, run, nodeOf, namesOf, namesPart, nodesPart, definitionsPart, filesPart, rowTrees, siblings, entries, definitionsOf, filesOf, read}
 use Rattle.format.specs.Rules.{Bytes, Rules}
 use Rattle.format.proofs.Lists.{All, all-run, run-length}

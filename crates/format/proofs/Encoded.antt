@@ -15,7 +15,8 @@ use Rattle.format.specs.declared.Place.the-variants.{Root}
 use Rattle.format.specs.Forest.{Forest, count, preorder, mapForest, afterTrees}
 use Rattle.format.specs.Node.{Node}
 use Rattle.format.specs.Book.{File, Book, bodies, actors, trees}
-use Rattle.format.specs.Encode.{Row, sized, flat, nameBytes, definitionEntries, fileEntries, namesBytes, nodesBytes, definitionsBytes, filesBytes, contentsBytes, encode}
+use Rattle.format.specs.Encode.{Row, sized, nameBytes, definitionEntries, fileEntries, namesBytes, nodesBytes, definitionsBytes, filesBytes, contentsBytes, encode}
+use Rattle.refusals.specs.Lists.{flat}
 use Rattle.format.specs.Fits.{maxNames, maxNodes, maxDefinitions, maxFiles, maxBytes, every, isName, ascending, definitionFits, filesRise, fileFits, rolesFit, fits, forestFits, Fits}
 use Rattle.format.specs.Layout.{le32, rowAt, entryAt, run, nodeOf, namesOf, namesPart, nodesPart, definitionsPart, filesPart, rowTrees, siblings, entries, definitionsOf, filesOf, part, read}
 use Rattle.format.specs.Rules.{Contents, Names, Rules, goodEntries}

@@ -13,7 +13,7 @@ use native.Mathlib.Omega.{arith}
 use lib.Dec.{T, eqb, eqb→eq}
 use lib.ListN.{length, getD, take, drop}
 use lib.Seq.{take-append-seam, drop-append-seam}
-use Rattle.format.specs.Encode.{flat}
+use Rattle.refusals.specs.Lists.{flat}
 use Rattle.format.specs.Fits.{every}
 use Rattle.format.specs.Layout.{run}
 use Rattle.format.proofs.Logic.{both}

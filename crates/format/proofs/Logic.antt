@@ -1,11 +1,14 @@
 -- Tests and what they say. Assumes nothing.
 --     both, join, both₃, join₃    two tests, and three
 --     is-true, of-true, is-false  a test that passed or failed, as an equation
+--     same-test                   tests that say the same
+--     clash                       two constructors differ
 --     says                        rules for `simp`: `simp says at h` makes statements of a test that passed, `simp says p` a test of their proofs
 use mathlib.Core.Path.{_≡_, refl, sym, subst}
 use mathlib.Core.Logic.{_↔_}
 use mathlib.Core.Bool.{Bool, true, false, _&&_}
 use Prim.Native.Nat.{ℕ, _≤_}
+use native.Mathlib.Omega.{arith}
 use lib.Dec.{T, leb, eqb, leb→le, le→leb, eqb→eq, eqb-refl}
 
 pub both : (a b : Bool) → T (a && b) → T a × T b
@@ -32,6 +35,17 @@ of-true b e = subst T (sym e) tt
 pub is-false : (b : Bool) → (T b → ⊥) → b ≡ false
 is-false true h = absurd (h tt)
 is-false false h = refl
+
+-- tests that say the same
+pub same-test : (b c : Bool) → T b ↔ T c → b ≡ c
+same-test true true i = refl
+same-test true false i = absurd (i .0 tt)
+same-test false true i = absurd (i .1 tt)
+same-test false false i = refl
+
+-- Two constructors differ: `clash cc`, where equal ones are at hand.
+pub clash : {A : Type 0} → _≡_ {A = ℕ} 0 1 → A
+clash e = absurd (omega arith)
 
 pub and-says : (a b : Bool) → T (a && b) ↔ (T a × T b)
 and-says a b = (both a b, λ p. join a b (p .0) (p .1))

@@ -16,7 +16,8 @@ use native.Mathlib.Omega.{arith}
 use lib.Dec.{T, leb, ltb, eqb, leb→le, ltb→lt, le→leb, lt→ltb, eqb→eq, eqb-refl}
 use lib.ListN.{length, getD, take, drop, length-append, length-take, length-drop, drop-of-length-le, take-append-drop}
 use lib.Seq.{drop-cons, drop-drop, drop-at, take-append-seam, drop-append-seam, length-take-le}
-use Rattle.format.specs.Encode.{flat, nameBytes}
+use Rattle.refusals.specs.Lists.{flat}
+use Rattle.format.specs.Encode.{nameBytes}
 use Rattle.format.specs.Fits.{every, isByte, isName}
 use Rattle.format.specs.Layout.{namesOf, same}
 use Rattle.format.specs.Rules.{Bytes}

@@ -12,16 +12,17 @@ use lib.ListN.{length, getD, set, replicate, length-replicate, List·getD-map}
 use lib.Seq.{getD-set-same, getD-set-other}
 use Rattle.format.specs.Forest.{Forest, end, tree, preorder}
 use Rattle.format.specs.Node.{Kind, VarT, InitT, Node}
-use Rattle.format.specs.Encode.{Row, flat}
+use Rattle.format.specs.Encode.{Row}
+use Rattle.refusals.specs.Lists.{flat}
 use Rattle.format.specs.Layout.{rowAt, run, kinds, kindOf, nodeOf, siblings}
-use Rattle.format.specs.References.{nameOf, references}
+use Rattle.format.specs.References.{referenceOf, references}
 use Rattle.format.proofs.Lists.{All, flat-append}
 use Rattle.format.proofs.Rows.{preorder-siblings}
 use Rattle.format.specs.Whole.{RowFits}
 
 -- The names among nodes, and the values of the rows of kind 18: each in order.
 abbrev pub namesIn : List Node → List ℕ
-namesIn ns = flat (λ (n : Node). nameOf (n .kind)) ns
+namesIn ns = flat (λ (n : Node). referenceOf (n .kind)) ns
 
 unfoldable pub varsOf : List Row → List ℕ
 varsOf [] = []
@@ -31,8 +32,8 @@ pub references-preorder : (f : Forest Node) → references f ≡ namesIn (preord
 unfolding references preorder flat
 references-preorder end = refl
 references-preorder (tree n k m) =
-    ap (λ (l : List ℕ). nameOf (n .kind) ++ l)
-    (ap₂ _++_ (references-preorder k) (references-preorder m) ∙ sym (flat-append (λ (a : Node). nameOf (a .kind)) (preorder k) (preorder m)))
+    ap (λ (l : List ℕ). referenceOf (n .kind) ++ l)
+    (ap₂ _++_ (references-preorder k) (references-preorder m) ∙ sym (flat-append (λ (a : Node). referenceOf (a .kind)) (preorder k) (preorder m)))
 
 -- ---- Kind 18 alone is a name
 
@@ -52,9 +53,9 @@ kind-alone {A} f d a one v h i m k = sym (List·getD-map f (kinds v) k InitT) �
     go (yes e) = rw (eq-eqb k one e) (rw e (getD-set-same (replicate 26 d) one a d (rw (length-replicate {A = A} 26 d) h)))
     go (no n) = rw (ne-eqb k one n) (getD-set-other (replicate 26 d) one k a d n ∙ everywhere 26 k d)
 
-pub kind-name : (k v : ℕ) → nameOf (kindOf k v) ≡ cond (eqb k 18) (v ∷ []) []
-unfolding nameOf kinds
-kind-name k v = kind-alone nameOf [] (v ∷ []) 18 v (omega arith) refl refl k
+pub kind-name : (k v : ℕ) → referenceOf (kindOf k v) ≡ cond (eqb k 18) (v ∷ []) []
+unfolding referenceOf kinds
+kind-name k v = kind-alone referenceOf [] (v ∷ []) 18 v (omega arith) refl refl k
 
 -- A node is a name exactly if its row is of kind 18, and then the row's value is that name.
 pub node-var : (r : Row) → r .kind ≡ 18 → nodeOf r .kind ≡ VarT (r .value)
@@ -62,8 +63,8 @@ unfolding nodeOf kindOf kinds
 node-var r h = rw h
 
 pub var-node : (r : Row) {n : ℕ} → nodeOf r .kind ≡ VarT n → (r .kind ≡ 18) × (r .value ≡ n)
-unfolding nodeOf nameOf
-var-node r {n} h = go (eqb (r .kind) 18) refl (sym (kind-name (r .kind) (r .value)) ∙ ap nameOf h)
+unfolding nodeOf referenceOf
+var-node r {n} h = go (eqb (r .kind) 18) refl (sym (kind-name (r .kind) (r .value)) ∙ ap referenceOf h)
   where
     go : (b : Bool) → eqb (r .kind) 18 ≡ b → cond b (r .value ∷ []) [] ≡ n ∷ [] → (r .kind ≡ 18) × (r .value ≡ n)
     go true e q = (eqb-true (r .kind) 18 e, ap (λ (l : List ℕ). getD l 0 0) q)

@@ -14,7 +14,7 @@ use lib.Dec.{leb, leb·suc-zero}
 use lib.ListN.{length, length-append}
 use Rattle.format.specs.Forest.{Forest, end, tree, count, breadth, preorder, beside, mapForest}
 use Rattle.format.specs.Encode.{Row}
-use Rattle.format.specs.Layout.{rowAt, run, first, after, build, nodeOf, rowTrees, siblings}
+use Rattle.format.specs.Layout.{rowAt, run, first, treesAfter, build, nodeOf, rowTrees, siblings}
 use Rattle.format.specs.Rules.{Sized}
 use Rattle.format.specs.Whole.{Within, Whole, WholeAt}
 use Rattle.format.proofs.Lists.{same-parts, run-length, run-append}
@@ -23,12 +23,12 @@ use Rattle.format.proofs.Trees.{length-preorder, beside-end, count-map,
 -- ---- The forest that rows store
 
 -- A forest's first trees and those after them have its rows.
-split-preorder : (n : ℕ) (f : Forest Row) → preorder (first n f) ++ preorder (after n f) ≡ preorder f
-unfolding preorder first after
+split-preorder : (n : ℕ) (f : Forest Row) → preorder (first n f) ++ preorder (treesAfter n f) ≡ preorder f
+unfolding preorder first treesAfter
 split-preorder n end = refl
 split-preorder n (tree r k m) =
     let n′ : ℕ = n - suc (count k) in
-    go (leb (suc (count k)) n) (first n′ m) (after n′ m) (split-preorder n′ m)
+    go (leb (suc (count k)) n) (first n′ m) (treesAfter n′ m) (split-preorder n′ m)
   where
     go : (t : Bool) (a b : Forest Row) → preorder a ++ preorder b ≡ preorder m →
         preorder (cond t (tree r k a) end) ++ preorder (cond t b (tree r k m)) ≡ r ∷ (preorder k ++ preorder m)
@@ -46,13 +46,13 @@ pub count-build : (rs : List Row) → count (build rs) ≡ length rs
 count-build rs = sym (length-preorder (build rs)) ∙ ap length (preorder-build rs)
 
 -- The trees of no nodes are none; and those of as many nodes as f has are f, where f stands first.
-split-zero : (g : Forest Row) → (first 0 g ≡ end) × (after 0 g ≡ g)
-unfolding first after
+split-zero : (g : Forest Row) → (first 0 g ≡ end) × (treesAfter 0 g ≡ g)
+unfolding first treesAfter
 split-zero end = (refl, refl)
 split-zero (tree r k m) = rw (leb·suc-zero (count k)) (refl, refl)
 
-split-beside : (f g : Forest Row) → (first (count f) (beside f g) ≡ f) × (after (count f) (beside f g) ≡ g)
-unfolding first after count beside
+split-beside : (f g : Forest Row) → (first (count f) (beside f g) ≡ f) × (treesAfter (count f) (beside f g) ≡ g)
+unfolding first treesAfter count beside
 split-beside end g = split-zero g
 split-beside (tree r k m) g =
     let e : suc (count k + count m) - suc (count k) ≡ count m = omega arith in
@@ -69,7 +69,7 @@ build-append (tree r k m) rs s =
     let b : build ((preorder k ++ preorder m) ++ rs) ≡ beside k g =
     ap build (append-assoc (preorder k) (preorder m) rs) ∙ build-append k (preorder m ++ rs) (s .1) ∙ ap (beside k) (build-append m rs (s .2)) in
     let s′ = split-beside k g in
-    ap₂ (λ (n : ℕ) (h : Forest Row). tree r (first n h) (after n h)) e b ∙ ap₂ (tree r) (s′ .0) (s′ .1)
+    ap₂ (λ (n : ℕ) (h : Forest Row). tree r (first n h) (treesAfter n h)) e b ∙ ap₂ (tree r) (s′ .0) (s′ .1)
 
 -- And a forest whose sizes are right is the one that its preorder stores.
 pub build-preorder : (f : Forest Row) → Sized f → build (preorder f) ≡ f
@@ -127,7 +127,7 @@ opens {ns} {i} {e} w h =
     let k : ℕ = e - suc i in
     let B : Forest Row = build (run (rowAt ns) (suc i) k) in
     let K : Forest Row = first (z - 1) B in
-    let N : Forest Row = after (z - 1) B in
+    let N : Forest Row = treesAfter (z - 1) B in
     let more : e - i ≡ suc k = omega arith in
     let is : rowTrees ns i e ≡ tree (rowAt ns i) K N = ap (λ (j : ℕ). build (run (rowAt ns) i j)) more in
     let s : Sized (tree (rowAt ns i) K N) = subst Sized is (w .sized) in

@@ -4,14 +4,12 @@
 --     definitions-stored                  definitions that lie end to end are stored at the roots that their entries say
 --     files-stored                        the same of files
 use mathlib.Core.Path.{_≡_, refl, sym, ap, subst, _∙_}
-use mathlib.Core.Bool.{cond}
 use mathlib.Core.List.{List, [], _∷_, map}
 use Prim.Native.Nat.{ℕ, zero, suc, _+_, _-_, _≤_, _<_}
 use native.Mathlib.Nat.{add-zero}
 use native.Mathlib.Decide.{decLt}
 use native.Mathlib.Omega.{arith}
 use borrow.Author.Tests.{ne-eqb}
-use lib.Dec.{eqb}
 use Rattle.format.specs.Forest.{Forest, end, tree, count, breadth, beside, firstTree, otherTrees}
 use Rattle.format.specs.Node.{Node}
 use Rattle.format.specs.Book.{Definition, File, bodies, actors}

@@ -1,8 +1,8 @@
 -- What a declaration book holds: names, definitions and files, with the types as trees. Definitions; assumes nothing.
 -- Names are numbers everywhere else: places in the table of names, from 0.
 use mathlib.Core.List.{List, [], _∷_}
-use Prim.Native.Nat.{ℕ, suc, _+_}
-use Rattle.format.specs.Forest.{Forest, end, tree, beside}
+use Prim.Native.Nat.{ℕ}
+use Rattle.format.specs.Forest.{Forest, end, beside}
 use Rattle.format.specs.Node.{Node}
 
 -- A name with its type, and the number of the file that has it.

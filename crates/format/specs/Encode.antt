@@ -1,7 +1,8 @@
 -- A book's bytes, as document 01's section "The book" lays them out. Definitions; assumes nothing.
 use mathlib.Core.List.{List, [], _∷_, _++_}
-use Prim.Native.Nat.{ℕ, zero, suc, _+_, _*_, _/_, _%_}
+use Prim.Native.Nat.{ℕ, suc, _+_, _/_, _%_}
 use lib.ListN.{length}
+use Rattle.refusals.specs.Lists.{flat}
 use Rattle.format.specs.Forest.{Forest, end, tree, count, preorder}
 use Rattle.format.specs.Node.{Node, kindNumber, valueNumber, labelKind, labelValue}
 use Rattle.format.specs.Book.{Definition, Role, Main, TypeImport, ServiceImport, InitArgs, File, Book, bodies, trees}
@@ -12,11 +13,6 @@ bytes16 n = n % 256 ∷ n / 256 % 256 ∷ []
 
 unfoldable pub bytes32 : ℕ → List ℕ
 bytes32 n = n % 256 ∷ n / 256 % 256 ∷ n / 65536 % 256 ∷ n / 16777216 % 256 ∷ []
-
--- What f makes of each element, one after the other.
-unfoldable pub flat : {A : Type 0} → (A → List ℕ) → List A → List ℕ
-flat f [] = []
-flat f (a ∷ as′) = f a ++ flat f as′
 
 -- A name: a length byte and the bytes.
 unfoldable pub nameBytes : List ℕ → List ℕ

@@ -62,15 +62,15 @@ first n end = end
 first n (tree r kids next) =
     cond (leb (suc (count kids)) n) (tree r kids (first (n - suc (count kids)) next)) end
 
-unfoldable pub after : ℕ → Forest Row → Forest Row
-after n end = end
-after n (tree r kids next) =
-    cond (leb (suc (count kids)) n) (after (n - suc (count kids)) next) (tree r kids next)
+unfoldable pub treesAfter : ℕ → Forest Row → Forest Row
+treesAfter n end = end
+treesAfter n (tree r kids next) =
+    cond (leb (suc (count kids)) n) (treesAfter (n - suc (count kids)) next) (tree r kids next)
 
 -- The forest that rows store: of the trees of the rows after the first one, those of the first `size - 1` nodes are its children.
 unfoldable pub build : List Row → Forest Row
 build [] = end
-build (r ∷ rs) = tree r (first (r .size - 1) (build rs)) (after (r .size - 1) (build rs))
+build (r ∷ rs) = tree r (first (r .size - 1) (build rs)) (treesAfter (r .size - 1) (build rs))
 
 -- ---- Nodes from rows: the other way round than the numbers of Node
 
@@ -170,3 +170,11 @@ pub data Layout : Type 0 where
 
 unfoldable pub layout : List ℕ → Layout
 layout bs = cond (fits (read bs) && same (encode (read bs)) bs) (whole (read bs)) broken
+
+-- The bytes of name n; none for a broken book or a number outside the table.
+abbrev pub nameBy : Layout → ℕ → List ℕ
+nameBy broken n = []
+nameBy (whole b) n = getD (b .names) n []
+
+unfoldable pub nameIn : List ℕ → ℕ → List ℕ
+nameIn bs n = nameBy (layout bs) n

@@ -1,4 +1,4 @@
--- What a declaration book is. Read in this order: Forest, Node, Book, Encode, Fits, Layout.
+-- What a declaration book is. Read in this order: Forest, Node, Book, Encode, Fits, Layout, Admission; References, Occurs, Distinct and Labels speak of trees.
 pub mod Forest
 pub mod Node
 pub mod Book
@@ -8,3 +8,7 @@ pub mod Layout
 pub mod Rules
 pub mod Whole
 pub mod References
+pub mod Occurs
+pub mod Distinct
+pub mod Labels
+pub mod Admission

@@ -1,9 +1,9 @@
 -- The nodes of types: kinds, modes and labels, with document 01's number of each. Definitions; assumes nothing.
 -- The names of the kinds are those of the Rust's `IDLType` and `PrimType`.
 use mathlib.Core.List.{List, [], _∷_}
-use Prim.Native.Nat.{ℕ, zero, suc, _+_, _*_}
+use Prim.Native.Nat.{ℕ, _+_, _*_}
 use Rattle.labels.specs.declared.Label.{Label}
-use Rattle.labels.specs.Label.{kindOf, valueOf}
+use Rattle.labels.specs.Label.{labelKindOf, valueOf}
 
 -- The kinds 0 to 17: types that hold no other type.
 pub data PrimType : Type 0 where
@@ -90,7 +90,7 @@ valueNumber InitT = 0
 -- A label's kind and its number; 0 and 0 of a node without a label.
 unfoldable pub labelKind : Labelled → ℕ
 labelKind unlabelled = 0
-labelKind (labelled l) = kindOf l
+labelKind (labelled l) = labelKindOf l
 
 unfoldable pub labelValue : Labelled → ℕ
 labelValue unlabelled = 0

@@ -5,19 +5,19 @@ use Rattle.format.specs.Forest.{Forest, end, tree}
 use Rattle.format.specs.Node.{Kind, PrimT, VarT, OptT, VecT, RecordT, VariantT, FuncT, ServT, ClassT, InitT, Node}
 
 -- The name that a node is: one of kind 18, none of any other.
-unfoldable pub nameOf : Kind → List ℕ
-nameOf (PrimT p) = []
-nameOf (VarT n) = n ∷ []
-nameOf OptT = []
-nameOf VecT = []
-nameOf RecordT = []
-nameOf VariantT = []
-nameOf (FuncT a ms) = []
-nameOf ServT = []
-nameOf ClassT = []
-nameOf InitT = []
+unfoldable pub referenceOf : Kind → List ℕ
+referenceOf (PrimT p) = []
+referenceOf (VarT n) = n ∷ []
+referenceOf OptT = []
+referenceOf VecT = []
+referenceOf RecordT = []
+referenceOf VariantT = []
+referenceOf (FuncT a ms) = []
+referenceOf ServT = []
+referenceOf ClassT = []
+referenceOf InitT = []
 
 -- Each name that is a node anywhere in the trees, once for each such node, in preorder.
 unfoldable pub references : Forest Node → List ℕ
 references end = []
-references (tree n kids next) = nameOf (n .kind) ++ (references kids ++ references next)
+references (tree n kids next) = referenceOf (n .kind) ++ (references kids ++ references next)

@@ -3,15 +3,16 @@
 use mathlib.Core.Path.{_≡_}
 use mathlib.Core.Bool.{Bool, true, false, cond, _&&_, _||_, not, Bool·beq}
 use mathlib.Core.List.{List, [], _∷_}
-use Prim.Native.Nat.{ℕ, zero, suc, _+_, _-_, _*_, _/_, _%_, _≤_, _<_}
+use Prim.Native.Nat.{ℕ, zero, suc, _+_, _*_, _/_, _%_, _≤_, _<_}
 use lib.ListN.{length, getD}
 use lib.Dec.{T, leb, ltb, eqb}
 use Rattle.format.specs.declared.Place.{Place}
 use Rattle.format.specs.declared.Place.the-variants.{Root, Field, Method, Inner}
 use Rattle.format.specs.Forest.{Forest, end, tree, count, breadth}
-use Rattle.format.specs.Encode.{Row, Entry, flat, nameBytes}
+use Rattle.format.specs.Encode.{Row, Entry, nameBytes}
+use Rattle.refusals.specs.Lists.{flat}
 use Rattle.format.specs.Fits.{maxNames, maxNodes, maxDefinitions, maxFiles, maxBytes, ascending}
-use Rattle.format.specs.Layout.{le32, rowAt, entryAt, run, namesOf, namesPart, nodesPart, definitionsPart, filesPart, rowTrees}
+use Rattle.format.specs.Layout.{le32, entryAt, run, namesOf, namesPart, nodesPart, definitionsPart, filesPart, rowTrees}
 
 -- All are bytes.
 abbrev pub Bytes : List ℕ → Type 0

@@ -16,30 +16,34 @@ use lib.ListN.{length, getD, length-map, length-append, List·getD-append}
 use lib.Seq.{getD-append-seam}
 use Rattle.labels.specs.Number.{labelNumber}
 use Rattle.format.specs.declared.Place.the-variants.{Method, Inner}
-use Rattle.format.specs.Forest.{Forest, end, tree, beside}
-use Rattle.format.specs.Node.{Kind, ServT, unlabelled, Node, labelValue}
+use Rattle.format.specs.Forest.{Forest, end, tree, beside, breadth}
+use Rattle.format.specs.Node.{Kind, Node, labelValue}
 use Rattle.format.specs.Book.{Definition, File, Book}
 use Rattle.format.specs.Fits.{forestFits}
 use Rattle.format.specs.References as refer
 use Rattle.format.specs.References.{references}
 use Rattle.format.specs.Rules.{noTrees}
 use Rattle.format.proofs.Trees.{fits-join}
-use Rattle.book.specs.declared.refusal.Refusal.{Refusal}
-use Rattle.book.specs.declared.refusal.Refusal.the-variants.{Unbound, NoService, ImportWithoutActor, ImportNoService, SameHash}
-use Rattle.book.specs.declared.refusal.Verdict.{Verdict}
-use Rattle.book.specs.declared.refusal.Verdict.the-variants.{Passed, Refused}
-use Rattle.book.specs.Refusal.{andThen, unless}
+use Rattle.refusals.specs.declared.Refusal.{Refusal}
+use Rattle.refusals.specs.declared.Refusal.the-variants.{Unbound, NoService, ImportWithoutActor, ImportNoService, SameHash}
+use Rattle.refusals.specs.declared.Verdict.{Verdict}
+use Rattle.refusals.specs.declared.Verdict.the-variants.{Passed, Refused}
+use Rattle.refusals.specs.Verdict.{andThen, unless}
 use Rattle.judgement.specs.Environment.{mainDefinitions, End, unbound, circle, ends, head, headKind, aliasEnd, isServKind, rootPasses, asService, kidsOf, methodsAt}
 use Rattle.judgement.specs.Actor.{serviceImports, mainActor, isClassKind, isClass, lastTree, classArguments, belowClass, serviceOf, classOf, methodsOf, importedMethods, mergedActor, resolveWith, resolveActor}
 use Rattle.judgement.specs.Check.{checkForest, importsVerdict, serviceVerdict, importedVerdict, hashesVerdict, mainVerdict, resolveVerdict, actorVerdict}
-use Rattle.judgement.specs.WellFormed.{Distinct, nameOf, Leads, arrived, onward, RootIs, StandsFor, WellFormedTrees, OneMode, belowTop, methodHashes, methodNames}
-use Rattle.judgement.specs.Rows.{TreesRow, MeetsUnbound, HashRepeated, ActorRow}
-use Rattle.judgement.proofs.Verdicts.{refused-passed, passed-refused, both-pass, pass-both, which-refused, unless-passed, passed-unless, unless-refused, fails-not}
+use Rattle.format.specs.Distinct.{Distinct}
+use Rattle.judgement.specs.WellFormed.{definedName, Leads, arrived, onward, RootIs, StandsFor, WellFormedTrees, OneMode, belowTop, methodHashes}
+use Rattle.format.specs.Labels.{methodNames}
+use Rattle.judgement.specs.Rows.{TreesRow, MeetsUnbound, HashRepeated, ActorRow, noService, importWithoutActor, importNoService, sameHash}
+use Rattle.judgement.specs.Rows as rows
+use Rattle.refusals.proofs.Verdicts.{refused-passed, passed-refused, both-pass, pass-both, which-refused, unless-passed, passed-unless, unless-refused, fails-not}
 use Rattle.judgement.proofs.Chains.{unbound-meets, leads-end, root-says, func-says, service-says, leads-keeps}
 use Rattle.judgement.proofs.Walks.{trees-well-formed, actor-walk, walk-trees-row}
 use Rattle.judgement.proofs.Each.{each, each-says, each-refused, Again, repeats, repeats-says, repeats-refused}
 use Rattle.judgement.proofs.Decs.{found-says}
 use Rattle.judgement.proofs.Fitting.{Fitting, fitting-class, fitting-top, methods-fit, arguments-fit, service-fits}
+use Rattle.judgement.proofs.Classes.{last-beside}
 
 -- ---- 14: methods of the same hash
 abbrev hashOf : List (List ℕ) → ℕ → ℕ
@@ -123,7 +127,7 @@ unfolding noTrees
 stands-some {test} end s = none-stands test (s .leads) (s .root)
 stands-some {test} (tree n kids next) s = tt
 
-module _ (ds : List Definition) (once : Distinct (map nameOf ds)) where
+module _ (ds : List Definition) (once : Distinct (map definedName ds)) where
   serves-says : (else′ : Refusal) (t : Forest Node) → (serviceVerdict else′ (aliasEnd ds t) ≡ Passed) ↔ StandsFor isServKind ds t
   serves-says else′ t =
       let v = service-passed else′ (aliasEnd ds t) in
@@ -229,25 +233,19 @@ imports-refused b e =
     let x = each-refused importVerdict fs (sym (imports-each fs) ∙ e) in
     let f = x .0 in
     let u = unless-refused (not (noTrees (f .actor))) (ImportWithoutActor (f .name)) (x .2) in
-    rw (u .1) (f, x .1, refl, no-trees (f .actor) (fails-not (noTrees (f .actor)) (u .0)))
+    rw (u .1) (importWithoutActor (f, x .1, refl, no-trees (f .actor) (fails-not (noTrees (f .actor)) (u .0))))
 
 -- ---- The resolved actor, with service imports
-last-beside : (f : Forest Node) (n : Node) (kids : Forest Node) → lastTree (beside f (tree n kids end)) ≡ tree n kids end
-unfolding lastTree beside
-last-beside end n kids = refl
-last-beside (tree m lids end) n kids = refl
-last-beside (tree m lids (tree k mids next)) n kids = last-beside (tree k mids next) n kids
-
 module _ (ds : List Definition) (main : Forest Node) (imports : List File) where
   abbrev allMethods : Forest Node
   allMethods = beside (methodsOf ds (belowClass main)) (importedMethods ds imports)
 
-  merged-below : belowClass (mergedActor ds main imports) ≡ serviceOf allMethods
-  unfolding mergedActor belowClass isClass isClassKind kidsOf
+  pub merged-below : belowClass (mergedActor ds main imports) ≡ serviceOf allMethods
+  unfolding mergedActor belowClass isClass isClassKind kidsOf breadth
   merged-below = go (isClass main)
     where
       go : (c : Bool) → belowClass (cond c (classOf (classArguments main) (serviceOf allMethods)) (serviceOf allMethods)) ≡ serviceOf allMethods
-      go true = last-beside (classArguments main) record { kind = ServT; label = unlabelled } allMethods
+      go true = last-beside (classArguments main) (serviceOf allMethods) refl
       go false = refl
 
   merged-stands : StandsFor isServKind ds (belowClass (mergedActor ds main imports))
@@ -262,7 +260,7 @@ module _ (ds : List Definition) (main : Forest Node) (imports : List File) where
       go true = fits-join names Inner (classArguments main) (serviceOf allMethods) (arguments-fit names main x) (service-fits names allMethods t)
       go false = service-fits names allMethods t
 
-module _ (names : ℕ) (ds : List Definition) (once : Distinct (map nameOf ds)) (fits : (d : Definition) → List·Memᴰ d ds → Fitting names (d .body)) where
+module _ (names : ℕ) (ds : List Definition) (once : Distinct (map definedName ds)) (fits : (d : Definition) → List·Memᴰ d ds → Fitting names (d .body)) where
   methods-of-fit : (t : Forest Node) → Fitting names t → StandsFor isServKind ds t → T (forestFits names Method (methodsOf ds t))
   unfolding methodsOf methodsAt
   methods-of-fit t x s = rw (leads-end ds once (s .leads)) (methods-fit names (s .type) (s .root) (leads-keeps ds (Fitting names) fits (s .leads) x))
@@ -295,7 +293,7 @@ pub record Resolved (names : List (List ℕ)) (ds : List Definition) (main : For
   pub imported : (f : File) → List·Memᴰ f imports → StandsFor isServKind ds (f .actor)
   pub hashes : (imports ≡ []) ⊎ Distinct (methodHashes names (kidsOf (belowClass (resolveWith ds main imports))))
 
-module _ (names : List (List ℕ)) (ds : List Definition) (once : Distinct (map nameOf ds))
+module _ (names : List (List ℕ)) (ds : List Definition) (once : Distinct (map definedName ds))
     (fits : (d : Definition) → List·Memᴰ d ds → Fitting (length names) (d .body)) (main : Forest Node) (x : Fitting (length names) main) where
   abbrev Pass : List File → Type 0
   Pass imports = (resolveVerdict names ds main imports (resolveWith ds main imports) ≡ Passed) × (actorVerdict ds (resolveWith ds main imports) ≡ Passed)
@@ -343,12 +341,12 @@ unfolding lastTree references
 last-uses end m = m
 last-uses (tree n kids end) m = m
 last-uses (tree n kids (tree k lids next)) m =
-    Memᴰ·append-right (refer.nameOf (n .kind)) (Memᴰ·append-right (references kids) (last-uses (tree k lids next) m))
+    Memᴰ·append-right (refer.referenceOf (n .kind)) (Memᴰ·append-right (references kids) (last-uses (tree k lids next) m))
 
 kids-use : (f : Forest Node) {n : ℕ} → List·Memᴰ n (references (kidsOf f)) → List·Memᴰ n (references f)
 unfolding kidsOf references
 kids-use end m = m
-kids-use (tree n kids next) m = Memᴰ·append-right (refer.nameOf (n .kind)) (Memᴰ·append-left (references next) m)
+kids-use (tree n kids next) m = Memᴰ·append-right (refer.referenceOf (n .kind)) (Memᴰ·append-left (references next) m)
 
 class-uses : (f : Forest Node) {n : ℕ} → List·Memᴰ n (references (belowClass f)) → List·Memᴰ n (references f)
 unfolding belowClass
@@ -362,7 +360,7 @@ class-meets : (ds : List Definition) (f : Forest Node) (n : ℕ) → MeetsUnboun
 class-meets ds f n (inl d) = inl d
 class-meets ds f n (inr u) = inr (class-uses f (u .0), u .1)
 
-module _ (b : Book) (once : Distinct (map nameOf (mainDefinitions b))) where
+module _ (b : Book) (once : Distinct (map definedName (mainDefinitions b))) where
   abbrev ds : List Definition
   ds = mainDefinitions b
 
@@ -370,12 +368,12 @@ module _ (b : Book) (once : Distinct (map nameOf (mainDefinitions b))) where
   imports = serviceImports (b .files)
 
   main-row : {r : Refusal} → (mainActor b ≡ end → ⊥) → Unserved ds NoService (belowClass (mainActor b)) r → ActorRow b r
-  main-row some (inl x) = rw (x .1) (inl (class-meets ds (mainActor b) (x .0) (x .2)))
-  main-row some (inr x) = rw (x .0) (some, x .1)
+  main-row some (inl x) = rw (x .1) (rows.unbound (inl (class-meets ds (mainActor b) (x .0) (x .2))))
+  main-row some (inr x) = rw (x .0) (noService (some, x .1))
 
   import-row : (f : File) {r : Refusal} → List·Memᴰ f imports → Unserved ds (ImportNoService (f .name)) (f .actor) r → ActorRow b r
-  import-row f m (inl x) = rw (x .1) (inr (f, m, x .2))
-  import-row f m (inr x) = rw (x .0) (f, m, refl, x .1)
+  import-row f m (inl x) = rw (x .1) (rows.unbound (inr (f, m, x .2)))
+  import-row f m (inr x) = rw (x .0) (importNoService (f, m, refl, x .1))
 
   resolve-with : (fs : List File) {r : Refusal} → imports ≡ fs → resolveVerdict (b .names) ds (mainActor b) fs (resolveActor b) ≡ Refused r → ActorRow b r
   unfolding resolveVerdict
@@ -386,7 +384,7 @@ module _ (b : Book) (once : Distinct (map nameOf (mainDefinitions b))) where
         | inl h ↦ let x = main-refused ds once (mainActor b) h in main-row (x .0) (x .1)
         | inr h ↦ elim (which-refused (importedVerdict ds (f ∷ fs)) (hashesVerdict (b .names) [] methods) (h .1)) [
           | inl k ↦ let x = imported-refused ds once (f ∷ fs) k in import-row (x .0) (subst (λ (l : List File). List·Memᴰ (x .0) l) (sym q) (x .1)) (x .2)
-          | inr k ↦ let x = hashes-refused (b .names) methods (k .1) in rw (x .1) (λ z. some-file (sym q ∙ z), x .2)
+          | inr k ↦ let x = hashes-refused (b .names) methods (k .1) in rw (x .1) (sameHash (λ z. some-file (sym q ∙ z), x .2))
         ]
       ]
 
@@ -404,5 +402,5 @@ module _ (b : Book) (once : Distinct (map nameOf (mainDefinitions b))) where
   actor-refused e =
       elim (walked-refused ds once (resolveActor b) e) [
         | inl t ↦ inl t
-        | inr x ↦ inr (rw (x .0) (written imports (x .1)))
+        | inr x ↦ inr (rw (x .0) (noService (written imports (x .1))))
       ]

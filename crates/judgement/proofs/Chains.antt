@@ -4,7 +4,7 @@
 --     run-distinct, run-short      it crosses no name twice, so at most as many as there are definitions
 --     outcome, chain-short         what fuel gives, and how many names are crossed
 --     Means, alias-end             what each end says of the type, for every type
---     leads-end, never-circle      where each name is defined once: the end from what is said of the type
+--     leads-end                    where each name is defined once: the end from what is said of the type
 --     root-says, func-says, ..     a test at the end
 --     bound-stands                 where all names are bound, a chain that runs in no circle ends at a type
 use mathlib.Core.Path.{_≡_, refl, sym, ap, subst, _∙_}
@@ -20,10 +20,12 @@ use Rattle.format.specs.Node.{Kind, Node}
 use Rattle.format.specs.Book.{Definition}
 use Rattle.judgement.specs.Environment.{missing, body, findType, Head, named, other, head, End, unbound, circle, ends, Chain, met, link, cross, chainFrom, chain, aliasEnd, isFuncKind, isServKind, rootPasses, asFunc, asService}
 use Rattle.judgement.specs.Check.{isCircle}
-use Rattle.judgement.specs.WellFormed.{Distinct, none, more, nameOf, Defined, Leads, arrived, onward, RootIs, StandsFor, Bound}
-use Rattle.judgement.specs.Rows.{Goes, NeverEnds, MeetsUnbound}
-use Rattle.judgement.proofs.Lookup.{pigeonhole, found-cases, not-both-found, find-body, found-defined, find-missing, find-named}
-use Rattle.judgement.proofs.Occurs.{other-named, head-refers}
+use Rattle.format.specs.Distinct.{Distinct, none, more}
+use Rattle.judgement.specs.WellFormed.{definedName, Defined, Leads, arrived, onward, RootIs, StandsFor, Bound}
+use Rattle.judgement.specs.Rows.{GoesOn, NeverEnds, MeetsUnbound}
+use Rattle.format.proofs.Distinct.{pigeonhole}
+use Rattle.judgement.proofs.Lookup.{found-cases, find-body, found-defined, find-missing, find-named}
+use Rattle.judgement.proofs.Heads.{head-refers}
 
 -- What an end of the chain says of the type it started from.
 abbrev pub Means : List Definition → Forest Node → End → Type 0
@@ -104,7 +106,7 @@ module _ (ds : List Definition) where
       ⊎-elim (λ (q : n ≡ c). found-defined ds n u (ap (findType ds) q ∙ s .is-type)) (λ k. run-defined r n k) (List·Memᴰ·cases-cons m)
 
   pub run-short : {t : Forest Node} {ns : List ℕ} {e : End} → Run t ns e → length ns ≤ length ds
-  run-short r = rw (length-map ds nameOf) at (pigeonhole (run-distinct r) (map nameOf ds) (run-defined r))
+  run-short r = rw (length-map ds definedName) at (pigeonhole (run-distinct r) (map definedName ds) (run-defined r))
 
   -- So the fuel of `aliasEnd` is enough.
   pub run-end : {t : Forest Node} {ns : List ℕ} {e : End} → Run t ns e → aliasEnd ds t ≡ e
@@ -117,10 +119,10 @@ module _ (ds : List Definition) where
   run-no-circle (crosses s r) q = run-no-circle r q
 
   -- ---- What an end says of the type
-  goes-on : {t u : Forest Node} {n : ℕ} → Step t n u → (k : ℕ) → Goes ds k u → Goes ds (suc k) t
+  goes-on : {t u : Forest Node} {n : ℕ} → Step t n u → (k : ℕ) → GoesOn ds k u → GoesOn ds (suc k) t
   goes-on {u = u} {n = n} s k g = let x = find-body ds n u (s .is-type) in (n, x .definition, s .is-name, x .listed, x .of-name, rw (x .of-body) g)
 
-  goes-less : (t : Forest Node) (k : ℕ) → Goes ds (suc k) t → Goes ds k t
+  goes-less : (t : Forest Node) (k : ℕ) → GoesOn ds (suc k) t → GoesOn ds k t
   goes-less t zero g = tt
   goes-less t (suc k) g = (g .0, g .1, g .2, g .3, g .4, goes-less (g .1 .body) k (g .5))
 
@@ -138,7 +140,7 @@ module _ (ds : List Definition) where
   -- ---- Fuel for k names: no more are crossed, and the chain ends or goes on for one more
   pub record Outcome (t : Forest Node) (k : ℕ) (c : Chain) : Type 0 where
     pub short : length (c .crossed) ≤ k
-    pub either : Run t (c .crossed) (c .last) ⊎ ((c .last ≡ circle) × Goes ds (suc k) t)
+    pub either : Run t (c .crossed) (c .last) ⊎ ((c .last ≡ circle) × GoesOn ds (suc k) t)
 
   data Next : Forest Node → Type 0 where
     noName : {t : Forest Node} → head t ≡ other → Next t
@@ -183,7 +185,7 @@ module _ (ds : List Definition) where
   unfolding aliasEnd chain
   alias-end t = go (outcome (length ds) t .either)
     where
-      go : Run t (chain ds t .crossed) (aliasEnd ds t) ⊎ ((aliasEnd ds t ≡ circle) × Goes ds (suc (length ds)) t) → Means ds t (aliasEnd ds t)
+      go : Run t (chain ds t .crossed) (aliasEnd ds t) ⊎ ((aliasEnd ds t ≡ circle) × GoesOn ds (suc (length ds)) t) → Means ds t (aliasEnd ds t)
       go (inl r) = run-means r
       go (inr p) = rw (p .0) (λ k. ⊎-elim (λ r. run-no-circle r (sym (run-end r) ∙ p .0)) (λ g. goes-less t k (g .1)) (outcome k t .either))
 
@@ -208,7 +210,7 @@ module _ (ds : List Definition) where
       go (ends (tree n kids next)) m p = record { type = tree n kids next; leads = m; root = p }
 
   -- ---- Where each name is defined once
-  module _ (once : Distinct (map nameOf ds)) where
+  module _ (once : Distinct (map definedName ds)) where
     pub leads-run : {t u : Forest Node} → Leads ds t u → (ns : List ℕ) × Run t ns (ends u)
     leads-run (arrived h) = ([], stops h)
     leads-run (onward {n = n} {d = d} h m e l) =
@@ -223,23 +225,6 @@ module _ (ds : List Definition) where
 
     pub leads-unique : {t u v : Forest Node} → Leads ds t u → Leads ds t v → u ≡ v
     leads-unique {t} {u} {v} l m = let e : ends u ≡ ends v = sym (leads-end l) ∙ leads-end m in cc
-
-    -- a chain that ends does not go on for one name more
-    run-goes : {t : Forest Node} {ns : List ℕ} {e : End} → Run t ns e → Goes ds (suc (length ns)) t → ⊥
-    run-goes (stops h) g = other-named h (g .2)
-    run-goes (loses {n = n} b) g = let q : g .0 ≡ n = cc in not-both-found (b .no-type) (find-named ds once (g .1) n (g .3) (g .4 ∙ q))
-    run-goes (crosses {u = u} {n = n} {ns = ns} s r) g =
-        let q : g .0 ≡ n = cc in
-        let f : findType ds n ≡ body (g .1 .body) = find-named ds once (g .1) n (g .3) (g .4 ∙ q) in
-        let p : g .1 .body ≡ u = cc in
-        run-goes r (subst (λ w. Goes ds (suc (length ns)) w) p (g .5))
-
-    pub never-leads : {t u : Forest Node} → NeverEnds ds t → Leads ds t u → ⊥
-    never-leads g l = let p = leads-run l in run-goes (p .1) (g (suc (length (p .0))))
-
-    pub never-circle : (t : Forest Node) → NeverEnds ds t → aliasEnd ds t ≡ circle
-    unfolding aliasEnd chain
-    never-circle t g = ⊎-elim (λ r. absurd (run-goes r (g (suc (length (chain ds t .crossed)))))) (λ p. p .0) (outcome (length ds) t .either)
 
     pub stands-root : (test : Kind → Bool) (t : Forest Node) → StandsFor test ds t → T (rootPasses test (aliasEnd ds t))
     unfolding rootPasses

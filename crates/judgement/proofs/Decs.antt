@@ -16,16 +16,17 @@ use Rattle.format.specs.Node.{Node}
 use Rattle.format.specs.Book.{Definition}
 use Rattle.format.specs.Fits.{forestFits}
 use Rattle.format.proofs.Logic.{is-false}
-use Rattle.book.specs.declared.refusal.Refusal.{Refusal}
-use Rattle.book.specs.declared.refusal.Refusal.the-variants.{Twice, Circle, NoFunction}
-use Rattle.book.specs.declared.refusal.Verdict.{Verdict}
-use Rattle.book.specs.declared.refusal.Verdict.the-variants.{Passed, Refused}
-use Rattle.book.specs.Refusal.{andThen, unless}
+use Rattle.refusals.specs.declared.Refusal.{Refusal}
+use Rattle.refusals.specs.declared.Refusal.the-variants.{Twice, Circle, NoFunction}
+use Rattle.refusals.specs.declared.Verdict.{Verdict}
+use Rattle.refusals.specs.declared.Verdict.the-variants.{Passed, Refused}
+use Rattle.refusals.specs.Verdict.{andThen, unless}
 use Rattle.judgement.specs.Environment.{Found, missing, body, findType, aliasEnd, isFuncKind, asFunc}
 use Rattle.judgement.specs.Check.{checkForest, onceVerdict, bodiesVerdict, eachName, isCircle, circleVerdict, methodsFit, bodiesFit, decsVerdict}
-use Rattle.judgement.specs.WellFormed.{Distinct, nameOf, Defined, StandsFor, MethodsAreFunctions, WellFormedTrees, OneMode, WellFormedDefinitions, OneModeDefinitions}
-use Rattle.judgement.specs.Rows.{Repeated, NeverEnds, DefinitionsRow}
-use Rattle.judgement.proofs.Verdicts.{passed-refused, both-pass, pass-both, which-refused, unless-passed, passed-unless, unless-refused, not-says}
+use Rattle.format.specs.Distinct.{Distinct}
+use Rattle.judgement.specs.WellFormed.{definedName, Defined, StandsFor, MethodsAreFunctions, WellFormedTrees, OneMode, WellFormedDefinitions, OneModeDefinitions}
+use Rattle.judgement.specs.Rows.{Repeated, NeverEnds, DefinitionsRow, twice, circle, noFunction}
+use Rattle.refusals.proofs.Verdicts.{passed-refused, both-pass, pass-both, which-refused, unless-passed, passed-unless, unless-refused, not-says}
 use Rattle.judgement.proofs.Lookup.{found-cases, not-both-found, find-body, found-defined, find-defined, find-listed}
 use Rattle.judgement.proofs.Chains.{is-circle, circle-never, leads-no-circle, func-says, bound-stands}
 use Rattle.judgement.proofs.Walks.{TreesPass, trees-well-formed, body-walk, walk-definitions-row, methods-fit, methods-unfit}
@@ -45,13 +46,13 @@ pub record FitDefinitions (names : ℕ) (ds : List Definition) : Type 0 where
   pub fit : (d : Definition) → List·Memᴰ d ds → T (forestFits names Root (d .body))
 
 -- ---- 2: a name that is defined twice
-once-repeats : (seen : List ℕ) (ds : List Definition) → onceVerdict seen ds ≡ repeats nameOf (λ d. Twice (d .name)) seen ds
+once-repeats : (seen : List ℕ) (ds : List Definition) → onceVerdict seen ds ≡ repeats definedName (λ d. Twice (d .name)) seen ds
 unfolding onceVerdict repeats
 once-repeats seen [] = refl
 once-repeats seen (d ∷ ds) = rw (once-repeats (d .name ∷ seen) ds)
 
-pub once-says : (ds : List Definition) → (onceVerdict [] ds ≡ Passed) ↔ Distinct (map nameOf ds)
-once-says ds = rw (once-repeats [] ds) (repeats-says nameOf (λ d. Twice (d .name)) ds)
+pub once-says : (ds : List Definition) → (onceVerdict [] ds ≡ Passed) ↔ Distinct (map definedName ds)
+once-says ds = rw (once-repeats [] ds) (repeats-says definedName (λ d. Twice (d .name)) ds)
 
 -- an element of a list that stands in its first part stands again
 split : {A : Type 0} {a : A} {l : List A} → List·Memᴰ a l → (xs : List A) × (ys : List A) × (l ≡ xs ++ (a ∷ ys))
@@ -64,12 +65,12 @@ stands-again {A} {a} ys e m =
     let q = ap (λ (l : List A). l ++ (a ∷ ys)) (p .2) ∙ append-assoc (p .0) (a ∷ p .1) (a ∷ ys) in
     (p .0, p .1 ++ (a ∷ ys), e ∙ q, Memᴰ·append-right (p .1) (List·Memᴰ·head refl))
 
-pub once-refused : (ds : List Definition) {r : Refusal} → onceVerdict [] ds ≡ Refused r → (n : ℕ) × (r ≡ Twice n) × Repeated n (map nameOf ds)
+pub once-refused : (ds : List Definition) {r : Refusal} → onceVerdict [] ds ≡ Refused r → (n : ℕ) × (r ≡ Twice n) × Repeated n (map definedName ds)
 once-refused ds e =
-    let x = repeats-refused nameOf (λ d. Twice (d .name)) [] ds (sym (once-repeats [] ds) ∙ e) in
+    let x = repeats-refused definedName (λ d. Twice (d .name)) [] ds (sym (once-repeats [] ds) ∙ e) in
     let s = x .2 in
-    let p : map nameOf ds ≡ map nameOf (s .before) ++ (x .0 .name ∷ map nameOf (s .following)) = ap (map nameOf) (s .parts) ∙ map-append nameOf (s .before) (x .0 ∷ s .following) in
-    (x .0 .name, x .1, ⊎-elim (λ m. absurd (List·Memᴰ·not-nil m)) (stands-again (map nameOf (s .following)) p) (s .known))
+    let p : map definedName ds ≡ map definedName (s .before) ++ (x .0 .name ∷ map definedName (s .following)) = ap (map definedName) (s .parts) ∙ map-append definedName (s .before) (x .0 ∷ s .following) in
+    (x .0 .name, x .1, ⊎-elim (λ m. absurd (List·Memᴰ·not-nil m)) (stands-again (map definedName (s .following)) p) (s .known))
 
 -- ---- 3 to 6: the bodies
 bodies-each : (all ds : List Definition) → bodiesVerdict all ds ≡ each (λ d. checkForest true false all (d .body)) ds
@@ -128,7 +129,7 @@ module _ (names : ℕ) (ds : List Definition) where
   decs-order = rw (bodies-each ds ds, methods-each ds ds)
 
   -- what a definition passes, where each name is defined once
-  module _ (once : Distinct (map nameOf ds)) where
+  module _ (once : Distinct (map definedName ds)) where
     abbrev func : (t : Forest Node) → T (asFunc ds t) ↔ StandsFor isFuncKind ds t
     func = func-says ds once
 
@@ -142,7 +143,7 @@ module _ (names : ℕ) (ds : List Definition) where
     method-refused d m e =
         let u = unless-refused (methodsFit ds false (d .body)) NoFunction e in
         let x = methods-unfit ds func (d .body) (u .0) in
-        rw (u .1) (x .0, (d, m, x .1))
+        rw (u .1) (noFunction (d, m, x .1))
 
   decs-passed : FitDefinitions names ds → decsVerdict names ds ≡ Passed → WellFormedDefinitions ds × OneModeDefinitions ds
   decs-passed fits e =
@@ -184,14 +185,14 @@ module _ (names : ℕ) (ds : List Definition) where
   pub decs-refused : {r : Refusal} → decsVerdict names ds ≡ Refused r → DefinitionsRow ds r
   decs-refused e =
       elim (which-refused (onceVerdict [] ds) _ (sym decs-order ∙ e)) [
-        | inl h ↦ let x = once-refused ds h in rw (x .1) (x .2)
+        | inl h ↦ let x = once-refused ds h in rw (x .1) (twice (x .2))
         | inr h ↦ elim (which-refused (each bodyVerdict ds) _ (h .1)) [
           | inl g ↦ let x = each-refused bodyVerdict ds g in walk-definitions-row ds (found-says ds) (x .0) (x .1) (x .2)
           | inr g ↦ elim (which-refused (eachName nameVerdict 0 names) (each methodsVerdict ds) (g .1)) [
             | inl k ↦
                 let x = names-refused nameVerdict 0 names k in
                 let y = circle-refused ds (x .number) (findType ds (x .number)) refl (x .refused) in
-                rw (y .0) (y .1)
+                rw (y .0) (circle (y .1))
             | inr k ↦ let x = each-refused methodsVerdict ds (k .1) in method-refused (once-says ds .0 (h .0)) (x .0) (x .1) (x .2)
           ]
         ]

@@ -10,14 +10,15 @@ use Prim.Native.Nat.{ℕ, zero, suc, _+_, _≤_, _<_}
 use native.Mathlib.Decide.{ℕ-discrete}
 use native.Mathlib.Omega.{arith}
 use lib.Dec.{T}
-use Rattle.book.specs.declared.refusal.Refusal.{Refusal}
-use Rattle.book.specs.declared.refusal.Verdict.{Verdict}
-use Rattle.book.specs.declared.refusal.Verdict.the-variants.{Passed, Refused}
-use Rattle.book.specs.Refusal.{andThen, unless}
+use Rattle.refusals.specs.declared.Refusal.{Refusal}
+use Rattle.refusals.specs.declared.Verdict.{Verdict}
+use Rattle.refusals.specs.declared.Verdict.the-variants.{Passed, Refused}
+use Rattle.refusals.specs.Verdict.{andThen, unless}
 use Rattle.judgement.specs.Check.{member, eachName}
-use Rattle.judgement.specs.WellFormed.{Distinct, none, more}
-use Rattle.judgement.proofs.Verdicts.{passed-refused, both-pass, pass-both, which-refused, unless-passed, passed-unless, unless-refused, not-says, fails-not}
-use Rattle.judgement.proofs.Lookup.{distinct-head, distinct-tail, member-says}
+use Rattle.format.specs.Distinct.{Distinct, none, more}
+use Rattle.refusals.proofs.Verdicts.{passed-refused, both-pass, pass-both, which-refused, unless-passed, passed-unless, unless-refused, not-says, fails-not}
+use Rattle.format.proofs.Distinct.{distinct-head, distinct-tail}
+use Rattle.judgement.proofs.Lookup.{member-says}
 
 -- ---- Each element in turn
 module _ {A : Type 0} (f : A → Verdict) where

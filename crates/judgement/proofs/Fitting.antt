@@ -2,19 +2,20 @@
 --     fitting-kids, fitting-class, fitting-top    the children, what stands below a class's top, and what is walked of an actor
 --     methods-fit, service-fits                   a service's methods, and a service of methods
 --     arguments-fit                               a class's arguments
-use mathlib.Core.Path.{_≡_, refl, subst}
+use mathlib.Core.Path.{_≡_, ap, subst}
 use mathlib.Core.Bool.{Bool, true, false, cond}
 use Prim.Native.Nat.{ℕ}
 use lib.Dec.{T}
 use Rattle.format.specs.declared.Place.{Place}
 use Rattle.format.specs.declared.Place.the-variants.{Method, Inner}
 use Rattle.format.specs.Forest.{Forest, end, tree, breadth}
-use Rattle.format.specs.Node.{Kind, PrimT, VarT, OptT, VecT, RecordT, VariantT, FuncT, ServT, ClassT, InitT, unlabelled, Node}
+use Rattle.format.specs.Node.{Kind, ServT, unlabelled, Node}
 use Rattle.format.specs.Fits.{placeBelow, kindFits, notInit, kindAllowed, labelFits, nodeFits, forestFits}
 use Rattle.format.proofs.Logic.{both₃, join₃}
 use Rattle.judgement.specs.Environment.{isServKind, kidsOf}
 use Rattle.judgement.specs.Actor.{isClassKind, isClass, lastTree, allButLast, classArguments, belowClass, serviceOf}
 use Rattle.judgement.specs.WellFormed.{RootIs, belowTop}
+use Rattle.judgement.proofs.Classes.{is-class}
 use Rattle.judgement.proofs.Walks.{is-service}
 
 pub record Fitting (names : ℕ) (f : Forest Node) : Type 0 where
@@ -23,17 +24,8 @@ pub record Fitting (names : ℕ) (f : Forest Node) : Type 0 where
 
 -- the arguments of a class
 inner : (κ : Kind) → T (isClassKind κ) → placeBelow κ ≡ Inner
-unfolding isClassKind placeBelow
-inner (PrimT p) t = absurd t
-inner (VarT n) t = absurd t
-inner OptT t = absurd t
-inner VecT t = absurd t
-inner RecordT t = absurd t
-inner VariantT t = absurd t
-inner (FuncT a ms) t = absurd t
-inner ServT t = absurd t
-inner ClassT t = refl
-inner InitT t = absurd t
+unfolding placeBelow
+inner κ t = ap placeBelow (is-class κ t)
 
 module _ (names : ℕ) where
   tree-fits : (p : Place) (n : Node) (kids next : Forest Node) → T (forestFits names p (tree n kids next)) →

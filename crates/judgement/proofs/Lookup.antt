@@ -1,6 +1,4 @@
 -- Definitions by name: what is found, what is missing, and what stands once. Assumes nothing.
---     distinct-head, ..            lists in which no element stands twice
---     pigeonhole                   distinct elements of a list are at most as many as the list has
 --     member-says                  the test for a number in a list
 --     find-body, find-listed, ..   what `findType` finds
 --     keep-says, keep-distinct     the definitions that pass a test
@@ -10,61 +8,20 @@ use mathlib.Core.Path.{_≡_, refl, sym, ap, subst, _∙_}
 use mathlib.Core.Logic.{_↔_, _⊎_, inl, inr, ⊎-elim, ⊎-map}
 use mathlib.Core.Bool.{Bool, true, false, cond, _||_}
 use mathlib.Core.List.{List, [], _∷_, _++_, append-nil, map, map-append, List·Memᴰ, List·Memᴰ·head, List·Memᴰ·tail, List·Memᴰ·cases-cons, List·Memᴰ·not-nil, List·Memᴰ·append-cases, Memᴰ·append-left, Memᴰ·append-right, Memᴰ·cast, Memᴰ·map, Memᴰ·of-map}
-use Prim.Native.Nat.{ℕ, suc, _≤_}
+use Prim.Native.Nat.{ℕ}
 use native.Mathlib.Decide.{ℕ-discrete}
 use native.Mathlib.Omega.{arith}
 use borrow.Author.Tests.{eq-eqb, ne-eqb}
 use lib.Dec.{T, eqb}
-use lib.ListN.{length}
 use Rattle.format.specs.Forest.{Forest}
 use Rattle.format.specs.Node.{Node}
 use Rattle.format.specs.Book.{Definition}
 use Rattle.format.proofs.Lists.{All}
 use Rattle.judgement.specs.Environment.{keep, Found, missing, body, findType, isMissing, mergeDefinitions}
 use Rattle.judgement.specs.Check.{member}
-use Rattle.judgement.specs.WellFormed.{Distinct, none, more, nameOf, Defined}
-
--- ---- Lists in which no element stands twice
-module _ {A : Type 0} where
-  pub distinct-head : {a : A} {l : List A} → Distinct (a ∷ l) → List·Memᴰ a l → ⊥
-  distinct-head (more h d) = h
-
-  pub distinct-tail : {a : A} {l : List A} → Distinct (a ∷ l) → Distinct l
-  distinct-tail (more h d) = d
-
-  pub distinct-append : {xs : List A} → Distinct xs → (ys : List A) → Distinct ys → ((a : A) → List·Memᴰ a xs → List·Memᴰ a ys → ⊥) → Distinct (xs ++ ys)
-  distinct-append none ys d apart = d
-  distinct-append (more {a = a} {l = l} h e) ys d apart =
-      more (λ m. ⊎-elim h (apart a (List·Memᴰ·head refl)) (List·Memᴰ·append-cases l m)) (distinct-append e ys d (λ b m. apart b (List·Memᴰ·tail m)))
-
-  -- a list without one of its elements
-  without : {a : A} {l : List A} → List·Memᴰ a l → List A
-  without (List·Memᴰ·head {xs = xs} e) = xs
-  without (List·Memᴰ·tail {x = x} m) = x ∷ without m
-
-  without-length : {a : A} {l : List A} (m : List·Memᴰ a l) → length l ≡ suc (length (without m))
-  unfolding without
-  without-length (List·Memᴰ·head e) = refl
-  without-length (List·Memᴰ·tail m) = ap suc (without-length m)
-
-  without-keeps : {a b : A} {l : List A} (m : List·Memᴰ a l) → List·Memᴰ b l → (b ≡ a) ⊎ List·Memᴰ b (without m)
-  unfolding without
-  without-keeps (List·Memᴰ·head e) i = elim (List·Memᴰ·cases-cons i) [ inl f ↦ inl (f ∙ sym e) | inr j ↦ inr j ]
-  without-keeps {a} {b} (List·Memᴰ·tail {x = x} {xs = xs} m) i = go (List·Memᴰ·cases-cons i) (λ (j : List·Memᴰ b xs). without-keeps m j)
-    where
-      go : (b ≡ x) ⊎ List·Memᴰ b xs → (List·Memᴰ b xs → (b ≡ a) ⊎ List·Memᴰ b (without m)) → (b ≡ a) ⊎ List·Memᴰ b (x ∷ without m)
-      go (inl e) below = inr (List·Memᴰ·head e)
-      go (inr j) below = elim (below j) [ inl e ↦ inl e | inr k ↦ inr (List·Memᴰ·tail k) ]
-
-  pub pigeonhole : {xs : List A} → Distinct xs → (ys : List A) → ((a : A) → List·Memᴰ a xs → List·Memᴰ a ys) → length xs ≤ length ys
-  pigeonhole none ys h = omega arith
-  pigeonhole (more {a = a} {l = l} n d) ys h = omega (arith, pigeonhole d (without first) others, without-length first)
-    where
-      first : List·Memᴰ a ys
-      first = h a (List·Memᴰ·head refl)
-
-      others : (b : A) → List·Memᴰ b l → List·Memᴰ b (without first)
-      others b i = ⊎-elim (λ (e : b ≡ a). absurd (n (Memᴰ·cast (sym e) i))) (λ j. j) (without-keeps first (h b (List·Memᴰ·tail i)))
+use Rattle.format.specs.Distinct.{Distinct, more}
+use Rattle.format.proofs.Distinct.{distinct-head, distinct-tail, distinct-append}
+use Rattle.judgement.specs.WellFormed.{definedName, Defined}
 
 -- The test for a number in a list.
 pub member-says : (n : ℕ) (l : List ℕ) → T (member n l) ↔ List·Memᴰ n l
@@ -120,7 +77,7 @@ find-body (d ∷ ds) n t e = go (ℕ-discrete (d .name) n) (find-body ds n t)
         record { definition = f .definition; listed = List·Memᴰ·tail (f .listed); of-name = f .of-name; of-body = f .of-body }
 
 pub listed-defined : {ds : List Definition} {d : Definition} {n : ℕ} → List·Memᴰ d ds → d .name ≡ n → Defined ds n
-listed-defined m e = Memᴰ·cast (sym e) (Memᴰ·map nameOf m)
+listed-defined m e = Memᴰ·cast (sym e) (Memᴰ·map definedName m)
 
 pub found-defined : (ds : List Definition) (n : ℕ) (t : Forest Node) → findType ds n ≡ body t → Defined ds n
 found-defined ds n t e = let f = find-body ds n t e in listed-defined (f .listed) (f .of-name)
@@ -145,15 +102,15 @@ pub missing-says : (ds : List Definition) (n : ℕ) → (findType ds n ≡ missi
 missing-says ds n = (find-missing ds n, missing-find ds n)
 
 -- Where each name is defined once, its definition is the one that is found.
-pub find-listed : (ds : List Definition) → Distinct (map nameOf ds) → (d : Definition) → List·Memᴰ d ds → findType ds (d .name) ≡ body (d .body)
+pub find-listed : (ds : List Definition) → Distinct (map definedName ds) → (d : Definition) → List·Memᴰ d ds → findType ds (d .name) ≡ body (d .body)
 find-listed [] once d m = absurd (List·Memᴰ·not-nil m)
 find-listed (c ∷ ds) once d m = go (List·Memᴰ·cases-cons m) (find-listed ds (distinct-tail once) d)
   where
     go : (d ≡ c) ⊎ List·Memᴰ d ds → (List·Memᴰ d ds → findType ds (d .name) ≡ body (d .body)) → findType (c ∷ ds) (d .name) ≡ body (d .body)
-    go (inl e) below = find-here c ds (d .name) (ap nameOf (sym e)) ∙ ap (λ (x : Definition). body (x .body)) (sym e)
-    go (inr k) below = find-later c ds (d .name) (λ e. distinct-head once (Memᴰ·cast e (Memᴰ·map nameOf k))) ∙ below k
+    go (inl e) below = find-here c ds (d .name) (ap definedName (sym e)) ∙ ap (λ (x : Definition). body (x .body)) (sym e)
+    go (inr k) below = find-later c ds (d .name) (λ e. distinct-head once (Memᴰ·cast e (Memᴰ·map definedName k))) ∙ below k
 
-pub find-named : (ds : List Definition) → Distinct (map nameOf ds) → (d : Definition) (n : ℕ) → List·Memᴰ d ds → d .name ≡ n → findType ds n ≡ body (d .body)
+pub find-named : (ds : List Definition) → Distinct (map definedName ds) → (d : Definition) (n : ℕ) → List·Memᴰ d ds → d .name ≡ n → findType ds n ≡ body (d .body)
 find-named ds once d n m e = ap (findType ds) (sym e) ∙ find-listed ds once d m
 
 -- ---- The definitions that pass a test
@@ -185,14 +142,14 @@ module _ (test : Definition → Bool) where
   keep-says ds d = (keep-listed ds d, λ p. listed-keep ds d (p .0) (p .1))
 
   pub keep-defined : (ds : List Definition) (n : ℕ) → Defined (keep test ds) n → Defined ds n
-  keep-defined ds n m = let f = Memᴰ·of-map nameOf (keep test ds) m in listed-defined (keep-listed ds (f .0) (f .1) .0) (f .2)
+  keep-defined ds n m = let f = Memᴰ·of-map definedName (keep test ds) m in listed-defined (keep-listed ds (f .0) (f .1) .0) (f .2)
 
-  pub keep-distinct : (ds : List Definition) → Distinct (map nameOf ds) → Distinct (map nameOf (keep test ds))
+  pub keep-distinct : (ds : List Definition) → Distinct (map definedName ds) → Distinct (map definedName (keep test ds))
   unfolding keep
   keep-distinct [] once = once
   keep-distinct (c ∷ ds) once =
       let rest = keep-distinct ds (distinct-tail once) in
-      keep-cons (λ l. Distinct (map nameOf l)) c ds (λ t. more (λ m. distinct-head once (keep-defined ds (c .name) m)) rest) (λ n. rest)
+      keep-cons (λ l. Distinct (map definedName l)) c ds (λ t. more (λ m. distinct-head once (keep-defined ds (c .name) m)) rest) (λ n. rest)
 
   -- all of them pass, none of them, and a part of each
   keep-all : (ds : List Definition) → All (λ (d : Definition). test d ≡ true) ds → keep test ds ≡ ds
@@ -283,7 +240,7 @@ module _ (init main : List Definition) where
     where
       there : Defined (mergeDefinitions init main) n → Defined init n ⊎ Defined main n
       there m =
-          let f = Memᴰ·of-map nameOf (mergeDefinitions init main) m in
+          let f = Memᴰ·of-map definedName (mergeDefinitions init main) m in
           elim (merge-listed (f .0) .0 (f .1)) [ inl i ↦ inl (listed-defined i (f .2)) | inr p ↦ inr (listed-defined (p .0) (f .2)) ]
 
       back : (findType init n ≡ missing) ⊎ ((t : Forest Node) × (findType init n ≡ body t)) → Defined init n ⊎ Defined main n → Defined (mergeDefinitions init main) n
@@ -291,13 +248,13 @@ module _ (init main : List Definition) where
       back (inl e) (inl d) = absurd (find-missing init n e d)
       back (inl e) (inr d) = let f = find-defined main n d in found-defined (mergeDefinitions init main) n (f .0) (merge-second n e ∙ f .1)
 
-  pub merge-distinct : Distinct (map nameOf init) → Distinct (map nameOf main) → Distinct (map nameOf (mergeDefinitions init main))
+  pub merge-distinct : Distinct (map definedName init) → Distinct (map definedName main) → Distinct (map definedName (mergeDefinitions init main))
   unfolding mergeDefinitions
   merge-distinct i m =
       let kept = keep onlyMain main in
-      rw (map-append nameOf init kept) (distinct-append i (map nameOf kept) (keep-distinct onlyMain main m) apart)
+      rw (map-append definedName init kept) (distinct-append i (map definedName kept) (keep-distinct onlyMain main m) apart)
     where
       apart : (n : ℕ) → Defined init n → Defined (keep onlyMain main) n → ⊥
       apart n p q =
-          let f = Memᴰ·of-map nameOf (keep onlyMain main) q in
+          let f = Memᴰ·of-map definedName (keep onlyMain main) q in
           only-says (f .0) .0 (f .1) .1 (Memᴰ·cast (f .2) p)

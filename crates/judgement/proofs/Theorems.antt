@@ -5,10 +5,10 @@
 --     no-init-definitions, no-init-tree            there are then no definitions and no arguments of it
 --     check-numbers, init-numbers                  the rows that there are
 --     check-bytes-says, check-bytes-row, ..        all of this on bytes, which are broken or a book
-use mathlib.Core.Path.{_≡_, refl, ap}
+use mathlib.Core.Path.{_≡_, refl}
 use mathlib.Core.Logic.{_↔_, _⊎_, inl, inr, ⊎-elim}
 use mathlib.Core.Bool.{false}
-use mathlib.Core.List.{List, [], _∷_, map, List·Memᴰ, List·Memᴰ·head, List·Memᴰ·tail}
+use mathlib.Core.List.{List, [], _∷_, _++_, map, List·Memᴰ, List·Memᴰ·head, List·Memᴰ·tail}
 use Prim.Native.Nat.{ℕ, zero, suc}
 use lib.Dec.{T}
 use lib.ListN.{length}
@@ -17,30 +17,31 @@ use Rattle.format.specs.Forest.{Forest, end}
 use Rattle.format.specs.Node.{Node}
 use Rattle.format.specs.Book.{Definition, Role, Main, TypeImport, ServiceImport, InitArgs, File, Book}
 use Rattle.format.specs.Fits.{isInitRole, Fits}
-use Rattle.format.specs.Layout.{Layout, broken, whole, layout}
+use Rattle.format.specs.Admission.{admissionRows, BookIn, InRow, Source}
 use Rattle.format.proofs.Lists.{all-of}
-use Rattle.format.proofs.Theorems.{found}
-use Rattle.book.specs.declared.refusal.Refusal.{Refusal}
-use Rattle.book.specs.declared.refusal.Refusal.the-variants.{Broken, Twice, Unbound, Class, Modes, Oneway, Circle, NoFunction, MethodNoFunction, NoService, Differs, ImportWithoutActor, ImportNoService, SameHash, Absent, Short, NoActor}
-use Rattle.book.specs.declared.refusal.Verdict.{Verdict}
-use Rattle.book.specs.declared.refusal.Verdict.the-variants.{Passed, Refused}
-use Rattle.book.specs.Refusal.{numberOf, andThen}
+use Rattle.format.proofs.Admission.{judged-says, judged-row, row-numbers}
+use Rattle.refusals.specs.declared.Refusal.{Refusal}
+use Rattle.refusals.specs.declared.Verdict.{Verdict}
+use Rattle.refusals.specs.declared.Verdict.the-variants.{Passed, Refused}
+use Rattle.refusals.specs.Refusal.{numberOf}
+use Rattle.refusals.specs.Verdict.{andThen}
 use Rattle.judgement.specs.Environment.{roleAt, mainDefinitions, initDefinitions, findType, mergeDefinitions, kidsOf}
 use Rattle.judgement.specs.Actor.{serviceImports, mainActor, resolveActor}
-use Rattle.judgement.specs.Check.{checkForest, member, onceVerdict, bodiesVerdict, eachName, circleVerdict, bodiesFit, decsVerdict, importsVerdict, resolveVerdict, actorVerdict, check, sameVerdict, mergeVerdict, initTree, initVerdict, initCheck, onLayout, checkBytes, initCheckBytes}
-use Rattle.judgement.specs.WellFormed.{Distinct, nameOf, WellFormed, Rust, WellFormedInit, RustInit}
-use Rattle.judgement.specs.Rows.{CheckRow, InitRow}
-use Rattle.judgement.proofs.Verdicts.{refused-passed, both-pass, pass-both, which-refused}
+use Rattle.judgement.specs.Check.{checkForest, member, onceVerdict, bodiesVerdict, eachName, circleVerdict, bodiesFit, decsVerdict, importsVerdict, resolveVerdict, actorVerdict, check, sameVerdict, mergeVerdict, initTree, initVerdict, initCheck, checkBytes, initCheckBytes}
+use Rattle.format.specs.Distinct.{Distinct}
+use Rattle.judgement.specs.WellFormed.{definedName, WellFormed, Rust, WellFormedInit, RustInit}
+use Rattle.judgement.specs.Rows.{DefinitionsRow, TreesRow, ActorRow, CheckRow, checkRows, MergeRow, InitRow, twice, unbound, class, modes, oneway, circle, noFunction, methodNoFunction, noService, importWithoutActor, importNoService, sameHash, differs}
+use Rattle.refusals.proofs.Verdicts.{both-pass, pass-both, which-refused}
 use Rattle.judgement.proofs.Lookup.{member-says, keep-none, merge-distinct}
 use Rattle.judgement.proofs.Each.{passed-names}
 use Rattle.judgement.proofs.Decs.{once-says, decs-says, decs-refused}
 use Rattle.judgement.proofs.Fitting.{Fitting, fitting-kids}
 use Rattle.judgement.proofs.Actors.{Resolved, resolved-says, resolve-refused, actor-refused, imports-passed, imports-refused, walk-says, walk-refused}
-use Rattle.judgement.proofs.Merged.{merge-says, merge-refused}
+use Rattle.judgement.proofs.Merge.{merge-says, merge-refused}
 use Rattle.judgement.proofs.Books.{main-definitions-fit, init-definitions-fit, main-actor-fits, imports-fit, init-tree-fits}
 
 -- Where definitions pass, each name is defined once.
-decs-once : (names : ℕ) (ds : List Definition) → decsVerdict names ds ≡ Passed → Distinct (map nameOf ds)
+decs-once : (names : ℕ) (ds : List Definition) → decsVerdict names ds ≡ Passed → Distinct (map definedName ds)
 unfolding decsVerdict
 decs-once names ds e = once-says ds .0 (both-pass (onceVerdict [] ds) _ e .0)
 
@@ -59,7 +60,7 @@ module _ (b : Book) where
   resolving = resolveVerdict (b .names) ds (mainActor b) imports (resolveActor b)
 
   module _ (fits : Fits b) where
-    resolves : (once : Distinct (map nameOf ds)) →
+    resolves : (once : Distinct (map definedName ds)) →
         ((resolving ≡ Passed) × (actorVerdict ds (resolveActor b) ≡ Passed)) ↔ Resolved (b .names) ds (mainActor b) imports
     unfolding resolveActor
     resolves once =
@@ -119,10 +120,10 @@ module _ (b : Book) where
   abbrev merging : Verdict
   merging = mergeVerdict (b .names) ids (ds b)
 
-  init-once : Distinct (map nameOf ids) → Distinct (map nameOf (ds b)) → Distinct (map nameOf both-files)
+  init-once : Distinct (map definedName ids) → Distinct (map definedName (ds b)) → Distinct (map definedName both-files)
   init-once = merge-distinct ids (ds b)
 
-  init-passed : Fits b → Distinct (map nameOf (ds b)) → initVerdict b ≡ Passed → WellFormedInit b × RustInit b
+  init-passed : Fits b → Distinct (map definedName (ds b)) → initVerdict b ≡ Passed → WellFormedInit b × RustInit b
   unfolding initVerdict
   init-passed fits main e =
       let fit = init-definitions-fit b fits in
@@ -135,7 +136,7 @@ module _ (b : Book) where
         record { modes = w .1; argumentModes = a .1; merged = merge-says b once main (fit .exists) .0 (q .0) },
       )
 
-  passed-init : Fits b → Distinct (map nameOf (ds b)) → WellFormedInit b → RustInit b → initVerdict b ≡ Passed
+  passed-init : Fits b → Distinct (map definedName (ds b)) → WellFormedInit b → RustInit b → initVerdict b ≡ Passed
   unfolding initVerdict
   passed-init fits main w r =
       let fit = init-definitions-fit b fits in
@@ -144,7 +145,7 @@ module _ (b : Book) where
       (pass-both merging (checkForest false false both-files arguments) (merge-says b once main (fit .exists) .1 (r .merged))
       (walk-says both-files (init-once once main) (names b) arguments (fitting-kids (names b) (initTree (b .files)) (init-tree-fits b fits)) .1 (w .arguments, r .argumentModes)))
 
-  init-refused : Distinct (map nameOf (ds b)) → {r : Refusal} → initVerdict b ≡ Refused r → InitRow b r
+  init-refused : Distinct (map definedName (ds b)) → {r : Refusal} → initVerdict b ≡ Refused r → InitRow b r
   unfolding initVerdict
   init-refused main e =
       elim (which-refused (decsVerdict (names b) ids) _ e) [
@@ -158,7 +159,7 @@ module _ (b : Book) where
       ]
 
   -- where the check passes, each name is defined once
-  check-once : check b ≡ Passed → Distinct (map nameOf (ds b))
+  check-once : check b ≡ Passed → Distinct (map definedName (ds b))
   unfolding check
   check-once e = decs-once (names b) (ds b) (both-pass (decsVerdict (names b) (ds b)) _ (both-pass (importsVerdict (imports b)) _ e .1) .0)
 
@@ -221,113 +222,71 @@ unfolding initCheck
 without-init b h = rw (init-verdict b h) (and-passed (check b))
 
 -- ---- The rows that there are: 2 to 10 and 12 to 14 in the check of a book, and 11 besides in the init check
-abbrev pub checkRows : List ℕ
-checkRows = 2 ∷ 3 ∷ 4 ∷ 5 ∷ 6 ∷ 7 ∷ 8 ∷ 9 ∷ 10 ∷ 12 ∷ 13 ∷ 14 ∷ []
+module _ {ds : List Definition} where
+  definitions-number : {r : Refusal} → DefinitionsRow ds r → T (member (numberOf r) checkRows)
+  unfolding member
+  definitions-number (twice x) = tt
+  definitions-number (unbound x) = tt
+  definitions-number (class x) = tt
+  definitions-number (modes x) = tt
+  definitions-number (oneway x) = tt
+  definitions-number (circle x) = tt
+  definitions-number (noFunction x) = tt
 
--- The other refusals.
-data Outside : Refusal → Type 0 where
-  broken-row : Outside Broken
-  differs-row : {n : ℕ} → Outside (Differs n)
-  absent-row : {n : ℕ} → Outside (Absent n)
-  short-row : {n : ℕ} → Outside (Short n)
-  actor-row : Outside NoActor
+  trees-number : {f : Forest Node} {r : Refusal} → TreesRow ds f r → T (member (numberOf r) checkRows)
+  unfolding member
+  trees-number (unbound x) = tt
+  trees-number (class x) = tt
+  trees-number (modes x) = tt
+  trees-number (oneway x) = tt
+  trees-number (methodNoFunction x) = tt
 
-in-or-out : (r : Refusal) → T (member (numberOf r) checkRows) ⊎ Outside r
+actor-number : {b : Book} {r : Refusal} → ActorRow b r → T (member (numberOf r) checkRows)
 unfolding member
-in-or-out Broken = inr broken-row
-in-or-out (Twice n) = inl tt
-in-or-out (Unbound n) = inl tt
-in-or-out Class = inl tt
-in-or-out Modes = inl tt
-in-or-out Oneway = inl tt
-in-or-out (Circle n) = inl tt
-in-or-out NoFunction = inl tt
-in-or-out (MethodNoFunction n) = inl tt
-in-or-out NoService = inl tt
-in-or-out (Differs n) = inr differs-row
-in-or-out (ImportWithoutActor n) = inl tt
-in-or-out (ImportNoService n) = inl tt
-in-or-out (SameHash n) = inl tt
-in-or-out (Absent n) = inr absent-row
-in-or-out (Short n) = inr short-row
-in-or-out NoActor = inr actor-row
+actor-number (unbound x) = tt
+actor-number (noService x) = tt
+actor-number (importWithoutActor x) = tt
+actor-number (importNoService x) = tt
+actor-number (sameHash x) = tt
 
-none-of : {A : Type 0} → ⊥ ⊎ (⊥ ⊎ ⊥) → A
-none-of s = absurd (⊎-elim (λ (x : ⊥). x) (⊎-elim (λ (x : ⊥). x) (λ (x : ⊥). x)) s)
+merge-number : {b : Book} {r : Refusal} → MergeRow b r → numberOf r ≡ 11
+merge-number (differs x) = refl
 
-not-outside : (b : Book) {r : Refusal} → Outside r → CheckRow b r → ⊥
-not-outside b broken-row s = none-of s
-not-outside b differs-row s = none-of s
-not-outside b absent-row s = none-of s
-not-outside b short-row s = none-of s
-not-outside b actor-row s = none-of s
+module _ (b : Book) (r : Refusal) where
+  among : T (member (numberOf r) checkRows) → List·Memᴰ (numberOf r) checkRows
+  among = member-says (numberOf r) checkRows .0
 
-outside-init : (b : Book) {r : Refusal} → Outside r → InitRow b r → numberOf r ≡ 11
-outside-init b broken-row s = none-of s
-outside-init b differs-row s = refl
-outside-init b absent-row s = none-of s
-outside-init b short-row s = none-of s
-outside-init b actor-row s = none-of s
+  pub check-numbers : CheckRow b r → List·Memᴰ (numberOf r) checkRows
+  check-numbers = ⊎-elim (λ x. among (definitions-number x)) (⊎-elim (λ x. among (trees-number x)) (λ x. among (actor-number x)))
 
-pub check-numbers : (b : Book) (r : Refusal) → CheckRow b r → List·Memᴰ (numberOf r) checkRows
-check-numbers b r s = ⊎-elim (member-says (numberOf r) checkRows .0) (λ o. absurd (not-outside b o s)) (in-or-out r)
-
-pub init-numbers : (b : Book) (r : Refusal) → CheckRow b r ⊎ InitRow b r → List·Memᴰ (numberOf r) (11 ∷ checkRows)
-init-numbers b r (inl s) = List·Memᴰ·tail (check-numbers b r s)
-init-numbers b r (inr s) =
-    elim (in-or-out r) [
-      | inl t ↦ List·Memᴰ·tail (member-says (numberOf r) checkRows .0 t)
-      | inr o ↦ List·Memᴰ·head (outside-init b o s)
-    ]
+  pub init-numbers : CheckRow b r ⊎ InitRow b r → List·Memᴰ (numberOf r) (11 ∷ checkRows)
+  init-numbers =
+      ⊎-elim (λ x. List·Memᴰ·tail (check-numbers x))
+      (⊎-elim (λ x. List·Memᴰ·tail (among (definitions-number x))) (⊎-elim (λ x. List·Memᴰ·head (merge-number x)) (λ x. List·Memᴰ·tail (among (trees-number x)))))
 
 -- ---- On bytes
 
--- The bytes are the layout of a book of which P holds.
-pub record BookIn (bs : List ℕ) (P : Book → Type 0) : Type 0 where
-  pub book : Book
-  pub laidOut : layout bs ≡ whole book
-  pub holds : P book
-
-module _ (f : Book → Verdict) (P : Book → Type 0) (bs : List ℕ) where
-  bytes-says : ((b : Book) → Fits b → (f b ≡ Passed) ↔ P b) → (onLayout f (layout bs) ≡ Passed) ↔ BookIn bs P
-  unfolding onLayout
-  bytes-says says = (go (layout bs) refl, λ x. rw (x .laidOut) (says (x .book) (found bs (x .book) .0 (x .laidOut) .0) .1 (x .holds)))
-    where
-      go : (l : Layout) → layout bs ≡ l → onLayout f l ≡ Passed → BookIn bs P
-      go broken w e = refused-passed e
-      go (whole b) w e = record { book = b; laidOut = w; holds = says b (found bs b .0 w .0) .0 e }
-
-  bytes-row : {r : Refusal} → ((b : Book) → f b ≡ Refused r → P b) → onLayout f (layout bs) ≡ Refused r → ((r ≡ Broken) × (layout bs ≡ broken)) ⊎ BookIn bs P
-  unfolding onLayout
-  bytes-row {r} row = go (layout bs) refl
-    where
-      go : (l : Layout) → layout bs ≡ l → onLayout f l ≡ Refused r → ((r ≡ Broken) × (layout bs ≡ broken)) ⊎ BookIn bs P
-      go broken w e = inl (cc, w)
-      go (whole b) w e = inr record { book = b; laidOut = w; holds = row b e }
-
-pub check-bytes-says : (bs : List ℕ) → (checkBytes bs ≡ Passed) ↔ BookIn bs (λ b. WellFormed b × Rust b)
+pub check-bytes-says : (bs : Source) → (checkBytes bs ≡ Passed) ↔ BookIn bs (λ b. WellFormed b × Rust b)
 unfolding checkBytes
-check-bytes-says bs = bytes-says check (λ b. WellFormed b × Rust b) bs check-says
+check-bytes-says bs = judged-says bs check (λ b. WellFormed b × Rust b) check-says
 
-pub check-bytes-row : (bs : List ℕ) {r : Refusal} → checkBytes bs ≡ Refused r → ((r ≡ Broken) × (layout bs ≡ broken)) ⊎ BookIn bs (λ b. CheckRow b r)
+pub check-bytes-row : (bs : Source) {r : Refusal} → checkBytes bs ≡ Refused r → InRow bs CheckRow r
 unfolding checkBytes
-check-bytes-row bs {r} e = bytes-row check (λ b. CheckRow b r) bs (λ b. check-row b) e
+check-bytes-row bs = judged-row bs check CheckRow (λ b. check-row b)
 
-pub init-check-bytes-says : (bs : List ℕ) →
+pub init-check-bytes-says : (bs : Source) →
     (initCheckBytes bs ≡ Passed) ↔ BookIn bs (λ b. (WellFormed b × Rust b) × (WellFormedInit b × RustInit b))
 unfolding initCheckBytes
-init-check-bytes-says bs = bytes-says initCheck (λ b. (WellFormed b × Rust b) × (WellFormedInit b × RustInit b)) bs init-check-says
+init-check-bytes-says bs = judged-says bs initCheck (λ b. (WellFormed b × Rust b) × (WellFormedInit b × RustInit b)) init-check-says
 
-pub init-check-bytes-row : (bs : List ℕ) {r : Refusal} → initCheckBytes bs ≡ Refused r →
-    ((r ≡ Broken) × (layout bs ≡ broken)) ⊎ BookIn bs (λ b. CheckRow b r ⊎ InitRow b r)
+pub init-check-bytes-row : (bs : Source) {r : Refusal} → initCheckBytes bs ≡ Refused r →
+    InRow bs (λ b r. CheckRow b r ⊎ InitRow b r) r
 unfolding initCheckBytes
-init-check-bytes-row bs {r} e = bytes-row initCheck (λ b. CheckRow b r ⊎ InitRow b r) bs (λ b. init-check-row b) e
+init-check-bytes-row bs = judged-row bs initCheck (λ b r. CheckRow b r ⊎ InitRow b r) (λ b. init-check-row b)
 
--- The rows that there are, with 1.
-pub check-bytes-numbers : (bs : List ℕ) {r : Refusal} → checkBytes bs ≡ Refused r → List·Memᴰ (numberOf r) (1 ∷ checkRows)
-check-bytes-numbers bs {r} e =
-    ⊎-elim (λ x. List·Memᴰ·head (ap numberOf (x .0))) (λ x. List·Memᴰ·tail (check-numbers (x .book) r (x .holds))) (check-bytes-row bs e)
+-- The rows that there are, with those of admission.
+pub check-bytes-numbers : (bs : Source) {r : Refusal} → checkBytes bs ≡ Refused r → List·Memᴰ (numberOf r) (admissionRows ++ checkRows)
+check-bytes-numbers bs {r} e = row-numbers bs CheckRow checkRows r (λ b. check-numbers b r) (check-bytes-row bs e)
 
-pub init-check-bytes-numbers : (bs : List ℕ) {r : Refusal} → initCheckBytes bs ≡ Refused r → List·Memᴰ (numberOf r) (1 ∷ 11 ∷ checkRows)
-init-check-bytes-numbers bs {r} e =
-    ⊎-elim (λ x. List·Memᴰ·head (ap numberOf (x .0))) (λ x. List·Memᴰ·tail (init-numbers (x .book) r (x .holds))) (init-check-bytes-row bs e)
+pub init-check-bytes-numbers : (bs : Source) {r : Refusal} → initCheckBytes bs ≡ Refused r → List·Memᴰ (numberOf r) (admissionRows ++ 11 ∷ checkRows)
+init-check-bytes-numbers bs {r} e = row-numbers bs (λ b r. CheckRow b r ⊎ InitRow b r) (11 ∷ checkRows) r (λ b. init-numbers b r) (init-check-bytes-row bs e)

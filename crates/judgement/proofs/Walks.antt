@@ -20,17 +20,19 @@ use Rattle.format.specs.Node.{Kind, PrimT, VarT, OptT, VecT, RecordT, VariantT,
 use Rattle.format.specs.Book.{Definition}
 use Rattle.format.specs.Fits.{placeBelow, kindFits, kindAllowed, labelFits, nodeFits, forestFits}
 use Rattle.format.proofs.Logic.{both, both₃, join₃}
-use Rattle.book.specs.declared.refusal.Refusal.{Refusal}
-use Rattle.book.specs.declared.refusal.Refusal.the-variants.{Unbound, Class, Modes, Oneway as OnewayResults, MethodNoFunction}
-use Rattle.book.specs.declared.refusal.Verdict.{Verdict}
-use Rattle.book.specs.declared.refusal.Verdict.the-variants.{Passed, Refused}
-use Rattle.book.specs.Refusal.{andThen}
+use Rattle.refusals.specs.declared.Refusal.{Refusal}
+use Rattle.refusals.specs.declared.Refusal.the-variants.{Unbound, Class, Modes, Oneway as OnewayResults, MethodNoFunction}
+use Rattle.refusals.specs.declared.Verdict.{Verdict}
+use Rattle.refusals.specs.declared.Verdict.the-variants.{Passed, Refused}
+use Rattle.refusals.specs.Verdict.{andThen}
 use Rattle.judgement.specs.Environment.{Found, missing, body, findType, isFuncKind, isServKind, asFunc}
 use Rattle.judgement.specs.Check.{nameVerdict, isOneway, modesVerdict, kindVerdict, methodVerdict, checkForest, methodsFit}
-use Rattle.judgement.specs.WellFormed.{Occurs, here, Beside, first, later, Defined, StandsFor, Bound, NoClass, OnewayWithoutResults, MethodsAreFunctions, OneMode, WellFormedTrees}
+use Rattle.format.specs.Occurs.{Occurs, here, Beside, first, later}
+use Rattle.judgement.specs.WellFormed.{Defined, StandsFor, Bound, NoClass, OnewayWithoutResults, MethodsAreFunctions, OneMode, WellFormedTrees}
 use Rattle.judgement.specs.Rows.{HasMethod, DefinitionsRow, TreesRow}
-use Rattle.judgement.proofs.Verdicts.{refused-passed, passed-refused, both-pass, pass-both, which-refused, unless-passed, passed-unless, unless-refused, fails-not}
-use Rattle.judgement.proofs.Occurs.{Everywhere, Somewhere, EachTree, occurs-end, beside-none, everywhere-tree, in-kids, in-next, each-tree, in-others, somewhere-below, somewhere-after, reference-occurs, occurs-reference}
+use Rattle.judgement.specs.Rows as rows
+use Rattle.refusals.proofs.Verdicts.{refused-passed, passed-refused, both-pass, pass-both, which-refused, unless-passed, passed-unless, unless-refused, fails-not}
+use Rattle.format.proofs.Occurs.{Everywhere, Somewhere, EachTree, occurs-end, beside-none, everywhere-tree, in-kids, in-next, each-tree, in-others, somewhere-below, somewhere-after, reference-occurs, occurs-reference}
 
 -- ---- Tests
 
@@ -323,20 +325,20 @@ pub bad-trees : (ds : List Definition) (f : Forest Node) {r : Refusal} → Somew
 bad-trees ds f s = go (s .2) (s .3)
   where
     go : {n : Node} {kids : Forest Node} {r : Refusal} → Occurs n kids f → BadNode ds r n kids → TreesRow ds f r
-    go o (unbound e h) = (occurs-reference o e, h)
-    go {n} {kids} o (class e) = (n, kids, o, e)
-    go {n} {kids} o (modes {a = a} {ms = ms} e (many h)) = (n, kids, a, ms, o, e, h)
-    go {n} {kids} o (modes {a = a} e (results q h)) = (n, kids, a, o, e ∙ ap (FuncT a) q, h)
+    go o (unbound e h) = rows.unbound (occurs-reference o e, h)
+    go {n} {kids} o (class e) = rows.class (n, kids, o, e)
+    go {n} {kids} o (modes {a = a} {ms = ms} e (many h)) = rows.modes (n, kids, a, ms, o, e, h)
+    go {n} {kids} o (modes {a = a} e (results q h)) = rows.oneway (n, kids, a, o, e ∙ ap (FuncT a) q, h)
 
 -- .. and where the trees are a definition's body, the definitions.
 bad-definitions : (ds : List Definition) (d : Definition) {r : Refusal} → List·Memᴰ d ds → Somewhere (BadNode ds r) (d .body) → DefinitionsRow ds r
-bad-definitions ds d i s = go (bad-trees ds (d .body) s) (s .3)
+bad-definitions ds d i s = go (s .2) (s .3)
   where
-    go : {κ : Kind} {k : ℕ} {r : Refusal} → TreesRow ds (d .body) r → Unasked ds κ k r → DefinitionsRow ds r
-    go t (unbound e h) = (d, i, t)
-    go t (class e) = (d, i, t)
-    go t (modes e (many h)) = (d, i, t)
-    go t (modes e (results q h)) = (d, i, t)
+    go : {n : Node} {kids : Forest Node} {r : Refusal} → Occurs n kids (d .body) → BadNode ds r n kids → DefinitionsRow ds r
+    go o (unbound e h) = rows.unbound (d, i, (occurs-reference o e, h))
+    go {n} {kids} o (class e) = rows.class (d, i, (n, kids, o, e))
+    go {n} {kids} o (modes {a = a} {ms = ms} e (many h)) = rows.modes (d, i, (n, kids, a, ms, o, e, h))
+    go {n} {kids} o (modes {a = a} e (results q h)) = rows.oneway (d, i, (n, kids, a, o, e ∙ ap (FuncT a) q, h))
 
 -- With its methods, that is well-formed, and one mode.
 pub trees-well-formed : (ds : List Definition) (f : Forest Node) → (TreesPass ds f × MethodsAreFunctions ds f) ↔ (WellFormedTrees ds f × OneMode f)
@@ -485,7 +487,7 @@ module _ (ds : List Definition) (func : (t : Forest Node) → T (asFunc ds t) �
       where
         row : {n : Node} {kids : Forest Node} → Occurs n kids f → Refuses false ds n kids r → TreesRow ds f r
         row {n} {kids} o (itself u) = bad-trees ds f (n, kids, o, u)
-        row o (child t u d) = subst (TreesRow ds f) (sym d) (has-method o t u)
+        row o (child t u d) = subst (TreesRow ds f) (sym d) (rows.methodNoFunction (has-method o t u))
 
     pub walk-trees-row : (f : Forest Node) {r : Refusal} → checkForest false false ds f ≡ Refused r → TreesRow ds f r
     walk-trees-row f e = elim (walk-methods-row false f e) [ inl t ↦ t | inr m ↦ absurd (m .0) ]

@@ -1,9 +1,8 @@
 -- The actor that a book means: `IDLMergedProg::resolve_actor` of syntax/mod.rs, where nothing is refused. Definitions; assumes nothing.
 use mathlib.Core.Bool.{Bool, true, false, cond}
 use mathlib.Core.List.{List, [], _∷_}
-use Prim.Native.Nat.{ℕ}
 use Rattle.format.specs.Forest.{Forest, end, tree, beside}
-use Rattle.format.specs.Node.{Kind, PrimT, VarT, OptT, VecT, RecordT, VariantT, FuncT, ServT, ClassT, InitT, Labelled, unlabelled, Node}
+use Rattle.format.specs.Node.{Kind, PrimT, VarT, OptT, VecT, RecordT, VariantT, FuncT, ServT, ClassT, InitT, unlabelled, Node}
 use Rattle.format.specs.Book.{Definition, Role, Main, TypeImport, ServiceImport, InitArgs, File, Book}
 use Rattle.judgement.specs.Environment.{mainDefinitions, aliasEnd, kidsOf, methodsAt}
 
@@ -75,11 +74,13 @@ unfoldable pub importedMethods : List Definition → List File → Forest Node
 importedMethods ds [] = end
 importedMethods ds (f ∷ fs) = beside (methodsOf ds (f .actor)) (importedMethods ds fs)
 
--- Main's methods first, then each import's in file order; a class keeps its arguments.
+-- Main with these methods: a class keeps its arguments.
+abbrev pub mergedOf : Forest Node → Forest Node → Forest Node
+mergedOf main methods = cond (isClass main) (classOf (classArguments main) (serviceOf methods)) (serviceOf methods)
+
+-- Main's methods first, then each import's in file order.
 unfoldable pub mergedActor : List Definition → Forest Node → List File → Forest Node
-mergedActor ds main imports =
-    let service = serviceOf (beside (methodsOf ds (belowClass main)) (importedMethods ds imports)) in
-    cond (isClass main) (classOf (classArguments main) service) service
+mergedActor ds main imports = mergedOf main (beside (methodsOf ds (belowClass main)) (importedMethods ds imports))
 
 -- Without service imports the main actor is taken as written; `end` where there is none.
 unfoldable pub resolveWith : List Definition → Forest Node → List File → Forest Node

@@ -1,24 +1,25 @@
 -- The check: document 01's refusals in their order, function by function as typing.rs and syntax/mod.rs have them. Definitions; assumes nothing.
 use mathlib.Core.Bool.{Bool, true, false, cond, _&&_, _||_, not}
 use mathlib.Core.List.{List, [], _∷_}
-use Prim.Native.Nat.{ℕ, zero, suc, _+_}
+use Prim.Native.Nat.{ℕ, zero, suc}
 use lib.ListN.{length, getD}
 use lib.Dec.{ltb, eqb}
 use Rattle.labels.specs.Number.{labelNumber}
 use Rattle.format.specs.declared.Place.the-variants.{Root}
 use Rattle.format.specs.Forest.{Forest, end, tree, breadth}
 use Rattle.format.specs.Node.{Kind, PrimT, VarT, OptT, VecT, RecordT, VariantT, FuncT, ServT, ClassT, InitT, FuncMode, Oneway, Query, CompositeQuery, Node, labelValue}
-use Rattle.format.specs.Book.{Definition, Role, Main, TypeImport, ServiceImport, InitArgs, File, Book}
+use Rattle.format.specs.Book.{Definition, File, Book}
 use Rattle.format.specs.Fits.{isInitRole}
 use Rattle.format.specs.Rules.{noTrees}
-use Rattle.format.specs.Layout.{Layout, broken, whole, layout}
-use Rattle.book.specs.declared.refusal.Refusal.{Refusal}
-use Rattle.book.specs.declared.refusal.Refusal as refusal
-use Rattle.book.specs.declared.refusal.Verdict.{Verdict}
-use Rattle.book.specs.declared.refusal.Verdict.the-variants.{Passed, Refused}
-use Rattle.book.specs.Refusal.{andThen, unless}
+use Rattle.format.specs.Admission.{admitted, Source}
+use Rattle.refusals.specs.declared.Refusal.{Refusal}
+use Rattle.refusals.specs.declared.Refusal as refusal
+use Rattle.refusals.specs.declared.Verdict.{Verdict}
+use Rattle.refusals.specs.declared.Verdict.the-variants.{Passed, Refused}
+use Rattle.refusals.specs.Verdict.{andThen, unless}
+use Rattle.refusals.specs.Outcome.{judged}
 use Rattle.judgement.specs.Environment.{mainDefinitions, initDefinitions, mergeDefinitions, Found, missing, body, findType, End, unbound, circle, ends, aliasEnd, isServKind, rootPasses, asFunc, asService, kidsOf, sameForest}
-use Rattle.judgement.specs.Actor.{isServiceImport, serviceImports, mainActor, isClass, lastTree, belowClass, resolveActor}
+use Rattle.judgement.specs.Actor.{serviceImports, mainActor, isClass, belowClass, resolveActor}
 
 -- ---- Types: `check_type`, `check_fields`, `check_meths`
 
@@ -193,13 +194,9 @@ initVerdict b =
 unfoldable pub initCheck : Book → Verdict
 initCheck b = andThen (check b) (initVerdict b)
 
--- On bytes: 1 first.
-unfoldable pub onLayout : (Book → Verdict) → Layout → Verdict
-onLayout f broken = Refused refusal.Refusal.Broken
-onLayout f (whole b) = f b
+-- On bytes, after admission.
+unfoldable pub checkBytes : Source → Verdict
+checkBytes bs = judged check (admitted bs)
 
-unfoldable pub checkBytes : List ℕ → Verdict
-checkBytes bs = onLayout check (layout bs)
-
-unfoldable pub initCheckBytes : List ℕ → Verdict
-initCheckBytes bs = onLayout initCheck (layout bs)
+unfoldable pub initCheckBytes : Source → Verdict
+initCheckBytes bs = judged initCheck (admitted bs)

@@ -2,15 +2,14 @@
 use mathlib.Core.Bool.{Bool, true, false, cond, _&&_, not}
 use mathlib.Core.List.{List, [], _∷_, _++_}
 use Prim.Native.Nat.{ℕ, zero, suc}
-use lib.ListN.{length, getD}
+use lib.ListN.{length}
 use lib.Dec.{eqb}
-use Rattle.labels.specs.Label.{numberOf, valueOf}
 use Rattle.format.specs.declared.Place.{Place}
-use Rattle.format.specs.declared.Place.the-variants.{Root, Field, Method, Inner}
 use Rattle.format.specs.Forest.{Forest, end, tree}
-use Rattle.format.specs.Node.{Kind, PrimT, VarT, OptT, VecT, RecordT, VariantT, FuncT, ServT, ClassT, InitT, Labelled, unlabelled, labelled, Node, kindNumber, valueNumber, labelValue}
+use Rattle.format.specs.Node.{Kind, PrimT, VarT, OptT, VecT, RecordT, VariantT, FuncT, ServT, ClassT, InitT, Node, kindNumber, valueNumber}
 use Rattle.format.specs.Book.{Definition, Role, Main, File, Book}
 use Rattle.format.specs.Fits.{isInitRole, placeBelow}
+use Rattle.format.specs.Labels.{sameLabel}
 
 -- ---- Definitions by name
 
@@ -156,18 +155,6 @@ methodsAt (ends t) = kidsOf t
 -- Kinds compare by their numbers and values: a name's number, a function's argument count and modes.
 unfoldable pub sameKind : Kind → Kind → Bool
 sameKind k l = eqb (kindNumber k) (kindNumber l) && eqb (valueNumber k) (valueNumber l)
-
--- A label's number, where `names` are the bytes of the names.
-unfoldable pub labelId : List (List ℕ) → Labelled → ℕ
-labelId names unlabelled = 0
-labelId names (labelled l) = numberOf l (getD names (valueOf l) [])
-
--- Labels at a place: fields by number, methods by name; elsewhere there are none.
-unfoldable pub sameLabel : List (List ℕ) → Place → Labelled → Labelled → Bool
-sameLabel names Root l m = true
-sameLabel names Field l m = eqb (labelId names l) (labelId names m)
-sameLabel names Method l m = eqb (labelValue l) (labelValue m)
-sameLabel names Inner l m = true
 
 unfoldable pub sameForest : List (List ℕ) → Place → Forest Node → Forest Node → Bool
 sameForest names p end end = true

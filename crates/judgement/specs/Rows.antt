@@ -3,7 +3,7 @@
 use mathlib.Core.Path.{_≡_}
 use mathlib.Core.Logic.{_⊎_}
 use mathlib.Core.List.{List, [], _∷_, _++_, map, List·Memᴰ}
-use Prim.Native.Nat.{ℕ, zero, suc, _<_, _≤_}
+use Prim.Native.Nat.{ℕ, zero, suc, _<_}
 use lib.ListN.{length}
 use lib.Dec.{T}
 use Rattle.format.specs.declared.Place.the-variants.{Root}
@@ -11,12 +11,14 @@ use Rattle.format.specs.Forest.{Forest, end, tree, breadth}
 use Rattle.format.specs.Node.{FuncT, ServT, ClassT, FuncMode, Oneway, Node, labelValue}
 use Rattle.format.specs.Book.{Definition, File, Book}
 use Rattle.format.specs.References.{references}
-use Rattle.book.specs.declared.refusal.Refusal.{Refusal}
-use Rattle.book.specs.declared.refusal.Refusal.the-variants.{Broken, Twice, Unbound, Class, Modes, Oneway as OnewayResults, Circle, NoFunction, MethodNoFunction, NoService, Differs, ImportWithoutActor, ImportNoService, SameHash, Absent, Short, NoActor}
+use Rattle.refusals.specs.declared.Refusal.{Refusal}
+use Rattle.refusals.specs.declared.Refusal.the-variants.{Twice, Unbound, Class, Modes, Oneway as OnewayResults, Circle, NoFunction, MethodNoFunction, NoService, Differs, ImportWithoutActor, ImportNoService, SameHash}
 use Rattle.judgement.specs.Environment.{mainDefinitions, initDefinitions, mergeDefinitions, named, head, isFuncKind, isServKind, kidsOf, sameForest}
 use Rattle.judgement.specs.Actor.{serviceImports, mainActor, belowClass, resolveActor}
 use Rattle.judgement.specs.Check.{initTree}
-use Rattle.judgement.specs.WellFormed.{Occurs, Beside, nameOf, Defined, StandsFor, belowTop, methodHashes, methodNames}
+use Rattle.format.specs.Occurs.{Occurs, Beside}
+use Rattle.judgement.specs.WellFormed.{definedName, Defined, StandsFor, belowTop, methodHashes}
+use Rattle.format.specs.Labels.{methodNames}
 
 -- ---- Rows that speak of trees and definitions alone
 
@@ -25,12 +27,12 @@ abbrev pub Repeated : {A : Type 0} → A → List A → Type 0
 Repeated {A} a l = (xs : List A) × (ys : List A) × (l ≡ xs ++ (a ∷ ys)) × List·Memᴰ a ys
 
 -- The alias chain goes on for k names, and for ever.
-abbrev pub Goes : List Definition → ℕ → Forest Node → Type 0
-Goes ds zero t = Unit {0}
-Goes ds (suc k) t = (n : ℕ) × (d : Definition) × (head t ≡ named n) × List·Memᴰ d ds × (d .name ≡ n) × Goes ds k (d .body)
+abbrev pub GoesOn : List Definition → ℕ → Forest Node → Type 0
+GoesOn ds zero t = Unit {0}
+GoesOn ds (suc k) t = (n : ℕ) × (d : Definition) × (head t ≡ named n) × List·Memᴰ d ds × (d .name ≡ n) × GoesOn ds k (d .body)
 
 abbrev pub NeverEnds : List Definition → Forest Node → Type 0
-NeverEnds ds t = (k : ℕ) → Goes ds k t
+NeverEnds ds t = (k : ℕ) → GoesOn ds k t
 
 -- A function of more than one mode; a sole mode oneway with results; a class; a method that is no function.
 abbrev pub HasModes : Forest Node → Type 0
@@ -56,44 +58,22 @@ abbrev pub InBodies : List Definition → (Forest Node → Type 0) → Type 0
 InBodies ds P = (d : Definition) × List·Memᴰ d ds × P (d .body)
 
 -- ---- The rows of definitions, by the refusal with its name
-abbrev pub DefinitionsRow : List Definition → Refusal → Type 0
-DefinitionsRow ds Broken = ⊥
-DefinitionsRow ds (Twice n) = Repeated n (map nameOf ds)
-DefinitionsRow ds (Unbound n) = InBodies ds (UsesUnbound ds n)
-DefinitionsRow ds Class = InBodies ds HasClass
-DefinitionsRow ds Modes = InBodies ds HasModes
-DefinitionsRow ds OnewayResults = InBodies ds HasOneway
-DefinitionsRow ds (Circle n) = (d : Definition) × List·Memᴰ d ds × (d .name ≡ n) × NeverEnds ds (d .body)
-DefinitionsRow ds NoFunction = (n : ℕ) × InBodies ds (HasMethod ds n)
-DefinitionsRow ds (MethodNoFunction n) = ⊥
-DefinitionsRow ds NoService = ⊥
-DefinitionsRow ds (Differs n) = ⊥
-DefinitionsRow ds (ImportWithoutActor n) = ⊥
-DefinitionsRow ds (ImportNoService n) = ⊥
-DefinitionsRow ds (SameHash n) = ⊥
-DefinitionsRow ds (Absent n) = ⊥
-DefinitionsRow ds (Short n) = ⊥
-DefinitionsRow ds NoActor = ⊥
+pub data DefinitionsRow (ds : List Definition) : Refusal → Type 0 where
+  twice : {n : ℕ} → Repeated n (map definedName ds) → DefinitionsRow ds (Twice n)
+  unbound : {n : ℕ} → InBodies ds (UsesUnbound ds n) → DefinitionsRow ds (Unbound n)
+  class : InBodies ds HasClass → DefinitionsRow ds Class
+  modes : InBodies ds HasModes → DefinitionsRow ds Modes
+  oneway : InBodies ds HasOneway → DefinitionsRow ds OnewayResults
+  circle : {n : ℕ} → ((d : Definition) × List·Memᴰ d ds × (d .name ≡ n) × NeverEnds ds (d .body)) → DefinitionsRow ds (Circle n)
+  noFunction : {n : ℕ} → InBodies ds (HasMethod ds n) → DefinitionsRow ds NoFunction
 
 -- The rows of trees that are walked as an actor or as init arguments.
-abbrev pub TreesRow : List Definition → Forest Node → Refusal → Type 0
-TreesRow ds f Broken = ⊥
-TreesRow ds f (Twice n) = ⊥
-TreesRow ds f (Unbound n) = UsesUnbound ds n f
-TreesRow ds f Class = HasClass f
-TreesRow ds f Modes = HasModes f
-TreesRow ds f OnewayResults = HasOneway f
-TreesRow ds f (Circle n) = ⊥
-TreesRow ds f NoFunction = ⊥
-TreesRow ds f (MethodNoFunction n) = HasMethod ds n f
-TreesRow ds f NoService = ⊥
-TreesRow ds f (Differs n) = ⊥
-TreesRow ds f (ImportWithoutActor n) = ⊥
-TreesRow ds f (ImportNoService n) = ⊥
-TreesRow ds f (SameHash n) = ⊥
-TreesRow ds f (Absent n) = ⊥
-TreesRow ds f (Short n) = ⊥
-TreesRow ds f NoActor = ⊥
+pub data TreesRow (ds : List Definition) (f : Forest Node) : Refusal → Type 0 where
+  unbound : {n : ℕ} → UsesUnbound ds n f → TreesRow ds f (Unbound n)
+  class : HasClass f → TreesRow ds f Class
+  modes : HasModes f → TreesRow ds f Modes
+  oneway : HasOneway f → TreesRow ds f OnewayResults
+  methodNoFunction : {n : ℕ} → HasMethod ds n f → TreesRow ds f (MethodNoFunction n)
 
 -- ---- The rows of the actor and its imports
 
@@ -107,32 +87,25 @@ HashRepeated names ms name =
     (i j : ℕ) × (i < j) × (j < length (methodNames ms)) × (lib.ListN.getD (methodNames ms) j 0 ≡ name)
     × (lib.ListN.getD (methodHashes names ms) i 0 ≡ lib.ListN.getD (methodHashes names ms) j 0)
 
-abbrev pub ActorRow : Book → Refusal → Type 0
-ActorRow b Broken = ⊥
-ActorRow b (Twice n) = ⊥
-ActorRow b (Unbound n) =
-    MeetsUnbound (mainDefinitions b) n (mainActor b) ⊎ ((f : File) × List·Memᴰ f (serviceImports (b .files)) × MeetsUnbound (mainDefinitions b) n (f .actor))
-ActorRow b Class = ⊥
-ActorRow b Modes = ⊥
-ActorRow b OnewayResults = ⊥
-ActorRow b (Circle n) = ⊥
-ActorRow b NoFunction = ⊥
-ActorRow b (MethodNoFunction n) = ⊥
-ActorRow b NoService = (mainActor b ≡ end → ⊥) × (StandsFor isServKind (mainDefinitions b) (belowClass (mainActor b)) → ⊥)
-ActorRow b (Differs n) = ⊥
-ActorRow b (ImportWithoutActor n) = (f : File) × List·Memᴰ f (serviceImports (b .files)) × (f .name ≡ n) × (f .actor ≡ end)
-ActorRow b (ImportNoService n) =
-    (f : File) × List·Memᴰ f (serviceImports (b .files)) × (f .name ≡ n) × (StandsFor isServKind (mainDefinitions b) (f .actor) → ⊥)
-ActorRow b (SameHash n) =
-    (serviceImports (b .files) ≡ [] → ⊥) × HashRepeated (b .names) (kidsOf (belowClass (resolveActor b))) n
-ActorRow b (Absent n) = ⊥
-ActorRow b (Short n) = ⊥
-ActorRow b NoActor = ⊥
+pub data ActorRow (b : Book) : Refusal → Type 0 where
+  unbound : {n : ℕ} →
+      MeetsUnbound (mainDefinitions b) n (mainActor b) ⊎ ((f : File) × List·Memᴰ f (serviceImports (b .files)) × MeetsUnbound (mainDefinitions b) n (f .actor)) →
+      ActorRow b (Unbound n)
+  noService : (mainActor b ≡ end → ⊥) × (StandsFor isServKind (mainDefinitions b) (belowClass (mainActor b)) → ⊥) → ActorRow b NoService
+  importWithoutActor : {n : ℕ} → ((f : File) × List·Memᴰ f (serviceImports (b .files)) × (f .name ≡ n) × (f .actor ≡ end)) → ActorRow b (ImportWithoutActor n)
+  importNoService : {n : ℕ} →
+      ((f : File) × List·Memᴰ f (serviceImports (b .files)) × (f .name ≡ n) × (StandsFor isServKind (mainDefinitions b) (f .actor) → ⊥)) →
+      ActorRow b (ImportNoService n)
+  sameHash : {n : ℕ} → (serviceImports (b .files) ≡ [] → ⊥) × HashRepeated (b .names) (kidsOf (belowClass (resolveActor b))) n → ActorRow b (SameHash n)
 
 -- A refusal of the check: of the definitions, of the actor's walk, or of the actor and its imports.
 abbrev pub CheckRow : Book → Refusal → Type 0
 CheckRow b r =
     DefinitionsRow (mainDefinitions b) r ⊎ (TreesRow (mainDefinitions b) (belowTop (resolveActor b)) r ⊎ ActorRow b r)
+
+-- The numbers that there are.
+abbrev pub checkRows : List ℕ
+checkRows = 2 ∷ 3 ∷ 4 ∷ 5 ∷ 6 ∷ 7 ∷ 8 ∷ 9 ∷ 10 ∷ 12 ∷ 13 ∷ 14 ∷ []
 
 -- ---- The rows of init arguments
 
@@ -143,24 +116,8 @@ Disagree b n =
     × (T (sameForest (b .names) Root (d .body) (e .body)) → ⊥)
 
 -- The lowest name of which that holds.
-abbrev pub MergeRow : Book → Refusal → Type 0
-MergeRow b Broken = ⊥
-MergeRow b (Twice n) = ⊥
-MergeRow b (Unbound n) = ⊥
-MergeRow b Class = ⊥
-MergeRow b Modes = ⊥
-MergeRow b OnewayResults = ⊥
-MergeRow b (Circle n) = ⊥
-MergeRow b NoFunction = ⊥
-MergeRow b (MethodNoFunction n) = ⊥
-MergeRow b NoService = ⊥
-MergeRow b (Differs n) = Disagree b n × ((m : ℕ) → m < n → Disagree b m → ⊥)
-MergeRow b (ImportWithoutActor n) = ⊥
-MergeRow b (ImportNoService n) = ⊥
-MergeRow b (SameHash n) = ⊥
-MergeRow b (Absent n) = ⊥
-MergeRow b (Short n) = ⊥
-MergeRow b NoActor = ⊥
+pub data MergeRow (b : Book) : Refusal → Type 0 where
+  differs : {n : ℕ} → Disagree b n × ((m : ℕ) → m < n → Disagree b m → ⊥) → MergeRow b (Differs n)
 
 abbrev pub InitRow : Book → Refusal → Type 0
 InitRow b r =

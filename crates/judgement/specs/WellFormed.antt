@@ -2,46 +2,30 @@
 -- knows of the check or its verdicts (proofs/Theorems.antt joins the two). Definitions; assumes nothing.
 use mathlib.Core.Path.{_≡_}
 use mathlib.Core.Logic.{_⊎_}
-use mathlib.Core.Bool.{Bool, true, false, cond}
+use mathlib.Core.Bool.{Bool, true, cond}
 use mathlib.Core.List.{List, [], _∷_, map, List·Memᴰ}
-use Prim.Native.Nat.{ℕ, zero, suc, _+_, _≤_, _<_}
+use Prim.Native.Nat.{ℕ, _≤_}
 use lib.ListN.{length, getD}
 use lib.Dec.{T}
 use Rattle.labels.specs.Number.{labelNumber}
 use Rattle.format.specs.declared.Place.the-variants.{Root}
 use Rattle.format.specs.Forest.{Forest, end, tree, breadth}
-use Rattle.format.specs.Node.{Kind, RecordT, VariantT, FuncT, ServT, ClassT, FuncMode, Oneway, Node, labelValue}
+use Rattle.format.specs.Node.{Kind, FuncT, ServT, ClassT, FuncMode, Oneway, Node, labelValue}
 use Rattle.format.specs.Book.{Definition, File, Book}
 use Rattle.format.specs.References.{references}
-use Rattle.judgement.specs.Environment.{mainDefinitions, initDefinitions, mergeDefinitions, Head, named, other, head, isFuncKind, isServKind, kidsOf, labelId, sameForest}
+use Rattle.judgement.specs.Environment.{mainDefinitions, initDefinitions, mergeDefinitions, named, other, head, isFuncKind, isServKind, kidsOf, sameForest}
+use Rattle.format.specs.Occurs.{Occurs, Beside}
+use Rattle.format.specs.Distinct.{Distinct}
 use Rattle.judgement.specs.Actor.{serviceImports, mainActor, isClass, belowClass, resolveActor}
 use Rattle.judgement.specs.Check.{initTree}
 
--- ---- Trees
-
--- A node with these children stands somewhere in a forest.
-pub data Occurs (n : Node) (kids : Forest Node) : Forest Node → Type 0 where
-  here : {next : Forest Node} → Occurs n kids (tree n kids next)
-  below : {m : Node} {lids next : Forest Node} → Occurs n kids lids → Occurs n kids (tree m lids next)
-  after : {m : Node} {lids next : Forest Node} → Occurs n kids next → Occurs n kids (tree m lids next)
-
--- It is one of the trees beside each other.
-pub data Beside (n : Node) (kids : Forest Node) : Forest Node → Type 0 where
-  first : {next : Forest Node} → Beside n kids (tree n kids next)
-  later : {m : Node} {lids next : Forest Node} → Beside n kids next → Beside n kids (tree m lids next)
-
--- No element stands twice.
-pub data Distinct {A : Type 0} : List A → Type 0 where
-  none : Distinct []
-  more : {a : A} {l : List A} → (List·Memᴰ a l → ⊥) → Distinct l → Distinct (a ∷ l)
-
 -- ---- Names
-abbrev pub nameOf : Definition → ℕ
-nameOf d = d .name
+abbrev pub definedName : Definition → ℕ
+definedName d = d .name
 
 -- A name has a definition.
 abbrev pub Defined : List Definition → ℕ → Type 0
-Defined ds n = List·Memᴰ n (map nameOf ds)
+Defined ds n = List·Memᴰ n (map definedName ds)
 
 -- A type leads to another by aliases alone: it is no name, or its definition leads there.
 pub data Leads (ds : List Definition) : Forest Node → Forest Node → Type 0 where
@@ -87,7 +71,7 @@ OneMode f = (n : Node) (kids : Forest Node) (a : ℕ) (ms : List FuncMode) → O
 
 -- ---- Definitions, all in one space
 pub record WellFormedDefinitions (ds : List Definition) : Type 0 where
-  pub once : Distinct (map nameOf ds)
+  pub once : Distinct (map definedName ds)
   pub trees : (d : Definition) → List·Memᴰ d ds → WellFormedTrees ds (d .body)
   pub chains : (d : Definition) → List·Memᴰ d ds → StandsFor (λ k. true) ds (d .body)
 
@@ -129,17 +113,3 @@ pub record RustInit (b : Book) : Type 0 where
   pub modes : OneModeDefinitions (initDefinitions b)
   pub argumentModes : OneMode (kidsOf (initTree (b .files)))
   pub merged : (d e : Definition) → List·Memᴰ d (initDefinitions b) → List·Memᴰ e (mainDefinitions b) → d .name ≡ e .name → T (sameForest (b .names) Root (d .body) (e .body))
-
--- ---- Candid.md: labels of a record or variant differ by number, methods of a service by name. The Rust leaves this to its grammar, so
--- books with repeats pass: it is written here and not asked.
-unfoldable pub labelIds : List (List ℕ) → Forest Node → List ℕ
-labelIds names end = []
-labelIds names (tree n kids next) = labelId names (n .label) ∷ labelIds names next
-
-unfoldable pub methodNames : Forest Node → List ℕ
-methodNames end = []
-methodNames (tree n kids next) = labelValue (n .label) ∷ methodNames next
-
-pub record Labels (names : List (List ℕ)) (f : Forest Node) : Type 0 where
-  pub fields : (n : Node) (kids : Forest Node) → Occurs n kids f → (n .kind ≡ RecordT) ⊎ (n .kind ≡ VariantT) → Distinct (labelIds names kids)
-  pub methods : (n : Node) (kids : Forest Node) → Occurs n kids f → n .kind ≡ ServT → Distinct (methodNames kids)

@@ -6,10 +6,10 @@ use Rattle.labels.specs.declared.Label.the-variants.{Id, Named, Unnamed}
 use Rattle.labels.specs.Number.{labelNumber}
 
 -- The label kind: 1 number, 2 name number, 3 unnamed number.
-abbrev pub kindOf : Label → ℕ
-kindOf (Id n) = 1
-kindOf (Named n) = 2
-kindOf (Unnamed n) = 3
+abbrev pub labelKindOf : Label → ℕ
+labelKindOf (Id n) = 1
+labelKindOf (Named n) = 2
+labelKindOf (Unnamed n) = 3
 
 -- The number that stands in the label; for a name, its place in the table of names.
 abbrev pub valueOf : Label → ℕ
@@ -18,7 +18,7 @@ valueOf (Named n) = n
 valueOf (Unnamed n) = n
 
 -- The label's number: numbered and unnamed labels are their number, a name has that of its bytes.
-abbrev pub numberOf : Label → List ℕ → ℕ
-numberOf (Id n) name = n
-numberOf (Named n) name = labelNumber name
-numberOf (Unnamed n) name = n
+abbrev pub idOf : Label → List ℕ → ℕ
+idOf (Id n) name = n
+idOf (Named n) name = labelNumber name
+idOf (Unnamed n) name = n

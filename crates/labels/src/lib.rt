@@ -4,7 +4,7 @@ ghost use mathlib.Core.Path.{_≡_};
 ghost use Prim.Native.Nat.{_*_, _%_, _^_};
 ghost use lib.Dec.{eqb};
 ghost use Rattle.labels.specs.Number.{labelNumber};
-ghost use Rattle.labels.specs.Label.{kindOf, valueOf, numberOf};
+ghost use Rattle.labels.specs.Label.{labelKindOf, valueOf, idOf};
 
 // x times 223, modulo 2^32. In 64 bits the product fits.
 fn mul_223(x: u32) -> u32
@@ -70,7 +70,7 @@ impl Label {
 
     // The label kind that a book writes for it.
     pub fn kind(self) -> u8
-        ensures { λ r. ⌜ r ≡ kindOf self ⌝ }
+        ensures { λ r. ⌜ r ≡ labelKindOf self ⌝ }
     {
         match self {
             Label::Id(_) => Label::ID,
@@ -92,7 +92,7 @@ impl Label {
 
     // The label's number, where `name` holds the bytes of its name. Only a `Named` label reads them.
     pub fn get_id(self, name: &[u8]) -> u32
-        ensures { λ r. ⌜ r ≡ numberOf self (now (name .entry)) ⌝ }
+        ensures { λ r. ⌜ r ≡ idOf self (now (name .entry)) ⌝ }
     {
         match self {
             Label::Id(n) => n,
@@ -103,7 +103,7 @@ impl Label {
 
     // Whether two labels are equal: their numbers are.
     pub fn same(self, name: &[u8], other: Label, other_name: &[u8]) -> bool
-        ensures { λ r. ⌜ r ≡ eqb (numberOf self (now (name .entry))) (numberOf other (now («other_name» .entry))) ⌝ }
+        ensures { λ r. ⌜ r ≡ eqb (idOf self (now (name .entry))) (idOf other (now («other_name» .entry))) ⌝ }
     {
         self.get_id(name) == other.get_id(other_name)
     }

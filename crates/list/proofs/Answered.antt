@@ -5,11 +5,11 @@ use Prim.Native.Nat.{ℕ, _≤_}
 use native.Mathlib.Omega.{arith}
 use lib.ListN.{length, take, drop, length-append}
 use lib.Seq.{take-at}
-use Rattle.book.specs.declared.refusal.Refusal.{Refusal}
-use Rattle.listing.specs.Questions.{Outcome, refused, given, fit}
-use Rattle.analysis.specs.declared.hand.Answer.{Answer}
-use Rattle.analysis.specs.declared.hand.Answer.the-variants.{Given, Refused}
-use Rattle.analysis.specs.Handed.{answerOf, leftIn, HandedAs}
+use Rattle.refusals.specs.declared.Refusal.{Refusal}
+use Rattle.refusals.specs.Outcome.{Outcome, refused, given, fit}
+use Rattle.refusals.specs.declared.Answer.{Answer}
+use Rattle.refusals.specs.declared.Answer.the-variants.{Given, Refused}
+use Rattle.refusals.specs.Handed.{answerOf, leftIn, HandedAs}
 
 -- The number that an answer gives, and the outcome that it tells with what the list holds.
 abbrev countOf : Answer → ℕ

@@ -9,17 +9,19 @@ use native.Mathlib.Omega.{arith}
 use borrow.Author.Tests.{eq-eqb, ne-eqb}
 use lib.ListN.{length, getD, take, drop, drop-of-length-le}
 use lib.Seq.{take-suc, take-all, drop-cons, length-take-le}
-use Rattle.format.specs.Layout.{layout}
-use Rattle.book.specs.declared.refusal.Refusal.{Refusal}
-use Rattle.book.specs.Reading.{nameIn}
+use Rattle.format.specs.Layout.{nameIn}
+use Rattle.refusals.specs.declared.Refusal.{Refusal}
 use Rattle.judgement.specs.Check.{member}
-use Rattle.listing.specs.Questions.{given, list, marksOver, onLayout}
-use Rattle.analysis.specs.declared.hand.Answer.{Answer}
-use Rattle.analysis.specs.declared.hand.Answer.the-variants.{Given, Refused}
-use Rattle.analysis.specs.Handed.{HandedAs}
-use Rattle.text.specs.Laid.{Laid}
-use Rattle.text.proofs.Laid.{nothing, then, alias}
-use Rattle.batch.specs.Refused.{refusalOf}
+use Rattle.refusals.specs.Outcome.{given}
+use Rattle.listing.specs.List.{list}
+use Rattle.listing.specs.Marks.{marksOver}
+use Rattle.format.specs.Admission.{onBytes}
+use Rattle.refusals.specs.declared.Answer.{Answer}
+use Rattle.refusals.specs.declared.Answer.the-variants.{Given, Refused}
+use Rattle.refusals.specs.Handed.{HandedAs}
+use Rattle.print.specs.Laid.{Laid}
+use Rattle.print.proofs.Laid.{nothing, then, alias}
+use Rattle.print.specs.Refused.{refusalOf}
 use Rattle.list.specs.Printed.{heading, markOf, line, lines, listIn, marksIn, markedText, listedText, printed}
 use Rattle.list.proofs.Answered.{refused-is, given-is}
 
@@ -98,7 +100,7 @@ module _ (bs marked : List ℕ) where
   table-is l = refl
 
 -- ---- What is printed, by the answers to the questions
-module _ (bs l : List ℕ) {old new : List ℕ} {r : Answer} (h : HandedAs (onLayout (λ b. marksOver b l) (layout bs)) old new r) (n : 1024 ≡ length old) where
+module _ (bs l : List ℕ) {old new : List ℕ} {r : Answer} (h : HandedAs (onBytes (λ b. marksOver b l) bs) old new r) (n : 1024 ≡ length old) where
   pub marks-refused : {why : Refusal} → r ≡ Refused why → refusalOf bs why ≡ markedText bs l (marksIn bs l)
   unfolding marksIn markedText
   marks-refused e = rw (refused-is h n e)
@@ -107,7 +109,7 @@ module _ (bs l : List ℕ) {old new : List ℕ} {r : Answer} (h : HandedAs (onLa
   unfolding marksIn
   marks-given e = rw (given-is h n e)
 
-module _ (bs : List ℕ) {old new : List ℕ} {r : Answer} (h : HandedAs (onLayout list (layout bs)) old new r) (n : 512 ≡ length old) where
+module _ (bs : List ℕ) {old new : List ℕ} {r : Answer} (h : HandedAs (onBytes list bs) old new r) (n : 512 ≡ length old) where
   pub list-refused : {why : Refusal} → r ≡ Refused why → refusalOf bs why ≡ printed bs
   unfolding listIn listedText printed
   list-refused e = rw (refused-is h n e)

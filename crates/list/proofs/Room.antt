@@ -10,20 +10,21 @@ use borrow.Author.Tests.{le-leb, lt-leb}
 use lib.Dec.{T}
 use lib.ListN.{length, getD, take, length-append}
 use Rattle.format.specs.Fits.{every, isName}
-use Rattle.format.specs.Layout.{Layout, broken, whole, layout}
+use Rattle.format.specs.Layout.{Layout, broken, whole, layout, nameIn}
 use Rattle.format.proofs.Encoded.{fit-parts}
 use Rattle.format.proofs.Logic.{says}
 use Rattle.format.proofs.Theorems.{found}
-use Rattle.book.specs.declared.refusal.Refusal.{Refusal}
-use Rattle.book.specs.declared.refusal.Refusal.the-variants.{Broken, Twice, Unbound, Class, Modes, Oneway, Circle, NoFunction, MethodNoFunction, NoService, Differs, ImportWithoutActor, ImportNoService, SameHash, Absent, Short, NoActor}
-use Rattle.book.specs.Refusal.{numberOf, nameOf}
-use Rattle.book.specs.Reading.{nameIn}
-use Rattle.listing.specs.Questions.{Outcome, refused, given, list, marksOver, fit, onLayout}
-use Rattle.text.specs.Laid.{Laid}
-use Rattle.text.specs.Refused.{nameOrDash, refusedLine}
-use Rattle.text.specs.Laws.{decimal-length, quoted-length}
-use Rattle.text.proofs.Laid.{alias, all-before}
-use Rattle.batch.specs.Refused.{isNamed, refusal, refusalOf}
+use Rattle.refusals.specs.declared.Refusal.{Refusal}
+use Rattle.refusals.specs.declared.Refusal.the-variants.{Broken, Twice, Unbound, Class, Modes, Oneway, Circle, NoFunction, MethodNoFunction, NoService, Differs, ImportWithoutActor, ImportNoService, SameHash, Absent, Short, NoActor}
+use Rattle.refusals.specs.Refusal.{numberOf, nameOf}
+use Rattle.refusals.specs.Outcome.{Outcome, refused, given, fit}
+use Rattle.listing.specs.List.{list}
+use Rattle.listing.specs.Marks.{marksOver}
+use Rattle.format.specs.Admission.{onBytes}
+use Rattle.print.specs.Laid.{Laid}
+use Rattle.print.specs.Refused.{nameOrDash, refusedLine, isNamed, refusal, refusalOf}
+use Rattle.print.specs.Laws.{decimal-length, quoted-length}
+use Rattle.print.proofs.Laid.{alias, all-before}
 use Rattle.list.specs.Printed.{heading, markOf, line, lines, listIn, marksIn, markedText, listedText, printed}
 
 -- ---- A name
@@ -119,11 +120,11 @@ marked-length bs l (given marked) h k =
 
 marks-few : (bs l : List ℕ) → lengthOf (marksIn bs l) ≤ 1024
 unfolding marksIn
-marks-few bs l = fit-length 1024 (onLayout (λ b. marksOver b l) (layout bs))
+marks-few bs l = fit-length 1024 (onBytes (λ b. marksOver b l) bs)
 
 list-few : (bs : List ℕ) → lengthOf (listIn bs) ≤ 512
 unfolding listIn
-list-few bs = fit-length 512 (onLayout list (layout bs))
+list-few bs = fit-length 512 (onBytes list bs)
 
 printed-length : (bs : List ℕ) → length (printed bs) < 409600
 unfolding printed listedText

@@ -9,30 +9,32 @@ use native.Mathlib.Omega.{arith}
 use lib.ListN.{length, length-map}
 use Rattle.format.specs.Forest.{end}
 use Rattle.format.specs.Book.{Book}
-use Rattle.format.specs.Layout.{Layout, broken, whole, layout}
+use Rattle.format.specs.Layout.{Layout, broken, whole, layout, nameIn}
 use Rattle.format.proofs.Encoded.{fit-parts}
 use Rattle.format.proofs.Theorems.{found}
-use Rattle.book.specs.declared.refusal.Verdict.the-variants.{Passed}
-use Rattle.book.specs.Reading.{nameIn}
+use Rattle.refusals.specs.declared.Verdict.the-variants.{Passed}
 use Rattle.judgement.specs.Environment.{mainDefinitions}
 use Rattle.judgement.specs.Actor.{resolveActor}
 use Rattle.judgement.specs.Check.{member, check}
-use Rattle.judgement.specs.WellFormed.{nameOf}
-use Rattle.judgement.proofs.Lookup.{pigeonhole}
-use Rattle.listing.specs.Questions.{given, list, marksOver, fit, onLayout}
-use Rattle.listing.proofs.Marked.{ascends-distinct, few-definitions}
+use Rattle.judgement.specs.WellFormed.{definedName}
+use Rattle.format.proofs.Distinct.{pigeonhole, ascends-distinct}
+use Rattle.refusals.specs.Outcome.{given, fit, asked}
+use Rattle.listing.specs.List.{list}
+use Rattle.listing.specs.Marks.{marksOver}
+use Rattle.listing.proofs.List.{main-few}
 use Rattle.samples.specs.Bytes as bytes
 use Rattle.samples.specs.Notation.{spelled}
 use Rattle.samples.specs.Notation as notation
 use Rattle.samples.specs.Written.{p1}
 use Rattle.examples.proofs.P1.{p1-read, p1-list, p1-marks}
-use Rattle.listing.proofs.Demand3.{Answers, asked, sent}
-use Rattle.text.specs.Ascii.{ascii}
-use Rattle.text.specs.Decimal.{digit, digits, decimal}
-use Rattle.text.specs.Quoted.{plain, escape, escapes, quoted}
-use Rattle.text.specs.Refused.{nameOrDash, refusedLine}
-use Rattle.batch.specs.Refused.{refusal, refusalOf}
+use Rattle.listing.proofs.Demand3.{Answers, asked as sent-on, sent}
+use Rattle.print.specs.Ascii.{ascii}
+use Rattle.print.specs.Decimal.{digit, digits, decimal}
+use Rattle.print.specs.Quoted.{plain, escape, escapes, quoted}
+use Rattle.print.specs.Refused.{nameOrDash, refusedLine, refusal, refusalOf}
 use Rattle.list.specs.Printed.{heading, markOf, line, lines, listIn, marksIn, markedText, listedText, printed}
+use Rattle.format.specs.Admission.{admitted, admittedBy}
+use Rattle.format.proofs.Admission.{admitted-fits}
 
 -- Both questions are answered.
 text : (bs : List ℕ) {l m : List ℕ} → listIn bs ≡ given l → marksIn bs l ≡ given m → printed bs ≡ heading (length l) (length m) ++ lines bs m 1 l
@@ -40,7 +42,7 @@ unfolding markedText listedText printed
 text bs e f = rw (e, f)
 
 -- ---- A book that is passed and has an actor
-module _ (bs : List ℕ) (b : Book) (read : layout bs ≡ whole b) (passed : check b ≡ Passed) (some : resolveActor b ≡ end → ⊥) where
+module _ (bs : List ℕ) (b : Book) (read : admitted bs ≡ given b) (passed : check b ≡ Passed) (some : resolveActor b ≡ end → ⊥) where
   abbrev answers : Answers b
   answers = sent bs b read passed some
 
@@ -50,9 +52,9 @@ module _ (bs : List ℕ) (b : Book) (read : layout bs ≡ whole b) (passed : che
       let ds = mainDefinitions b in
       omega (
         arith,
-        pigeonhole (answers .lists .once) (map nameOf ds) (answers .lists .defined),
-        length-map ds nameOf,
-        few-definitions b (found bs b .0 read .0) passed,
+        pigeonhole (answers .lists .once) (map definedName ds) (answers .lists .defined),
+        length-map ds definedName,
+        main-few b (admitted-fits bs read),
       )
 
   few-marked : length (answers .marked) ≤ 1024
@@ -66,12 +68,12 @@ module _ (bs : List ℕ) (b : Book) (read : layout bs ≡ whole b) (passed : che
   pub shown : printed bs ≡ heading (length (answers .listed)) (length (answers .marked)) ++ lines bs (answers .marked) 1 (answers .listed)
   unfolding listIn marksIn
   shown =
-      text bs (ap (fit 512) (asked bs b read list) ∙ answers .listGiven .1 512 few-listed)
-      (ap (fit 1024) (asked bs b read (λ c. marksOver c (answers .listed))) ∙ answers .marksGiven .1 1024 few-marked)
+      text bs (ap (fit 512) (sent-on bs b read list) ∙ answers .listGiven .1 512 few-listed)
+      (ap (fit 1024) (sent-on bs b read (λ c. marksOver c (answers .listed))) ∙ answers .marksGiven .1 1024 few-marked)
 
 -- ---- A broken layout, as that of every input that is longer than a book may be
 pub broken-shown : (bs : List ℕ) → layout bs ≡ broken → printed bs ≡ ascii "refused 1 -\n"
-unfolding onLayout fit listIn listedText printed refusalOf refusal refusedLine nameOrDash decimal digits digit
+unfolding asked admitted admittedBy fit listIn listedText printed refusalOf refusal refusedLine nameOrDash decimal digits digit
 broken-shown bs e = rw e
 
 pub long-shown : (bs : List ℕ) → 65536 < length bs → printed bs ≡ ascii "refused 1 -\n"
@@ -83,12 +85,16 @@ long-shown bs h = go (layout bs) refl
 
 -- ---- P1
 p1-names : p1 .names ≡ map ascii ("" ∷ "fork" ∷ "leaf" ∷ "pair" ∷ "put" ∷ "spare" ∷ "tree" ∷ [])
-unfolding p1 spelled notation.ascii
+unfolding p1 spelled notation.asciiBytes
 p1-names = refl
+
+p1-admitted : admitted bytes.p1 ≡ given p1
+unfolding admitted admittedBy
+p1-admitted = rw p1-read
 
 pub p1-shown : printed bytes.p1 ≡ ascii "list 2 marked 1\n1 - \"pair\"\n2 r \"tree\"\n"
 unfolding fit listIn marksIn heading line lines markOf member nameIn decimal digits digit quoted escapes escape plain
 p1-shown =
-    text bytes.p1 (ap (fit 512) (asked bytes.p1 p1 p1-read list ∙ p1-list))
-    (ap (fit 1024) (asked bytes.p1 p1 p1-read (λ c. marksOver c (3 ∷ 6 ∷ [])) ∙ p1-marks))
+    text bytes.p1 (ap (fit 512) (sent-on bytes.p1 p1 p1-admitted list ∙ p1-list))
+    (ap (fit 1024) (sent-on bytes.p1 p1 p1-admitted (λ c. marksOver c (3 ∷ 6 ∷ [])) ∙ p1-marks))
     ∙ rw (p1-read, p1-names)

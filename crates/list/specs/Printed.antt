@@ -3,14 +3,16 @@ use mathlib.Core.Bool.{cond}
 use mathlib.Core.List.{List, [], _∷_, _++_}
 use Prim.Native.Nat.{ℕ, suc}
 use lib.ListN.{length}
-use Rattle.format.specs.Layout.{layout}
-use Rattle.book.specs.Reading.{nameIn}
+use Rattle.format.specs.Layout.{nameIn}
 use Rattle.judgement.specs.Check.{member}
-use Rattle.listing.specs.Questions.{Outcome, refused, given, list, marksOver, fit, onLayout}
-use Rattle.text.specs.Ascii.{ascii}
-use Rattle.text.specs.Decimal.{decimal}
-use Rattle.text.specs.Quoted.{quoted}
-use Rattle.batch.specs.Refused.{refusalOf}
+use Rattle.refusals.specs.Outcome.{Outcome, refused, given, fit}
+use Rattle.listing.specs.List.{list}
+use Rattle.listing.specs.Marks.{marksOver}
+use Rattle.format.specs.Admission.{onBytes}
+use Rattle.print.specs.Ascii.{ascii}
+use Rattle.print.specs.Decimal.{decimal}
+use Rattle.print.specs.Quoted.{quoted}
+use Rattle.print.specs.Refused.{refusalOf}
 
 -- The first line, as `list 2 marked 1`.
 unfoldable pub heading : ℕ → ℕ → List ℕ
@@ -31,7 +33,7 @@ lines book marked position (n ∷ listed) = line position (markOf marked n) (nam
 
 -- What the listed names come to with their marks, which are asked for into a list of 1,024 places.
 unfoldable pub marksIn : List ℕ → List ℕ → Outcome (List ℕ)
-marksIn book listed = fit 1024 (onLayout (λ b. marksOver b listed) (layout book))
+marksIn book listed = fit 1024 (onBytes (λ b. marksOver b listed) book)
 
 unfoldable pub markedText : List ℕ → List ℕ → Outcome (List ℕ) → List ℕ
 markedText book listed (refused r) = refusalOf book r
@@ -39,7 +41,7 @@ markedText book listed (given marked) = heading (length listed) (length marked) 
 
 -- What the definition list comes to, which is asked for into a list of 512 places.
 unfoldable pub listIn : List ℕ → Outcome (List ℕ)
-listIn book = fit 512 (onLayout list (layout book))
+listIn book = fit 512 (onBytes list book)
 
 unfoldable pub listedText : List ℕ → Outcome (List ℕ) → List ℕ
 listedText book (refused r) = refusalOf book r

@@ -3,31 +3,31 @@ ghost use Prim.Native.Nat.{_≤_, _<_};
 ghost use mathlib.Core.Path.{_≡_};
 ghost use lib.ListN.{length, take};
 ghost use Rattle.judgement.specs.Check.{member};
-ghost use Rattle.listing.specs.Questions.{given};
-ghost use Rattle.text.specs.Laid.{Laid};
-ghost use Rattle.batch.specs.Refused.{refusalOf};
+ghost use Rattle.refusals.specs.Outcome.{given};
+ghost use Rattle.print.specs.Laid.{Laid};
+ghost use Rattle.print.specs.Refused.{refusalOf};
 ghost use Rattle.list.specs.Printed.{heading, markOf, line, lines, marksIn, markedText, printed};
-use analysis::hand::Answer;
-use book::refusal::Refusal;
 use libc::STDIN_FILENO;
 use libc::STDOUT_FILENO;
+use refusals::Answer;
+use refusals::Refusal;
 
 // The line of a refusal.
 fn refusal(why: Refusal, book: &[u8], out: &mut [u8]) -> usize
     ensures { λ r. ⌜ Laid (refusalOf (now (book .entry)) why) (now (out .entry)) 0 r (now (out .exit)) ⌝ }
 {
-    batch::refusal(why, book::name(book, why.name()), out, 0)
+    print::refusal(why, book::name(book, why.name()), out, 0)
 }
 
 // The first line.
 fn heading(listed: usize, marked: usize, out: &mut [u8]) -> usize
     ensures { λ r. ⌜ Laid (heading listed marked) (now (out .entry)) 0 r (now (out .exit)) ⌝ }
 {
-    let mut next = text::bytes(b"list ", out, 0);
-    next = text::decimal(listed as u64, out, next);
-    next = text::bytes(b" marked ", out, next);
-    next = text::decimal(marked as u64, out, next);
-    text::byte(b'\n', out, next)
+    let mut next = print::bytes(b"list ", out, 0);
+    next = print::decimal(listed as u64, out, next);
+    next = print::bytes(b" marked ", out, next);
+    next = print::decimal(marked as u64, out, next);
+    print::byte(b'\n', out, next)
 }
 
 // Whether a name is among the marked ones.
@@ -58,12 +58,12 @@ fn mark_of(name: u16, marked: &[u16]) -> u8
 fn line(position: usize, mark: u8, name: &[u8], out: &mut [u8], at: usize) -> usize
     ensures { λ r. ⌜ Laid (line position mark (now (name .entry))) (now (out .entry)) at r (now (out .exit)) ⌝ }
 {
-    let mut next = text::decimal(position as u64, out, at);
-    next = text::byte(b' ', out, next);
-    next = text::byte(mark, out, next);
-    next = text::byte(b' ', out, next);
-    next = text::quoted(name, out, next);
-    text::byte(b'\n', out, next)
+    let mut next = print::decimal(position as u64, out, at);
+    next = print::byte(b' ', out, next);
+    next = print::byte(mark, out, next);
+    next = print::byte(b' ', out, next);
+    next = print::quoted(name, out, next);
+    print::byte(b'\n', out, next)
 }
 
 // The lines of all listed names.
@@ -133,9 +133,15 @@ fn room_for_print() -> [u8; 409600]
     [0; 409600]
 }
 
-// The room has one byte more than a book: a longer input is refused and never cut.
+// One byte more than a book may have: a longer input is refused and never cut.
+fn room_for_book() -> [u8; 65537]
+    ensures { λ r. ⌜ 65537 ≡ length r ⌝ }
+{
+    [0; 65537]
+}
+
 fn main() {
-    let mut input = batch::room_for_book();
+    let mut input = room_for_book();
     let size = io::read_full(STDIN_FILENO, &mut input);
     let mut out = room_for_print();
     let end = print(&input[..size], &mut out);

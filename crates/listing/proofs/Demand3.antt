@@ -7,7 +7,6 @@
 --     ring-answers, lost-draft       a book with a method ring, and a draft that is unbound; P1 is in the crate `examples`
 use mathlib.Core.Path.{_≡_, refl, sym, subst, _∙_}
 use mathlib.Core.Logic.{_↔_, _⊎_, inl, inr, ite, if-pos, if-neg, ⊎-elim, ⊎-map}
-use mathlib.Core.Bool.{Bool, true, false, cond}
 use mathlib.Core.List.{List, [], _∷_, map, List·Memᴰ, List·Memᴰ·head, List·Memᴰ·tail, List·Memᴰ·cases-cons, List·Memᴰ·not-nil, List·Memᴰ·eq-of-singleton, Memᴰ·cast}
 use Prim.Native.Nat.{ℕ, suc, _+_, _≤_, _<_}
 use native.Mathlib.Decide.{ℕ-discrete}
@@ -18,31 +17,35 @@ use Rattle.format.specs.Forest.{Forest, end, breadth}
 use Rattle.format.specs.Node.{Node}
 use Rattle.format.specs.Book.{Definition, Book}
 use Rattle.format.specs.Fits.{Fits}
-use Rattle.format.specs.Layout.{whole, layout}
 use Rattle.format.specs.References.{references}
 use Rattle.format.proofs.Logic.{is-true}
-use Rattle.format.proofs.Theorems.{found}
-use Rattle.book.specs.declared.refusal.Refusal.the-variants.{Unbound, Short}
-use Rattle.book.specs.declared.refusal.Verdict.the-variants.{Passed}
+use Rattle.format.proofs.Admission.{admitted-fits, asked-is}
+use Rattle.refusals.specs.declared.Refusal.the-variants.{Unbound}
+use Rattle.refusals.specs.declared.Verdict.the-variants.{Passed}
 use Rattle.judgement.specs.Environment.{mainDefinitions}
 use Rattle.judgement.specs.Actor.{mainActor, classArguments, resolveActor}
 use Rattle.judgement.specs.Check.{check}
-use Rattle.judgement.specs.WellFormed.{Distinct, more, nameOf, Defined}
-use Rattle.judgement.specs.Empty.{Ascends}
-use Rattle.listing.specs.Uses.{Use, usesOf}
-use Rattle.listing.specs.References.{Refers, Reachable, direct, Way, last, step, Circle, Chases}
-use Rattle.listing.specs.Questions.{Outcome, refused, given, list, marksOver, uses, draftDefinitions, draftList, fit, onLayout}
-use Rattle.listing.specs.Offers.{Interface, argumentsAndResults, UsesGiven}
+use Rattle.format.specs.Distinct.{Distinct, more, Ascends}
+use Rattle.judgement.specs.WellFormed.{definedName, Defined}
+use Rattle.refusals.specs.Handed.{Use}
+use Rattle.listing.specs.Uses.{usesOf, uses, UsesGiven}
+use Rattle.listing.specs.References.{Refers, Reachable, direct, Way, last, step, Circle, Chases, Reaches, Lost, Misses}
+use Rattle.refusals.specs.Outcome.{Outcome, refused, given, fit}
+use Rattle.listing.specs.List.{list}
+use Rattle.listing.specs.Marks.{marksOver}
+use Rattle.listing.specs.DraftList.{draftDefinitions, draftList}
+use Rattle.format.specs.Admission.{admitted, onBytes, Source}
+use Rattle.listing.specs.Offers.{Interface, argumentsAndResults}
 use Rattle.listing.proofs.Places.{place}
-use Rattle.listing.proofs.Listed.{Reaches, Listed, Lost, Misses}
-use Rattle.listing.proofs.Chased.{misses-lost}
-use Rattle.listing.proofs.Walked.{chases-unique}
-use Rattle.listing.proofs.Answered.{list-answered, draft-says, draft-stops, draft-lost, draft-either}
+use Rattle.listing.proofs.Chases.{Listed, misses-lost}
+use Rattle.listing.proofs.Chase.{chases-unique}
+use Rattle.listing.proofs.List.{list-answered}
+use Rattle.listing.proofs.DraftList.{draft-says, draft-stops, draft-lost, draft-either}
 use Rattle.listing.proofs.Examples.{ring, ring-fits, ring-passes, ring-actor, importing, import-fits, import-main, import-once, import-draft}
-use Rattle.listing.proofs.Marks.{MarkedIn, MarksIn}
-use Rattle.listing.proofs.Marked.{closed, way-comes, marks-listed}
+use Rattle.listing.proofs.Marks.{MarkedIn, MarksIn, closed, way-comes, marks-listed}
 use Rattle.listing.proofs.Interface.{passed-interface, passed-once}
-use Rattle.listing.proofs.Used.{uses-answered, uses-given, uses-unreachable, uses-room}
+use Rattle.listing.proofs.Uses.{uses-answered, uses-given, uses-unreachable, uses-room}
+use Rattle.refusals.proofs.Outcomes.{fit-said, fit-given}
 
 -- ---- The demand
 
@@ -124,19 +127,6 @@ module _ {A : Type 0} where
   unfolding fit
   gives o {l} e = (e, λ places h. rw (e, is-true (leb (length l) places) (le→leb (length l) places h)))
 
-  -- what is said other than that the list is short
-  fit-said : (places : ℕ) (o : Outcome (List A)) {x : Outcome (List A)} → ((k : ℕ) → refused (Short k) ≡ x → ⊥) → fit places o ≡ x → o ≡ x
-  unfolding fit
-  fit-said places (refused r) long e = e
-  fit-said places (given k) {x} long e = look (leb (length k) places) e
-    where
-      look : (c : Bool) → cond c (given k) (refused (Short (length k))) ≡ x → given k ≡ x
-      look true e = e
-      look false e = absurd (long (length k) e)
-
-  fit-given : (places : ℕ) (o : Outcome (List A)) {l : List A} → fit places o ≡ given l → o ≡ given l
-  fit-given places o = fit-said places o (λ k e. let z : _≡_ {A = ℕ} 0 1 = cc in omega arith)
-
   fit-unbound : (places : ℕ) (o : Outcome (List A)) (n : ℕ) → (fit places o ≡ refused (Unbound n)) ↔ (o ≡ refused (Unbound n))
   unfolding fit
   fit-unbound places o n = (fit-said places o (λ k e. let z : _≡_ {A = ℕ} 0 1 = cc in omega arith), λ e. rw e)
@@ -176,7 +166,7 @@ module _ {u n : ℕ} where
 
 -- ---- The list and its marks
 module _ {ds : List Definition} {actor : Forest Node} {seen l : List ℕ} (walked : Listed ds actor seen l) where
-  pub lists-all : Distinct (map nameOf ds) → Lists ds actor l
+  pub lists-all : Distinct (map definedName ds) → Lists ds actor l
   lists-all defined-once = record {
     inOrder = (seen, walked .chased);
     alone = λ k c. chases-unique ds defined-once (c .1) (walked .chased) .1;
@@ -232,7 +222,7 @@ demand-3 b fits passed some =
       marks = marks-all (a .listed) (m .2);
     }
 
-pub demand-3-draft : (b : Book) → Fits b → (mainActor b ≡ end → ⊥) → Distinct (map nameOf (draftDefinitions b)) → DraftAnswers b
+pub demand-3-draft : (b : Book) → Fits b → (mainActor b ≡ end → ⊥) → Distinct (map definedName (draftDefinitions b)) → DraftAnswers b
 demand-3-draft b fits some once =
     let lost = draft-lost b fits some once in
     let stops = draft-stops b fits some once in
@@ -250,35 +240,34 @@ demand-3-draft b fits some once =
 -- ---- Whatever book a supplier sends, as bytes: it fits, and the questions on the bytes are those on it
 
 -- What the entry points answer is `fit` of a question on the bytes: of list, marks and uses what `Answers` says, in places enough.
-pub record Sent (bytes : List ℕ) (b : Book) : Type 0 where
+pub record Sent (bytes : Source) (b : Book) : Type 0 where
   pub answers : Answers b
-  pub listSent : Gives (onLayout list (layout bytes)) (answers .listed)
-  pub marksSent : Gives (onLayout (λ c. marksOver c (answers .listed)) (layout bytes)) (answers .marked)
-  pub usesSent : (n : ℕ) → Gives (onLayout (λ c. uses c n) (layout bytes)) (answers .row n)
+  pub listSent : Gives (onBytes list bytes) (answers .listed)
+  pub marksSent : Gives (onBytes (λ c. marksOver c (answers .listed)) bytes) (answers .marked)
+  pub usesSent : (n : ℕ) → Gives (onBytes (λ c. uses c n) bytes) (answers .row n)
 
 -- Of a draft what `DraftAnswers` says.
-pub record SentDraft (bytes : List ℕ) (b : Book) : Type 0 where
+pub record SentDraft (bytes : Source) (b : Book) : Type 0 where
   pub answers : DraftAnswers b
   pub unboundSent : (places : ℕ) →
-      ((n : ℕ) × (fit places (onLayout draftList (layout bytes)) ≡ refused (Unbound n))) ↔ ((n : ℕ) × Lost (draftDefinitions b) (mainActor b) n)
+      ((n : ℕ) × (fit places (onBytes draftList bytes) ≡ refused (Unbound n))) ↔ ((n : ℕ) × Lost (draftDefinitions b) (mainActor b) n)
   pub firstSent : (places n : ℕ) →
-      (fit places (onLayout draftList (layout bytes)) ≡ refused (Unbound n)) ↔ Misses (draftDefinitions b) (references (mainActor b)) [] [] n
-  pub answeredSent : ((n : ℕ) → Lost (draftDefinitions b) (mainActor b) n → ⊥) → (l : List ℕ) × Gives (onLayout draftList (layout bytes)) l
-  pub listsSent : (places : ℕ) (l : List ℕ) → fit places (onLayout draftList (layout bytes)) ≡ given l → Lists (draftDefinitions b) (mainActor b) l
+      (fit places (onBytes draftList bytes) ≡ refused (Unbound n)) ↔ Misses (draftDefinitions b) (references (mainActor b)) [] [] n
+  pub answeredSent : ((n : ℕ) → Lost (draftDefinitions b) (mainActor b) n → ⊥) → (l : List ℕ) × Gives (onBytes draftList bytes) l
+  pub listsSent : (places : ℕ) (l : List ℕ) → fit places (onBytes draftList bytes) ≡ given l → Lists (draftDefinitions b) (mainActor b) l
 
-module _ (bytes : List ℕ) (b : Book) (read : layout bytes ≡ whole b) where
-  pub asked : {A : Type 0} (question : Book → Outcome A) → onLayout question (layout bytes) ≡ question b
-  unfolding onLayout
-  asked question = rw read
+module _ (bytes : Source) (b : Book) (read : admitted bytes ≡ given b) where
+  pub asked : {A : Type 0} (question : Book → Outcome A) → onBytes question bytes ≡ question b
+  asked question = asked-is bytes question read
 
   pub sent : check b ≡ Passed → (resolveActor b ≡ end → ⊥) → Answers b
-  sent = demand-3 b (found bytes b .0 read .0)
+  sent = demand-3 b (admitted-fits bytes read)
 
-  pub sent-draft : (mainActor b ≡ end → ⊥) → Distinct (map nameOf (draftDefinitions b)) → DraftAnswers b
-  sent-draft = demand-3-draft b (found bytes b .0 read .0)
+  pub sent-draft : (mainActor b ≡ end → ⊥) → Distinct (map definedName (draftDefinitions b)) → DraftAnswers b
+  sent-draft = demand-3-draft b (admitted-fits bytes read)
 
-  sent-gives : {A : Type 0} (question : Book → Outcome (List A)) {l : List A} → Gives (question b) l → Gives (onLayout question (layout bytes)) l
-  sent-gives question g = gives (onLayout question (layout bytes)) (asked question ∙ g .0)
+  sent-gives : {A : Type 0} (question : Book → Outcome (List A)) {l : List A} → Gives (question b) l → Gives (onBytes question bytes) l
+  sent-gives question g = gives (onBytes question bytes) (asked question ∙ g .0)
 
   pub sent-bytes : check b ≡ Passed → (resolveActor b ≡ end → ⊥) → Sent bytes b
   sent-bytes passed some =
@@ -290,15 +279,15 @@ module _ (bytes : List ℕ) (b : Book) (read : layout bytes ≡ whole b) where
         usesSent = λ n. sent-gives (λ c. uses c n) (a .usesGiven n);
       }
 
-  pub sent-draft-bytes : (mainActor b ≡ end → ⊥) → Distinct (map nameOf (draftDefinitions b)) → SentDraft bytes b
+  pub sent-draft-bytes : (mainActor b ≡ end → ⊥) → Distinct (map definedName (draftDefinitions b)) → SentDraft bytes b
   sent-draft-bytes some once =
       let a = sent-draft some once in
       record {
         answers = a;
         unboundSent = rw (asked draftList) (a .unbound);
         firstSent = λ places n. (
-          λ e. a .firstMet n .0 (sym (asked draftList) ∙ fit-unbound places (onLayout draftList (layout bytes)) n .0 e),
-          λ m. fit-unbound places (onLayout draftList (layout bytes)) n .1 (asked draftList ∙ a .firstMet n .1 m),
+          λ e. a .firstMet n .0 (sym (asked draftList) ∙ fit-unbound places (onBytes draftList bytes) n .0 e),
+          λ m. fit-unbound places (onBytes draftList bytes) n .1 (asked draftList ∙ a .firstMet n .1 m),
         );
         answeredSent = λ all. let x = a .answered all in (x .0, sent-gives draftList (x .1));
         listsSent = rw (asked draftList) (a .lists);

@@ -5,25 +5,30 @@ use mathlib.Core.List.{List, [], _∷_, map}
 use Prim.Native.Nat.{ℕ}
 use native.Mathlib.Omega.{arith}
 use Rattle.labels.specs.declared.Label.{Label}
-use Rattle.labels.specs.declared.Label.the-variants.{Named, Unnamed}
+use Rattle.labels.specs.declared.Label.the-variants.{Named}
 use Rattle.format.specs.Forest.{Forest, end, tree, count, breadth, preorder, beside, mapForest}
-use Rattle.format.specs.Node.{Nat, Text, Kind, PrimT, VarT, OptT, RecordT, VariantT, FuncT, ServT, InitT, unlabelled, labelled, Node, primNumber, kindNumber, modeNumber, modesNumber, valueNumber, labelKind, labelValue}
+use Rattle.format.specs.Node.{Nat, Kind, PrimT, VarT, OptT, FuncT, ServT, InitT, unlabelled, labelled, Node, primNumber, kindNumber, modeNumber, modesNumber, valueNumber, labelKind, labelValue}
 use Rattle.format.specs.Book.{Definition, Main, TypeImport, InitArgs, Book, bodies, actors, trees}
-use Rattle.format.specs.Encode.{bytes16, bytes32, flat, nameBytes, rowOf, sized, rowBytes, entryBytes, roleNumber, definitionEntries, rootOf, fileEntries, namesBytes, nodesBytes, definitionsBytes, filesBytes, tocRow, contentsBytes, encode}
+use Rattle.format.specs.Encode.{bytes16, bytes32, nameBytes, rowOf, sized, rowBytes, entryBytes, roleNumber, definitionEntries, rootOf, fileEntries, namesBytes, nodesBytes, definitionsBytes, filesBytes, tocRow, contentsBytes, encode}
+use Rattle.refusals.specs.Lists.{flat}
 use Rattle.format.specs.Fits.{every, isByte, isName, before, ascending, placeBelow, kindFits, notInit, kindAllowed, labelFits, nodeFits, forestFits, isInit, definitionFits, filesRise, isInitRole, isMain, fileFits, importsFit, rolesFit, fits, Fits}
 use Rattle.format.specs.Rules.{noTrees}
-use Rattle.book.specs.declared.refusal.Verdict.{Verdict}
-use Rattle.book.specs.declared.refusal.Verdict.the-variants.{Passed}
-use Rattle.book.specs.declared.refusal.Refusal.the-variants.{Unbound, NoActor}
+use Rattle.refusals.specs.declared.Verdict.{Verdict}
+use Rattle.refusals.specs.declared.Verdict.the-variants.{Passed}
+use Rattle.refusals.specs.declared.Refusal.the-variants.{Unbound, NoActor}
 use Rattle.judgement.specs.Environment.{roleAt, keep, mainDefinitions, initDefinitions, findType, isMissing, mergeDefinitions, headKind, head, met, link, chainFrom, chain, aliasEnd, isFuncKind, isServKind, rootPasses, asFunc, asService, kidsOf}
 use Rattle.judgement.specs.Actor.{isServiceImport, serviceImports, firstActor, mainActor, isClassKind, isClass, lastTree, belowClass, resolveWith, resolveActor}
 use Rattle.judgement.specs.Check.{nameVerdict, isOneway, modesVerdict, kindVerdict, methodVerdict, checkForest, member, onceVerdict, bodiesVerdict, eachName, isCircle, circleVerdict, methodsFit, bodiesFit, decsVerdict, importsVerdict, resolveVerdict, check, sameVerdict, mergeVerdict, initTree, initVerdict, initCheck}
 use Rattle.judgement.specs.Check as checks
-use Rattle.judgement.specs.WellFormed.{Distinct, nameOf}
+use Rattle.format.specs.Distinct.{Distinct}
+use Rattle.judgement.specs.WellFormed.{definedName}
 use Rattle.judgement.proofs.Decs.{once-says}
-use Rattle.listing.specs.Chase.{push, arm, chase, meetName, visit, chaseTypes}
-use Rattle.listing.specs.Questions.{Outcome, refused, given, after, actorVerdict, walked, list, initList, draftDefinitions, draftList}
-use Rattle.listing.proofs.Answered.{Answered, list-answered}
+use Rattle.listing.specs.Chase.{push, arm, chase, meetName, visit, chaseTypes, walked}
+use Rattle.refusals.specs.Outcome.{Outcome, refused, given, after}
+use Rattle.listing.specs.Room.{needsActor}
+use Rattle.listing.specs.List.{list}
+use Rattle.listing.specs.InitList.{initList}
+use Rattle.listing.specs.DraftList.{draftDefinitions, draftList}
 
 -- ---- The format, the check, the walk and the questions, each by every definition of it
 unfoldable pub fitting : Book → Bool
@@ -43,7 +48,7 @@ unfolding
 checked = check
 
 listed : Book → Outcome (List ℕ)
-unfolding checked push arm chase meetName visit chaseTypes after actorVerdict walked list
+unfolding checked push arm chase meetName visit chaseTypes after needsActor walked list
 listed = list
 
 unfoldable pub drafted : Book → Outcome (List ℕ)
@@ -130,7 +135,7 @@ pub import-main : mainActor importing ≡ end → ⊥
 unfolding drafted
 import-main e = let z : _≡_ {A = ℕ} 0 1 = cc in omega arith
 
-pub import-once : Distinct (map nameOf (draftDefinitions importing))
+pub import-once : Distinct (map definedName (draftDefinitions importing))
 unfolding drafted
 import-once = once-says (draftDefinitions importing) .0 refl
 

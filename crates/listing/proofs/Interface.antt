@@ -3,52 +3,38 @@
 --     function-end, serves-methods, ..     what stands at the end of a chain
 --     interface-arguments, ..              the arguments and the methods, also where the actor's own alias is followed first
 --     stands-interface, ..                 an actor that stands for a service offers some
---     answered                             a question of a book that passes and has an actor goes on
 --     passed-interface, passed-functions   such a book's actor offers methods, and these are functions
 use mathlib.Core.Path.{_≡_, refl, sym, ap, _∙_}
 use mathlib.Core.Bool.{Bool, true, false, cond}
-use mathlib.Core.List.{List, [], map, List·Memᴰ}
+use mathlib.Core.List.{List, map, List·Memᴰ}
 use Prim.Native.Nat.{ℕ}
 use native.Mathlib.Omega.{arith}
 use lib.Dec.{T}
 use lib.ListN.{length}
-use Rattle.format.specs.Forest.{Forest, end, tree, beside, breadth}
+use Rattle.format.specs.Forest.{Forest, end, tree, beside}
 use Rattle.format.specs.Node.{Kind, PrimT, VarT, OptT, VecT, RecordT, VariantT, FuncT, ServT, ClassT, InitT, FuncMode, Node}
 use Rattle.format.specs.Book.{Definition, Book}
 use Rattle.format.specs.Fits.{Fits}
 use Rattle.format.specs.Rules.{noTrees}
-use Rattle.book.specs.declared.refusal.Refusal.the-variants.{NoService, NoActor}
-use Rattle.book.specs.declared.refusal.Verdict.the-variants.{Passed}
-use Rattle.book.specs.Refusal.{andThen, unless}
+use Rattle.refusals.specs.declared.Refusal.the-variants.{NoService}
+use Rattle.refusals.specs.declared.Verdict.the-variants.{Passed}
 use Rattle.judgement.specs.Environment.{named, headKind, head, mainDefinitions, ends, aliasEnd, isFuncKind, isServKind, asService, kidsOf, methodsAt}
 use Rattle.judgement.specs.Actor.{serviceImports, mainActor, isClassKind, isClass, lastTree, allButLast, classArguments, belowClass, resolveActor}
 use Rattle.judgement.specs.Check.{check, checkForest, importsVerdict, decsVerdict, resolveVerdict}
 use Rattle.judgement.specs.Check as judged
-use Rattle.judgement.specs.WellFormed.{Occurs, here, after, Distinct, nameOf, Leads, arrived, onward, RootIs, StandsFor, MethodsAreFunctions, belowTop}
-use Rattle.judgement.proofs.Verdicts.{both-pass, unless-passed}
+use Rattle.format.specs.Occurs.{Occurs, here, after}
+use Rattle.format.specs.Distinct.{Distinct}
+use Rattle.judgement.specs.WellFormed.{definedName, Leads, arrived, onward, RootIs, StandsFor, MethodsAreFunctions, belowTop}
+use Rattle.refusals.proofs.Verdicts.{both-pass, unless-passed}
 use Rattle.judgement.proofs.Chains.{leads-end, leads-unique, leads-keeps, root-stands}
-use Rattle.judgement.proofs.Occurs.{named-var}
+use Rattle.judgement.proofs.Heads.{named-var}
 use Rattle.judgement.proofs.Walks.{is-service}
 use Rattle.judgement.proofs.Theorems.{check-says}
-use Rattle.listing.specs.Uses.{typeOf}
-use Rattle.listing.specs.Questions.{Outcome, actorVerdict}
-use Rattle.listing.specs.Questions as asked
+use Rattle.listing.specs.Sites.{typeOf}
 use Rattle.listing.specs.Offers.{Serves, Function, Interface, service, class, Functions}
+use Rattle.judgement.proofs.Classes.{is-class, last-beside, others-beside, beside-last, last-sole}
 
 -- ---- Kinds
-is-class : (κ : Kind) → T (isClassKind κ) → κ ≡ ClassT
-unfolding isClassKind
-is-class (PrimT p) t = absurd t
-is-class (VarT n) t = absurd t
-is-class OptT t = absurd t
-is-class VecT t = absurd t
-is-class RecordT t = absurd t
-is-class VariantT t = absurd t
-is-class (FuncT a ms) t = absurd t
-is-class ServT t = absurd t
-is-class ClassT t = refl
-is-class InitT t = absurd t
-
 is-function : (κ : Kind) → T (isFuncKind κ) → (a : ℕ) × (ms : List FuncMode) × (κ ≡ FuncT a ms)
 unfolding isFuncKind
 is-function (PrimT p) t = absurd t
@@ -76,39 +62,8 @@ service-no-class : (node : Node) (methods next : Forest Node) → node .kind ≡
 unfolding isClass isClassKind
 service-no-class node methods next s = rw s
 
--- ---- A class's children
-last-beside : (f last : Forest Node) → breadth last ≡ 1 → lastTree (beside f last) ≡ last
-unfolding lastTree beside breadth
-last-beside end end h = refl
-last-beside end (tree n kids end) h = refl
-last-beside end (tree n kids (tree m lids next)) h = absurd (omega arith)
-last-beside (tree m lids end) end h = absurd (omega arith)
-last-beside (tree m lids end) (tree n kids next) h = last-beside end (tree n kids next) h
-last-beside (tree m lids (tree k mids next)) last h = last-beside (tree k mids next) last h
-
-others-beside : (f last : Forest Node) → breadth last ≡ 1 → allButLast (beside f last) ≡ f
-unfolding allButLast beside breadth
-others-beside end end h = refl
-others-beside end (tree n kids end) h = refl
-others-beside end (tree n kids (tree m lids next)) h = absurd (omega arith)
-others-beside (tree m lids end) end h = absurd (omega arith)
-others-beside (tree m lids end) (tree n kids next) h = ap (tree m lids) (others-beside end (tree n kids next) h)
-others-beside (tree m lids (tree k mids next)) last h = ap (tree m lids) (others-beside (tree k mids next) last h)
-
-beside-last : (f : Forest Node) → f ≡ beside (allButLast f) (lastTree f)
-unfolding allButLast lastTree beside
-beside-last end = refl
-beside-last (tree n kids end) = refl
-beside-last (tree n kids (tree m lids next)) = ap (tree n kids) (beside-last (tree m lids next))
-
-last-sole : (f : Forest Node) → (lastTree f ≡ end → ⊥) → breadth (lastTree f) ≡ 1
-unfolding lastTree breadth
-last-sole end h = absurd (h refl)
-last-sole (tree n kids end) h = refl
-last-sole (tree n kids (tree m lids next)) h = last-sole (tree m lids next) h
-
 -- ---- Where the definitions find it
-module _ (ds : List Definition) (once : Distinct (map nameOf ds)) where
+module _ (ds : List Definition) (once : Distinct (map definedName ds)) where
   pub function-end : {t kids : Forest Node} {a : ℕ} (x : Function ds t a kids) → aliasEnd ds t ≡ ends (tree (x .node) kids (x .next))
   function-end x = leads-end ds once (x .leads)
 
@@ -198,23 +153,13 @@ module _ (ds : List Definition) (bodies : (d : Definition) → List·Memᴰ d ds
   serves-functions {methods = methods} h x n kids i =
       stands-function (leads-keeps ds (MethodsAreFunctions ds) bodies (x .leads) h (x .node) methods here (x .service) n kids i)
 
-  pub interface-functions : (once : Distinct (map nameOf ds)) {t arguments methods : Forest Node} → MethodsAreFunctions ds (belowTop t) → Interface ds t arguments methods → Functions ds methods
+  pub interface-functions : (once : Distinct (map definedName ds)) {t arguments methods : Forest Node} → MethodsAreFunctions ds (belowTop t) → Interface ds t arguments methods → Functions ds methods
   unfolding belowTop isClass isClassKind kidsOf
   interface-functions once h (service e x) = serves-functions (rw (serves-no-class ds once x) at h) x
   interface-functions once {arguments = arguments} h (class {last = last} e c one x) =
       serves-functions (λ n kids o. (rw (e, c) at h) n kids (occurs-beside arguments o)) x
 
 -- ---- A book that passes
--- a question that needs an actor
-pub answered : {A : Type 0} (b : Book) → check b ≡ Passed → (resolveActor b ≡ end → ⊥) → (o : Outcome A) →
-    asked.after (andThen (check b) (actorVerdict (resolveActor b))) o ≡ o
-unfolding actorVerdict noTrees asked.after
-answered {A} b passed some o = rw passed (go (resolveActor b) some)
-  where
-    go : (t : Forest Node) → (t ≡ end → ⊥) → asked.after (unless (cond (noTrees t) false true) NoActor) o ≡ o
-    go end h = absurd (h refl)
-    go (tree n kids next) h = refl
-
 actor-stands : (ds : List Definition) (t : Forest Node) → (t ≡ end → ⊥) → judged.actorVerdict ds t ≡ Passed → StandsFor isServKind ds (belowClass t)
 unfolding judged.actorVerdict noTrees asService
 actor-stands ds end h e = absurd (h refl)
@@ -236,7 +181,7 @@ module _ (b : Book) (passed : check b ≡ Passed) (some : resolveActor b ≡ end
   passed-interface = stands-interface (mainDefinitions b) (resolveActor b) passed-stands
 
   module _ (fits : Fits b) where
-    pub passed-once : Distinct (map nameOf (mainDefinitions b))
+    pub passed-once : Distinct (map definedName (mainDefinitions b))
     passed-once = check-says b fits .0 passed .0 .definitions .once
 
     pub passed-functions : {arguments methods : Forest Node} → Interface (mainDefinitions b) (resolveActor b) arguments methods → Functions (mainDefinitions b) methods

@@ -1,17 +1,22 @@
--- Laws of the questions, and the theorems that say what they answer.
-pub mod Folds
+-- Laws of the questions, and the theorems that say what they answer. First what several share; then a room for each question; demand 3.
 pub mod Places
-pub mod Listed
-pub mod Chased
-pub mod Walked
-pub mod Answered
-pub mod Examples
-pub mod Marks
-pub mod Marked
+pub mod Leaves
+pub mod Chases
+pub mod Chase
+pub mod Recursive
+pub mod Steps
+pub mod Empty
 pub mod Interface
 pub mod Sites
-pub mod Used
-pub mod DefUsed
-pub mod Projected
+pub mod Methods
+pub mod Room
+pub mod List
+pub mod InitList
+pub mod DraftList
+pub mod Marks
+pub mod Uses
+pub mod DefUse
+pub mod Project
+pub mod Emptiness
+pub mod Examples
 pub mod Demand3
-pub mod Rowed

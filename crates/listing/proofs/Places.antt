@@ -9,8 +9,8 @@ use Prim.Native.Nat.{ℕ, suc, _+_, _≤_, _<_}
 use native.Mathlib.Decide.{ℕ-discrete}
 use native.Mathlib.Omega.{arith}
 use lib.ListN.{length}
-use Rattle.judgement.specs.WellFormed.{Distinct, none, more}
-use Rattle.judgement.proofs.Lookup.{distinct-append}
+use Rattle.format.specs.Distinct.{Distinct, none, more}
+use Rattle.format.proofs.Distinct.{distinct-append}
 
 -- ---- What holds of each name of a list
 pub nil-all : {A : Type 0} {x : ℕ} → List·Memᴰ x [] → A

@@ -17,9 +17,11 @@ use Rattle.format.specs.Forest.{Forest, end, tree, breadth, firstTree, otherTre
 use Rattle.format.specs.Node.{Node}
 use Rattle.format.specs.Book.{Definition}
 use Rattle.judgement.specs.Environment.{methodsAt, kidsOf}
-use Rattle.judgement.specs.WellFormed.{first, later, Distinct, nameOf}
-use Rattle.listing.specs.Uses.{Site, classSites, funcSites, kindSites, endSites, methodSites, sites}
-use Rattle.listing.specs.Offers.{Function, Interface, Functions, treeAt, firstTrees, site, indexed, functionSites, MethodSites, none, method, FunctionSite, argument, result, SiteOf, ofClass, ofMethod, functionPlace, sitePlace, argumentsAndResults}
+use Rattle.format.specs.Occurs.{first, later}
+use Rattle.format.specs.Distinct.{Distinct}
+use Rattle.judgement.specs.WellFormed.{definedName}
+use Rattle.listing.specs.Sites.{Site, classSites, funcSites, kindSites, endSites, methodSites, sites}
+use Rattle.listing.specs.Offers.{Function, Interface, Functions, treeNumber, firstTrees, site, indexed, functionSites, MethodSites, none, method, FunctionSite, argument, result, SiteOf, ofClass, ofMethod, functionPlace, sitePlace, argumentsAndResults}
 use Rattle.listing.proofs.Interface.{function-end, function-unique, interface-arguments, interface-methods, interface-end}
 
 -- ---- Trees by their places
@@ -45,7 +47,7 @@ first-breadth zero f = omega arith
 first-breadth (suc k) end = rw (after-none k) refl
 first-breadth (suc k) (tree n kids next) = omega (arith, first-breadth k next)
 
-first-at : (k i : ℕ) (f : Forest Node) → i < k → treeAt i (firstTrees k f) ≡ treeAt i f
+first-at : (k i : ℕ) (f : Forest Node) → i < k → treeNumber i (firstTrees k f) ≡ treeNumber i f
 unfolding firstTrees afterTrees otherTrees firstTree
 first-at zero i f h = absurd (omega arith)
 first-at (suc k) i end h = refl
@@ -57,7 +59,7 @@ first-at (suc k) (suc i) (tree n kids next) h = first-at k i next (omega arith)
 pub record Indexed (m r i : ℕ) (f : Forest Node) (s : Site) : Type 0 where
   pub place : ℕ
   pub exists : place < breadth f
-  pub same : s ≡ site m r (i + place) (treeAt place f)
+  pub same : s ≡ site m r (i + place) (treeNumber place f)
 
 pub indexed-says : (m r i : ℕ) (f : Forest Node) (s : Site) → List·Memᴰ s (indexed m r i f) ↔ Indexed m r i f s
 unfolding indexed breadth afterTrees otherTrees firstTree
@@ -70,24 +72,24 @@ indexed-says m r i (tree n kids next) s =
     here e = record { place = 0; exists = omega arith; same = e ∙ ap (λ (j : ℕ). site m r j (tree n kids end)) (sym (add-zero i)) }
 
     later : Indexed m r (suc i) next s → Indexed m r i (tree n kids next) s
-    later x = record { place = suc (x .place); exists = omega (arith, x .exists); same = x .same ∙ ap (λ (j : ℕ). site m r j (treeAt (x .place) next)) (omega arith) }
+    later x = record { place = suc (x .place); exists = omega (arith, x .exists); same = x .same ∙ ap (λ (j : ℕ). site m r j (treeNumber (x .place) next)) (omega arith) }
 
-    back : (k : ℕ) → k < suc (breadth next) → s ≡ site m r (i + k) (treeAt k (tree n kids next)) → (Indexed m r (suc i) next s → List·Memᴰ s (indexed m r (suc i) next)) →
+    back : (k : ℕ) → k < suc (breadth next) → s ≡ site m r (i + k) (treeNumber k (tree n kids next)) → (Indexed m r (suc i) next s → List·Memᴰ s (indexed m r (suc i) next)) →
         List·Memᴰ s (site m r i (tree n kids end) ∷ indexed m r (suc i) next)
     back zero h e below = List·Memᴰ·head (e ∙ ap (λ (j : ℕ). site m r j (tree n kids end)) (add-zero i))
     back (suc k) h e below =
-        List·Memᴰ·tail (below record { place = k; exists = omega arith; same = e ∙ ap (λ (j : ℕ). site m r j (treeAt k next)) (omega arith) })
+        List·Memᴰ·tail (below record { place = k; exists = omega arith; same = e ∙ ap (λ (j : ℕ). site m r j (treeNumber k next)) (omega arith) })
 
 indexed-length : (m r i : ℕ) (f : Forest Node) → length (indexed m r i f) ≡ breadth f
 unfolding indexed breadth
 indexed-length m r i end = refl
 indexed-length m r i (tree n kids next) = ap suc (indexed-length m r (suc i) next)
 
-indexed-at : (m r i : ℕ) (f : Forest Node) (k : ℕ) (d : Site) → k < breadth f → getD (indexed m r i f) k d ≡ site m r (i + k) (treeAt k f)
+indexed-at : (m r i : ℕ) (f : Forest Node) (k : ℕ) (d : Site) → k < breadth f → getD (indexed m r i f) k d ≡ site m r (i + k) (treeNumber k f)
 unfolding indexed breadth afterTrees otherTrees firstTree
 indexed-at m r i end k d h = absurd (omega arith)
 indexed-at m r i (tree n kids next) zero d h = rw (add-zero i)
-indexed-at m r i (tree n kids next) (suc k) d h = indexed-at m r (suc i) next k d (omega arith) ∙ ap (λ (j : ℕ). site m r j (treeAt k next)) (omega arith)
+indexed-at m r i (tree n kids next) (suc k) d h = indexed-at m r (suc i) next k d (omega arith) ∙ ap (λ (j : ℕ). site m r j (treeNumber k next)) (omega arith)
 
 -- ---- `sites` is the list
 pub class-indexed : (i : ℕ) (f : Forest Node) → classSites i f ≡ indexed 65535 0 i f
@@ -111,7 +113,7 @@ unfolding indexed firstTrees afterTrees
 function-indexed m zero f = results-indexed m 0 f
 function-indexed m (suc a) f = arguments-indexed m a 0 f
 
-module _ (ds : List Definition) (once : Distinct (map nameOf ds)) where
+module _ (ds : List Definition) (once : Distinct (map definedName ds)) where
   methods-are : {m : ℕ} {f : Forest Node} {l : List Site} → MethodSites ds m f l → methodSites ds m f ≡ l
   unfolding methodSites endSites kindSites
   methods-are none = refl
@@ -193,10 +195,10 @@ record MethodSite (ds : List Definition) (j : ℕ) (f : Forest Node) (s : Site) 
   arguments : ℕ
   kids : Forest Node
   exists : place < breadth f
-  function : Function ds (treeAt place f) arguments kids
+  function : Function ds (treeNumber place f) arguments kids
   of-function : FunctionSite (j + place) arguments kids s
 
-module _ (ds : List Definition) (once : Distinct (map nameOf ds)) where
+module _ (ds : List Definition) (once : Distinct (map definedName ds)) where
   methods-say : {j : ℕ} {f : Forest Node} {l : List Site} → MethodSites ds j f l → (s : Site) → List·Memᴰ s l ↔ MethodSite ds j f s
   unfolding breadth afterTrees otherTrees firstTree
   methods-say none s = (λ h. absurd (List·Memᴰ·not-nil h), λ x. absurd (omega (arith, x .exists)))
@@ -220,7 +222,7 @@ module _ (ds : List Definition) (once : Distinct (map nameOf ds)) where
         of-function = subst (λ (k : ℕ). FunctionSite k (y .arguments) (y .kids) s) (omega arith) (y .of-function);
       }
 
-      back : (k : ℕ) {c : ℕ} {mids : Forest Node} → k < suc (breadth next) → Function ds (treeAt k (tree n kids next)) c mids → FunctionSite (j + k) c mids s →
+      back : (k : ℕ) {c : ℕ} {mids : Forest Node} → k < suc (breadth next) → Function ds (treeNumber k (tree n kids next)) c mids → FunctionSite (j + k) c mids s →
           (FunctionSite j a lids s → List·Memᴰ s (functionSites j a lids)) →
           (MethodSite ds (suc j) next s → List·Memᴰ s l) → List·Memᴰ s (functionSites j a lids ++ l)
       back zero h f y own below =
@@ -238,7 +240,7 @@ module _ (ds : List Definition) (once : Distinct (map nameOf ds)) where
 
   -- at the place of an element stands that element
   methods-at : {j : ℕ} {f : Forest Node} {l : List Site} → MethodSites ds j f l → (m : ℕ) {k a : ℕ} {kids : Forest Node} → j + m ≡ k → m < breadth f →
-      Function ds (treeAt m f) a kids → {s : Site} (y : FunctionSite k a kids s) (d : Site) → getD l (argumentsAndResults ds (firstTrees m f) + functionPlace y) d ≡ s
+      Function ds (treeNumber m f) a kids → {s : Site} (y : FunctionSite k a kids s) (d : Site) → getD l (argumentsAndResults ds (firstTrees m f) + functionPlace y) d ≡ s
   unfolding breadth afterTrees otherTrees firstTree firstTrees argumentsAndResults methodsAt kidsOf
   methods-at none m q h f y d = absurd (omega arith)
   methods-at (method {m = j} {a = a} {lids = lids} {l = l} x rest) zero {k = k} {a = c} {kids = mids} q h f y d =
@@ -260,14 +262,14 @@ module _ (ds : List Definition) (once : Distinct (map nameOf ds)) where
         rw (sites-are ds once x (ms .1)) (λ h. ⊎-elim (λ i. ofClass′ (indexed-says 65535 0 0 arguments s .0 i)) (λ i. ofMethod′ (methods-say (ms .1) s .0 i)) (List·Memᴰ·append-cases (indexed 65535 0 0 arguments) h), back (ms .0) (ms .1))
       where
         ofClass′ : Indexed 65535 0 0 arguments s → SiteOf ds arguments methods s
-        ofClass′ y = ofClass (y .place) (y .exists) (y .same ∙ ap (λ (j : ℕ). site 65535 0 j (treeAt (y .place) arguments)) (zero-add (y .place)))
+        ofClass′ y = ofClass (y .place) (y .exists) (y .same ∙ ap (λ (j : ℕ). site 65535 0 j (treeNumber (y .place) arguments)) (zero-add (y .place)))
 
         ofMethod′ : MethodSite ds 0 methods s → SiteOf ds arguments methods s
         ofMethod′ y = ofMethod (y .exists) (y .function) (subst (λ (j : ℕ). FunctionSite j (y .arguments) (y .kids) s) (zero-add (y .place)) (y .of-function))
 
         back : (l : List Site) → MethodSites ds 0 methods l → SiteOf ds arguments methods s → List·Memᴰ s (indexed 65535 0 0 arguments ++ l)
         back l ms (ofClass i h e) =
-            Memᴰ·append-left l (indexed-says 65535 0 0 arguments s .1 record { place = i; exists = h; same = e ∙ ap (λ (j : ℕ). site 65535 0 j (treeAt i arguments)) (sym (zero-add i)) })
+            Memᴰ·append-left l (indexed-says 65535 0 0 arguments s .1 record { place = i; exists = h; same = e ∙ ap (λ (j : ℕ). site 65535 0 j (treeNumber i arguments)) (sym (zero-add i)) })
         back l ms (ofMethod {m = m} {a = a} {kids = kids} h f y) =
             Memᴰ·append-right (indexed 65535 0 0 arguments)
             (methods-say ms s .1 record { place = m; arguments = a; kids = kids; exists = h; function = f; of-function = subst (λ (j : ℕ). FunctionSite j a kids s) (sym (zero-add m)) y })
@@ -284,7 +286,7 @@ module _ (ds : List Definition) (once : Distinct (map nameOf ds)) where
         let front = indexed 65535 0 0 arguments in
         rw (sites-are ds once x (ms .1))
         (List·getD-append front (ms .0) d i (rw (indexed-length 65535 0 0 arguments) h) ∙ indexed-at 65535 0 0 arguments i d h
-        ∙ ap (λ (j : ℕ). site 65535 0 j (treeAt i arguments)) (zero-add i) ∙ sym e)
+        ∙ ap (λ (j : ℕ). site 65535 0 j (treeNumber i arguments)) (zero-add i) ∙ sym e)
     sites-at {s} (ofMethod {m = m} h f y) d =
         let ms = methods-listed ds methods functions 0 in
         let front = indexed 65535 0 0 arguments in

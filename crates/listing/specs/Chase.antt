@@ -6,6 +6,8 @@ use lib.ListN.{length}
 use Rattle.format.specs.Forest.{Forest, end, tree}
 use Rattle.format.specs.Node.{Kind, PrimT, VarT, OptT, VecT, RecordT, VariantT, FuncT, ServT, ClassT, InitT, Node}
 use Rattle.format.specs.Book.{Definition}
+use Rattle.refusals.specs.declared.Refusal.the-variants.{Unbound}
+use Rattle.refusals.specs.Outcome.{Outcome, refused, given}
 use Rattle.judgement.specs.Environment.{Found, missing, body, findType}
 use Rattle.judgement.specs.Check.{member}
 
@@ -51,3 +53,8 @@ visit (suc k) ds n (going seen out) = meetName (chase (visit k ds)) n (member n 
 -- `chase_actor`; `chase_types` is the same over trees that stand beside each other.
 unfoldable pub chaseTypes : List Definition → Forest Node → Walk
 chaseTypes ds f = chase (visit (suc (length ds)) ds) f (going [] [])
+
+-- What it comes to: the names listed, or 3.
+unfoldable pub walked : Walk → Outcome (List ℕ)
+walked (going seen out) = given out
+walked (unbound n) = refused (Unbound n)

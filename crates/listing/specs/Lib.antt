@@ -1,11 +1,17 @@
--- What the questions answer. Read in this order: Chase, Recursive, Uses, DefUse, Project, Questions; then References and Offers, which say
--- what they mean, and Rows, which says what they refuse.
+-- What the questions answer. First what several share: the Rust's functions, arm by arm (Chase, Recursive, Sites, DefUse, Empty), and what
+-- references and actors mean (References, Offers); Room has 16 and 17. Then a room for each question: what it answers, and its rows.
 pub mod Chase
 pub mod Recursive
-pub mod Uses
+pub mod Sites
 pub mod DefUse
-pub mod Project
-pub mod Questions
+pub mod Empty
 pub mod References
 pub mod Offers
-pub mod Rows
+pub mod Room
+pub mod List
+pub mod InitList
+pub mod DraftList
+pub mod Marks
+pub mod Uses
+pub mod Project
+pub mod Emptiness

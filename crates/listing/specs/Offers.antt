@@ -1,21 +1,15 @@
--- What an actor offers and what the questions of uses and projection answer, as document 01 says. No walk is named here. Definitions;
--- assumes nothing.
+-- What an actor offers: class arguments and methods, and the order of all arguments and results, as document 01 says. No walk is named here.
+-- Definitions; assumes nothing.
 use mathlib.Core.Path.{_≡_}
-use mathlib.Core.Logic.{_↔_}
-use mathlib.Core.Bool.{Bool, cond}
-use mathlib.Core.List.{List, [], _∷_, _++_, map, List·Memᴰ}
-use Prim.Native.Nat.{ℕ, zero, suc, _+_, _≤_, _<_, min}
-use lib.Dec.{T, eqb}
-use lib.ListN.{length, getD, take}
+use mathlib.Core.List.{List, [], _∷_, _++_}
+use Prim.Native.Nat.{ℕ, zero, suc, _+_, _<_}
 use Rattle.format.specs.Forest.{Forest, end, tree, beside, breadth, firstTree, afterTrees}
 use Rattle.format.specs.Node.{FuncT, ServT, ClassT, FuncMode, Node}
 use Rattle.format.specs.Book.{Definition}
+use Rattle.format.specs.Occurs.{Beside}
 use Rattle.judgement.specs.Environment.{aliasEnd, methodsAt}
-use Rattle.judgement.specs.WellFormed.{Beside, Leads}
-use Rattle.judgement.specs.Empty.{Ascends}
-use Rattle.listing.specs.Uses.{Use, Site}
-use Rattle.listing.specs.References.{Reachable}
-use Rattle.listing.specs.Questions.{Outcome, given}
+use Rattle.judgement.specs.WellFormed.{Leads}
+use Rattle.listing.specs.Sites.{Site}
 
 -- ---- Actors
 
@@ -47,8 +41,8 @@ Functions ds f = (n : Node) (kids : Forest Node) → Beside n kids f → (a : �
 -- ---- The arguments and results of an actor, in document 01's order
 
 -- Tree i of a forest, alone; its first k trees.
-abbrev pub treeAt : ℕ → Forest Node → Forest Node
-treeAt i f = firstTree (afterTrees i f)
+abbrev pub treeNumber : ℕ → Forest Node → Forest Node
+treeNumber i f = firstTree (afterTrees i f)
 
 unfoldable pub firstTrees : ℕ → Forest Node → Forest Node
 firstTrees zero f = end
@@ -76,12 +70,12 @@ pub data MethodSites (ds : List Definition) : ℕ → Forest Node → List Site 
 
 -- One of them, by its numbers: of a method m whose function has `kids`, the first a of them arguments; and of an actor.
 pub data FunctionSite (m a : ℕ) (kids : Forest Node) (s : Site) : Type 0 where
-  argument : (i : ℕ) → i < a → i < breadth kids → s ≡ site m 0 i (treeAt i kids) → FunctionSite m a kids s
-  result : (i : ℕ) → a + i < breadth kids → s ≡ site m 1 i (treeAt (a + i) kids) → FunctionSite m a kids s
+  argument : (i : ℕ) → i < a → i < breadth kids → s ≡ site m 0 i (treeNumber i kids) → FunctionSite m a kids s
+  result : (i : ℕ) → a + i < breadth kids → s ≡ site m 1 i (treeNumber (a + i) kids) → FunctionSite m a kids s
 
 pub data SiteOf (ds : List Definition) (arguments methods : Forest Node) (s : Site) : Type 0 where
-  ofClass : (i : ℕ) → i < breadth arguments → s ≡ site 65535 0 i (treeAt i arguments) → SiteOf ds arguments methods s
-  ofMethod : {m a : ℕ} {kids : Forest Node} → m < breadth methods → Function ds (treeAt m methods) a kids → FunctionSite m a kids s → SiteOf ds arguments methods s
+  ofClass : (i : ℕ) → i < breadth arguments → s ≡ site 65535 0 i (treeNumber i arguments) → SiteOf ds arguments methods s
+  ofMethod : {m a : ℕ} {kids : Forest Node} → m < breadth methods → Function ds (treeNumber m methods) a kids → FunctionSite m a kids s → SiteOf ds arguments methods s
 
 -- Where it stands among its function's, and among the actor's.
 unfoldable pub functionPlace : {m a : ℕ} {kids : Forest Node} {s : Site} → FunctionSite m a kids s → ℕ
@@ -96,60 +90,3 @@ argumentsAndResults ds (tree n kids next) = breadth (methodsAt (aliasEnd ds (tre
 unfoldable pub sitePlace : {ds : List Definition} {arguments methods : Forest Node} {s : Site} → SiteOf ds arguments methods s → ℕ
 sitePlace (ofClass i h e) = i
 sitePlace {ds} {arguments} {methods} (ofMethod {m = m} h f y) = breadth arguments + (argumentsAndResults ds (firstTrees m methods) + functionPlace y)
-
--- ---- Uses
-
--- The elements that pass a test, in their order.
-unfoldable pub kept : {A : Type 0} → (A → Bool) → List A → List A
-kept test [] = []
-kept test (a ∷ l) = cond (test a) (a ∷ kept test l) (kept test l)
-
-abbrev pub entryOf : Site → Use
-entryOf s = s .entry
-
--- The entries of the sites from which n is reachable, in their order: those that a test keeps which tells just that.
-pub record RowOf (ds : List Definition) (all : List Site) (n : ℕ) (row : List Use) : Type 0 where
-  pub used : Site → Bool
-  pub says : (s : Site) → List·Memᴰ s all → T (used s) ↔ Reachable ds (s .type) n
-  pub row-is : row ≡ map entryOf (kept used all)
-
--- The answer: such a row of the class's arguments and then of the methods'.
-pub record UsesGiven (ds : List Definition) (arguments methods : Forest Node) (n : ℕ) (answer : Outcome (List Use)) : Type 0 where
-  pub ofMethods : List Site
-  pub inOrder : MethodSites ds 0 methods ofMethods
-  pub row : List Use
-  pub is-given : answer ≡ given row
-  pub row-of : RowOf ds (indexed 65535 0 0 arguments ++ ofMethods) n row
-
--- ---- Projection
-
--- 1 where two names are the same, else 0.
-unfoldable pub one : ℕ → ℕ → ℕ
-one n m = cond (eqb n m) 1 0
-
-unfoldable pub times : ℕ → List ℕ → ℕ
-times n [] = 0
-times n (m ∷ l) = one n m + times n l
-
--- Two lists with the same names, each as often.
-abbrev pub SameNames : List ℕ → List ℕ → Type 0
-SameNames xs ys = (k : ℕ) → times k xs ≡ times k ys
-
--- Every name is asked for at most as often as it is there.
-abbrev pub Enough : List ℕ → List ℕ → Type 0
-Enough names asked = (n : ℕ) → times n asked ≤ times n names
-
--- The lowest name that is asked for more often than it is there.
-pub record LowestAbsent (names asked : List ℕ) (n : ℕ) : Type 0 where
-  pub short : times n names < times n asked
-  pub least : (m : ℕ) → times m names < times m asked → n ≤ m
-
-abbrev pub nameAt : List ℕ → ℕ → ℕ
-nameAt names j = getD names j 0
-
--- What is given, where the methods have these names: the positions, ascending, of the methods before which fewer have the same name than
--- it is asked for; so of each name as many as are asked for and there.
-pub record Positions (names asked taken : List ℕ) : Type 0 where
-  pub ascends : Ascends taken
-  pub says : (j : ℕ) → List·Memᴰ j taken ↔ ((j < length names) × (times (nameAt names j) (take j names) < times (nameAt names j) asked))
-  pub counts : (k : ℕ) → times k (map (nameAt names) taken) ≡ min (times k asked) (times k names)

@@ -56,6 +56,6 @@ unfoldable pub inferRec : List Definition → List ℕ → Marks
 inferRec ds l = inferFrom ds l (marking [] [])
 
 -- The names of a set below n + k, from n on, ascending.
-unfoldable pub ascending : List ℕ → ℕ → ℕ → List ℕ
-ascending set n zero = []
-ascending set n (suc k) = cond (member n set) (n ∷ ascending set (suc n) k) (ascending set (suc n) k)
+unfoldable pub sorted : List ℕ → ℕ → ℕ → List ℕ
+sorted set n zero = []
+sorted set n (suc k) = cond (member n set) (n ∷ sorted set (suc n) k) (sorted set (suc n) k)

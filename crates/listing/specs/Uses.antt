@@ -1,83 +1,33 @@
--- `chase_def_use` of analysis.rs: for each name the arguments and results that use it. Definitions; assumes nothing.
-use mathlib.Core.Bool.{Bool, true, false, cond}
-use mathlib.Core.List.{List, [], _∷_, _++_}
-use Prim.Native.Nat.{ℕ, zero, suc}
-use lib.Dec.{ltb}
-use Rattle.format.specs.Forest.{Forest, end, tree}
-use Rattle.format.specs.Node.{Kind, PrimT, VarT, OptT, VecT, RecordT, VariantT, FuncT, ServT, ClassT, InitT, Node}
-use Rattle.format.specs.Book.{Definition}
-use Rattle.judgement.specs.Environment.{End, unbound, circle, ends, aliasEnd, kidsOf, methodsAt}
-use Rattle.judgement.specs.Actor.{classArguments, belowClass}
-use Rattle.judgement.specs.Check.{member}
-use Rattle.listing.specs.Chase.{Walk, going, chaseTypes}
-use Rattle.listing.specs.Chase as chased
-
--- An entry of document 01: a method's position, or 65,535 for an argument of the actor's class; 0 argument or 1 result; an index.
-pub record Use : Type 0 where
-  pub method : ℕ
-  pub result : ℕ
-  pub index : ℕ
-
--- A type that is an argument or a result, with its entry.
-pub record Site : Type 0 where
-  pub entry : Use
-  pub type : Forest Node
-
--- Arguments of a class: index i on.
-unfoldable pub classSites : ℕ → Forest Node → List Site
-classSites i end = []
-classSites i (tree n kids next) =
-    record { entry = record { method = 65535; result = 0; index = i }; type = tree n kids end } ∷ classSites (suc i) next
-
--- The arguments of method m, and then its results: the first `left` of these are arguments.
-unfoldable pub funcSites : ℕ → ℕ → ℕ → Forest Node → List Site
-funcSites m zero i end = []
-funcSites m (suc left) i end = []
-funcSites m zero i (tree n kids next) =
-    record { entry = record { method = m; result = 1; index = i }; type = tree n kids end } ∷ funcSites m zero (suc i) next
-funcSites m (suc zero) i (tree n kids next) =
-    record { entry = record { method = m; result = 0; index = i }; type = tree n kids end } ∷ funcSites m zero 0 next
-funcSites m (suc (suc left)) i (tree n kids next) =
-    record { entry = record { method = m; result = 0; index = i }; type = tree n kids end } ∷ funcSites m (suc left) (suc i) next
-
--- `as_func`: the arguments and results of a method whose chain ends at a function.
-unfoldable pub kindSites : ℕ → Kind → Forest Node → List Site
-kindSites m (PrimT p) kids = []
-kindSites m (VarT n) kids = []
-kindSites m OptT kids = []
-kindSites m VecT kids = []
-kindSites m RecordT kids = []
-kindSites m VariantT kids = []
-kindSites m (FuncT a ms) kids = funcSites m a 0 kids
-kindSites m ServT kids = []
-kindSites m ClassT kids = []
-kindSites m InitT kids = []
-
-unfoldable pub endSites : ℕ → End → List Site
-endSites m (unbound n) = []
-endSites m circle = []
-endSites m (ends end) = []
-endSites m (ends (tree n kids next)) = kindSites m (n .kind) kids
-
-unfoldable pub methodSites : List Definition → ℕ → Forest Node → List Site
-methodSites ds m end = []
-methodSites ds m (tree n kids next) = endSites m (aliasEnd ds (tree n kids end)) ++ methodSites ds (suc m) next
-
--- All of an actor: the class's arguments, then method by method arguments and results. The actor's own alias is followed first.
-unfoldable pub typeOf : End → Forest Node
-typeOf (unbound n) = end
-typeOf circle = end
-typeOf (ends t) = t
-
-unfoldable pub sites : List Definition → Forest Node → List Site
-sites ds actor =
-    let t = typeOf (aliasEnd ds actor) in
-    classSites 0 (classArguments t) ++ methodSites ds 0 (methodsAt (aliasEnd ds (belowClass t)))
+-- The uses of one name: its row of `chase_def_use`, with an entry for each argument and result of the actor from which it is reachable. The
+-- question, what the row is, and what is refused. Definitions; assumes nothing.
+use mathlib.Core.Path.{_≡_}
+use mathlib.Core.Logic.{_↔_}
+use mathlib.Core.Bool.{Bool, false, cond}
+use mathlib.Core.List.{List, [], _∷_, _++_, map, List·Memᴰ}
+use Prim.Native.Nat.{ℕ}
+use lib.Dec.{T}
+use Rattle.refusals.specs.declared.Refusal.{Refusal}
+use Rattle.refusals.specs.declared.Refusal.the-variants.{Short, NoActor}
+use Rattle.refusals.specs.Verdict.{andThen}
+use Rattle.refusals.specs.Outcome.{Outcome, given, after}
+use Rattle.refusals.specs.Handed.{Use}
+use Rattle.format.specs.Forest.{Forest}
+use Rattle.format.specs.Node.{Node}
+use Rattle.format.specs.Book.{Definition, Book}
+use Rattle.judgement.specs.Environment.{mainDefinitions}
+use Rattle.judgement.specs.Actor.{resolveActor}
+use Rattle.judgement.specs.Check.{member, check}
+use Rattle.judgement.specs.Rows.{CheckRow, checkRows}
+use Rattle.listing.specs.Chase.{Walk, going, unbound, chaseTypes}
+use Rattle.listing.specs.Sites.{Site, sites}
+use Rattle.listing.specs.References.{Reachable}
+use Rattle.listing.specs.Offers.{Interface, indexed, MethodSites}
+use Rattle.listing.specs.Room.{needsActor, NoActorRow, ShortRow}
 
 -- A name is used at a site if the walk from there lists it.
 unfoldable pub isListed : ℕ → Walk → Bool
 isListed n (going seen out) = member n out
-isListed n (chased.unbound m) = false
+isListed n (unbound m) = false
 
 unfoldable pub usesAt : List Definition → ℕ → List Site → List Use
 usesAt ds n [] = []
@@ -86,3 +36,46 @@ usesAt ds n (s ∷ ss) = cond (isListed n (chaseTypes ds (s .type))) (s .entry �
 -- The row of a name.
 unfoldable pub usesOf : List Definition → Forest Node → ℕ → List Use
 usesOf ds actor n = usesAt ds n (sites ds actor)
+
+unfoldable pub uses : Book → ℕ → Outcome (List Use)
+uses b n = after (andThen (check b) (needsActor (resolveActor b))) (given (usesOf (mainDefinitions b) (resolveActor b) n))
+
+-- ---- What the row is
+
+-- The elements that pass a test, in their order.
+unfoldable pub kept : {A : Type 0} → (A → Bool) → List A → List A
+kept test [] = []
+kept test (a ∷ l) = cond (test a) (a ∷ kept test l) (kept test l)
+
+abbrev pub entryOf : Site → Use
+entryOf s = s .entry
+
+-- The entries of the sites from which n is reachable, in their order: those that a test keeps which tells just that.
+pub record RowOf (ds : List Definition) (all : List Site) (n : ℕ) (row : List Use) : Type 0 where
+  pub used : Site → Bool
+  pub says : (s : Site) → List·Memᴰ s all → T (used s) ↔ Reachable ds (s .type) n
+  pub row-is : row ≡ map entryOf (kept used all)
+
+-- The answer: such a row of the class's arguments and then of the methods'.
+pub record UsesGiven (ds : List Definition) (arguments methods : Forest Node) (n : ℕ) (answer : Outcome (List Use)) : Type 0 where
+  pub ofMethods : List Site
+  pub inOrder : MethodSites ds 0 methods ofMethods
+  pub row : List Use
+  pub is-given : answer ≡ given row
+  pub row-of : RowOf ds (indexed 65535 0 0 arguments ++ ofMethods) n row
+
+-- The uses of a name by the class arguments and methods that the actor offers.
+abbrev pub UsesOf : Book → ℕ → List Use → Type 0
+UsesOf b n l =
+    (arguments methods : Forest Node) × Interface (mainDefinitions b) (resolveActor b) arguments methods × UsesGiven (mainDefinitions b) arguments methods n (given l)
+
+-- ---- What is refused
+
+-- Its rows: those of the check, then 17 and 16.
+pub data UsesRow (b : Book) (n places : ℕ) : Refusal → Type 0 where
+  checked : {r : Refusal} → CheckRow b r → UsesRow b n places r
+  noActor : NoActorRow b → UsesRow b n places NoActor
+  short : {k : ℕ} → ShortRow places (uses b n) (UsesOf b n) k → UsesRow b n places (Short k)
+
+abbrev pub usesRows : List ℕ
+usesRows = 17 ∷ 16 ∷ checkRows

@@ -1,141 +1,152 @@
--- From the bytes of a book to what a question answers, and what of it holds for every question. Assumes nothing.
---     not-admitted, on-book          refusal 1; or the question of the book that the bytes lay out
---     check-refused                  what the check refuses
---     actor-lacks, actor-has         17, and how it is told
---     answered-refused               a refusal leaves the list as it was
+-- From the bytes of a book to what a question answers: what holds for every question. Assumes nothing.
+--     pass-refused, pass-goes        what `pass` finds
+--     after-refused, after-passed    the check refuses, or the question goes on
+--     lacks-actor, has-actor         17
+--     stopped, answered              a question on bytes: refused before it, or that on the book
+--     handed-refused, handed-as, ..  what is handed over then
+--     init-stops, init-goes          the init check
 use mathlib.Core.Path.{_≡_, refl, sym, ap, subst, _∙_}
-use mathlib.Core.Bool.{Bool, true, false, cond, not, _||_, false≢true}
-use mathlib.Core.List.{List, []}
-use Prim.Native.Nat.{ℕ, _≤_, _<_}
-use native.Mathlib.Omega.{arith}
-use lib.Dec.{eqb, eqb→eq}
-use lib.ListN.{length}
+use mathlib.Core.Bool.{Bool, true, false, not, _||_, false≢true}
+use mathlib.Core.List.{List}
+use Prim.Native.Nat.{ℕ}
+use lib.Dec.{eqb}
+use Rattle.refusals.specs.declared.Refusal.{Refusal}
+use Rattle.refusals.specs.declared.Refusal.the-variants.{NoActor}
+use Rattle.refusals.specs.declared.Verdict.{Verdict}
+use Rattle.refusals.specs.declared.Verdict.the-variants.{Passed as passes, Refused}
+use Rattle.refusals.specs.declared.Answer.{Answer}
+use Rattle.refusals.specs.declared.Answer.the-variants.{Refused as RefusedAnswer}
+use Rattle.refusals.specs.Verdict.{andThen, isPassed}
+use Rattle.refusals.specs.Outcome.{Outcome, refused, given, after, asked, judged, fit}
+use Rattle.refusals.specs.Handed.{Use, answerOf, leftIn, HandedAs, usesLeft, UsesAs}
+use Rattle.refusals.proofs.Verdicts.{refused-passed}
 use Rattle.format.specs.Forest.{Forest, end, tree}
 use Rattle.format.specs.Node.{Node}
 use Rattle.format.specs.Book.{Book}
-use Rattle.format.specs.Layout.{Layout, broken, whole, layout}
 use Rattle.format.specs.Rules.{noTrees}
-use Rattle.format.specs.Whole.{treeAt, actorAt}
-use Rattle.format.proofs.Stored.{tree-opens, actor-none, actor-some}
+use Rattle.format.specs.Admission.{admitted, onBytes}
+use Rattle.format.proofs.Admission.{asked-is}
 use Rattle.book.specs.declared.kinds.Contents.{Contents}
-use Rattle.book.specs.declared.refusal.Refusal.{Refusal}
-use Rattle.book.specs.declared.refusal.Refusal.the-variants.{NoActor}
-use Rattle.book.specs.declared.refusal.Verdict.{Verdict}
-use Rattle.book.specs.declared.refusal.Verdict.the-variants.{Passed, Refused}
-use Rattle.book.specs.declared.Admission.{Admission}
-use Rattle.book.specs.declared.Admission.the-variants.{Refused as RefusedBook}
-use Rattle.book.specs.Refusal.{andThen}
-use Rattle.book.specs.Reading.{admission}
-use Rattle.judgement.specs.Actor.{isClass, resolveActor}
-use Rattle.judgement.specs.Check.{check}
-use Rattle.judgement.specs.Check as judged
-use Rattle.typing.specs.declared.actor.Actor.{Actor}
-use Rattle.typing.specs.Books.{Admitted}
-use Rattle.typing.specs.Actors.{ActorStored, actorTree, mergedOf, methodsIn}
-use Rattle.typing.proofs.Opened.{refused-is}
-use Rattle.listing.specs.Uses.{Use}
-use Rattle.listing.specs.Questions.{Outcome, refused, given, after, actorVerdict, fit, onLayout}
-use Rattle.analysis.specs.declared.hand.Answer.{Answer}
-use Rattle.analysis.specs.declared.hand.Answer.the-variants.{Refused as RefusedAnswer}
-use Rattle.analysis.specs.Handed.{answerOf, HandedAs}
-use Rattle.analysis.proofs.Handed.{handed-refused}
-use Rattle.questions.specs.Uses.{usesIn, UsesAs}
+use Rattle.book.specs.Reading.{Admitted}
+use Rattle.admission.specs.declared.Admission.the-variants.{Refused as NotAdmitted, Admitted as IsAdmitted}
+use Rattle.admission.specs.Admitting.{admissionOf}
+use Rattle.admission.proofs.Admitting.{admission-refuses, admission-gives}
+use Rattle.judgement.specs.Actor.{resolveActor}
+use Rattle.judgement.specs.Check.{check, checkBytes, initCheck, initCheckBytes}
+use Rattle.typing.specs.declared.prog.Passed.{Passed}
+use Rattle.typing.specs.declared.prog.Found.{Found}
+use Rattle.typing.specs.Passing.{PassedAs, foundNone, FoundAs}
+use Rattle.typing.specs.declared.init.InitFound.{InitFound}
+use Rattle.typing.specs.Init.{InitFoundAs}
+use Rattle.typing.proofs.Passed.{no-actor, some-actor}
+use Rattle.listing.specs.Room.{needsActor}
+use Rattle.questions.specs.Stages.{BookPassed, PassAs, AfterCheck}
 
--- ---- Refusals
-pub answered-refused : {o : Outcome (List ℕ)} {r : Refusal} (old : List ℕ) → o ≡ refused r → HandedAs o old old (RefusedAnswer r)
-answered-refused old e = handed-refused e refl
+-- ---- What `pass` finds
+module _ (bs roots ends′ : List ℕ) where
+  pub pass-refused : {why : Refusal} {c : Contents} {r : Found} → NotAdmitted why ≡ admissionOf (admitted bs) → r ≡ foundNone c (Refused why) → PassAs bs roots ends′ r
+  unfolding checkBytes judged
+  pass-refused e f =
+      rw (f)
+      (record { verdict = rw (admission-refuses bs e); passed = λ q. refused-passed q; refused = λ g. refl })
 
--- ---- From bytes to a book
-outcome-refused : {A : Type 0} (l : Layout) (question : Book → Outcome A) {r : Refusal} → Refused r ≡ judged.onLayout (λ b. Passed) l → onLayout question l ≡ refused r
-unfolding onLayout judged.onLayout
-outcome-refused broken question {r} e = ap toOutcome (sym e)
-  where
-    toOutcome : {A : Type 0} → Verdict → Outcome A
-    toOutcome Passed = refused r
-    toOutcome (Refused q) = refused q
-outcome-refused (whole b) question {r} e = let z : _≡_ {A = ℕ} 0 1 = cc in absurd (omega arith)
+  -- the contents are those that admission found
+  book-passed : {p : Passed} {c : Contents} (a : Admitted bs c) → PassedAs a roots ends′ p → admitted bs ≡ given (a .book) → BookPassed bs roots ends′ p
+  book-passed {p} a x =
+      subst (λ (d : Contents). (a : Admitted bs d) → PassedAs a roots ends′ p → admitted bs ≡ given (a .book) → BookPassed bs roots ends′ p) (x .contents)
+      (λ a x e. record { book = record { admitted = a; passed = x }; is = e }) a x
 
-pub not-admitted : {A : Type 0} (bs : List ℕ) (question : Book → Outcome A) {r : Refusal} → RefusedBook r ≡ admission bs → onLayout question (layout bs) ≡ refused r
-not-admitted bs question e = outcome-refused (layout bs) question (refused-is bs (λ b. Passed) e)
-
-pub on-book : {A : Type 0} {bs : List ℕ} {c : Contents} (a : Admitted bs c) (question : Book → Outcome A) → question (a .book) ≡ onLayout question (layout bs)
-unfolding onLayout
-on-book a question = sym (ap (onLayout question) (a .laid))
+  pub pass-goes : {c : Contents} {r : Found} → IsAdmitted c ≡ admissionOf (admitted bs) → ((a : Admitted bs c) → FoundAs a roots ends′ r) → PassAs bs roots ends′ r
+  unfolding checkBytes judged
+  pass-goes {c} {r} e f =
+      let g = admission-gives bs e in
+      let x = f (g .read) in
+      record {
+        verdict = x .verdict ∙ sym (ap (judged check) (g .is));
+        passed = λ q. book-passed (g .read) (x .passed q) (g .is);
+        refused = λ h. let z = x .refused h in z ∙ ap (λ (d : Contents). foundNone d (r .verdict)) (sym (ap (λ (y : Found). y .passed .contents) z));
+      }
 
 -- ---- The check first, and then 17
-pub check-refused : {A : Type 0} (v w : Verdict) {r : Refusal} (o : Outcome A) → v ≡ Refused r → after (andThen v w) o ≡ refused r
-unfolding after
-check-refused v w o e = rw e
+module _ {A : Type 0} (o : Outcome A) where
+  pub after-refused : (v w : Verdict) {r : Refusal} → v ≡ Refused r → after (andThen v w) o ≡ refused r
+  unfolding after
+  after-refused v w e = rw e
 
-pub check-alone : {A : Type 0} (v : Verdict) {r : Refusal} (o : Outcome A) → v ≡ Refused r → after v o ≡ refused r
-unfolding after
-check-alone v o e = rw e
+  pub after-alone : (v : Verdict) {r : Refusal} → v ≡ Refused r → after v o ≡ refused r
+  unfolding after
+  after-alone v e = rw e
 
-pub check-passed : {A : Type 0} (v : Verdict) (o : Outcome A) → v ≡ Passed → after v o ≡ o
-unfolding after
-check-passed v o e = rw e
+  pub after-passed : (v : Verdict) → v ≡ passes → after v o ≡ o
+  unfolding after
+  after-passed v e = rw e
 
-pub actor-lacks : {A : Type 0} (v : Verdict) (t : Forest Node) (o : Outcome A) → v ≡ Passed → t ≡ end → after (andThen v (actorVerdict t)) o ≡ refused NoActor
-unfolding after actorVerdict noTrees
-actor-lacks v t o e f = rw (e, f)
+  actor-lacks : (v : Verdict) (t : Forest Node) → v ≡ passes → t ≡ end → after (andThen v (needsActor t)) o ≡ refused NoActor
+  unfolding after needsActor noTrees
+  actor-lacks v t e f = rw (e, f)
 
-pub actor-has : {A : Type 0} (v : Verdict) (t : Forest Node) (o : Outcome A) → v ≡ Passed → (t ≡ end → ⊥) → after (andThen v (actorVerdict t)) o ≡ o
-unfolding after actorVerdict noTrees
-actor-has v t o e some = rw e (go t some)
-  where
-    go : (t : Forest Node) → (t ≡ end → ⊥) → after (actorVerdict t) o ≡ o
-    go end h = absurd (h refl)
-    go (tree n kids next) h = refl
+  actor-has : (v : Verdict) (t : Forest Node) → v ≡ passes → (t ≡ end → ⊥) → after (andThen v (needsActor t)) o ≡ o
+  unfolding after needsActor noTrees
+  actor-has v t e some = rw e (go t some)
+    where
+      go : (t : Forest Node) → (t ≡ end → ⊥) → after (needsActor t) o ≡ o
+      go end h = absurd (h refl)
+      go (tree n kids next) h = refl
 
--- ---- Whether there is an actor
-not-end : {n : Node} {k next : Forest Node} → tree n k next ≡ end → ⊥
-unfolding noTrees
-not-end e = false≢true (ap noTrees e)
+module _ {bs : List ℕ} {c : Contents} {a : Admitted bs c} {roots ends′ : List ℕ} {p : Passed} (x : PassedAs a roots ends′ p) {has : Bool}
+    (is : has ≡ (p .interface .merged || not (eqb (p .interface .root) 65535))) {A : Type 0} (o : Outcome A) where
+  pub lacks-actor : has ≡ false → after (andThen (check (a .book)) (needsActor (resolveActor (a .book)))) o ≡ refused NoActor
+  lacks-actor f = actor-lacks o (check (a .book)) (resolveActor (a .book)) (x .passed) (no-actor x is f)
 
-either-some : (b : Bool) (f g : Forest Node) → (f ≡ end → ⊥) → (g ≡ end → ⊥) → cond b f g ≡ end → ⊥
-either-some true f g h k e = h e
-either-some false f g h k e = k e
-
-merged-some : (main methods : Forest Node) → mergedOf main methods ≡ end → ⊥
-unfolding mergedOf
-merged-some main methods = either-some (isClass main) _ _ not-end not-end
-
-module _ {ns roots ends′ : List ℕ} {a : Actor} (s : ActorStored ns roots ends′ a) where
-  pub tree-none : a .merged ≡ false → a .root ≡ 65535 → actorTree ns a ≡ end
-  unfolding actorTree
-  tree-none m e = rw m (actor-none ns (a .root) e)
-
-  pub tree-merged : a .merged ≡ true → actorTree ns a ≡ end → ⊥
-  unfolding actorTree
-  tree-merged m e = merged-some _ _ (rw m at e)
-
-  pub tree-written : a .merged ≡ false → (a .root ≡ 65535 → ⊥) → actorTree ns a ≡ end → ⊥
-  unfolding actorTree
-  tree-written m h e =
-      let t : treeAt ns (a .root) ≡ end = sym (actor-some ns (a .root) h) ∙ (rw m at e) in
-      not-end (rw (tree-opens (s .all .nodes .tree (a .root) (s .actor .root h) .whole)) at t)
+  pub has-actor : has ≡ true → after (andThen (check (a .book)) (needsActor (resolveActor (a .book)))) o ≡ o
+  has-actor f = actor-has o (check (a .book)) (resolveActor (a .book)) (x .passed) (some-actor x is f)
 
 -- ---- A question on bytes
-pub bytes-refused : (bs : List ℕ) (question : Book → Outcome (List ℕ)) {r : Refusal} (old : List ℕ) → RefusedBook r ≡ admission bs →
-    HandedAs (onLayout question (layout bs)) old old (RefusedAnswer r)
-bytes-refused bs question old e = answered-refused old (not-admitted bs question e)
+module _ {A : Type 0} (question : Book → Outcome A) (bs : List ℕ) where
+  pub unadmitted : {r : Refusal} → NotAdmitted r ≡ admissionOf (admitted bs) → onBytes question bs ≡ refused r
+  unfolding asked
+  unadmitted e = rw (admission-refuses bs e)
 
-pub bytes-answered : {bs : List ℕ} {c : Contents} (a : Admitted bs c) (question : Book → Outcome (List ℕ)) {old new : List ℕ} {r : Answer} →
-    HandedAs (question (a .book)) old new r → HandedAs (onLayout question (layout bs)) old new r
-bytes-answered a question {old} {new} {r} x = subst (λ o. HandedAs o old new r) (on-book a question) x
+  pub stopped : AfterCheck question → {r : Refusal} → checkBytes bs ≡ Refused r → onBytes question bs ≡ refused r
+  unfolding checkBytes judged asked
+  stopped first {r} = go (admitted bs)
+    where
+      go : (o : Outcome Book) → judged check o ≡ Refused r → asked question o ≡ refused r
+      go (refused q) e = ap refused cc
+      go (given b) e = first b r e
 
-pub answered-as : {o p : Outcome (List ℕ)} {old new : List ℕ} {r : Answer} → o ≡ p → HandedAs p old new r → HandedAs o old new r
-answered-as {old = old} {new = new} {r = r} e x = subst (λ q. HandedAs q old new r) (sym e) x
+  pub answered : {b : Book} → admitted bs ≡ given b → onBytes question bs ≡ question b
+  answered e = asked-is bs question e
 
--- ---- The question of uses on bytes
+-- ---- What is handed over
+pub handed-refused : {o : Outcome (List ℕ)} {r : Refusal} (old : List ℕ) → o ≡ refused r → HandedAs o old old (RefusedAnswer r)
+unfolding fit answerOf leftIn
+handed-refused old e = record { answer = rw e; left = rw e }
+
+pub handed-as : {o p : Outcome (List ℕ)} {old new : List ℕ} {r : Answer} → o ≡ p → HandedAs p old new r → HandedAs o old new r
+handed-as {old = old} {new = new} {r = r} e x = subst (λ q. HandedAs q old new r) (sym e) x
+
 pub uses-refused : {o : Outcome (List Use)} {r : Refusal} (old : List ℕ) → o ≡ refused r → UsesAs o old old (RefusedAnswer r)
-unfolding fit answerOf usesIn
+unfolding fit answerOf usesLeft
 uses-refused old e = record { answer = rw e; left = rw e }
 
-pub uses-bytes-refused : (bs : List ℕ) (question : Book → Outcome (List Use)) {r : Refusal} (old : List ℕ) → RefusedBook r ≡ admission bs →
-    UsesAs (onLayout question (layout bs)) old old (RefusedAnswer r)
-uses-bytes-refused bs question old e = uses-refused old (not-admitted bs question e)
+pub uses-as : {o p : Outcome (List Use)} {old new : List ℕ} {r : Answer} → o ≡ p → UsesAs p old new r → UsesAs o old new r
+uses-as {old = old} {new = new} {r = r} e x = subst (λ q. UsesAs q old new r) (sym e) x
 
-pub uses-bytes-answered : {bs : List ℕ} {c : Contents} (a : Admitted bs c) (question : Book → Outcome (List Use)) {old new : List ℕ} {r : Answer} →
-    UsesAs (question (a .book)) old new r → UsesAs (onLayout question (layout bs)) old new r
-uses-bytes-answered a question {old} {new} {r} x = subst (λ o. UsesAs o old new r) (on-book a question) x
+-- ---- The init check, which is no question but starts in the same way
+pub is-passed : (v : Verdict) → isPassed v ≡ true → v ≡ passes
+is-passed passes e = refl
+is-passed (Refused r) e = absurd (false≢true e)
+
+module _ {bs roots ends′ : List ℕ} where
+  pub init-stops : {r : Found} → PassAs bs roots ends′ r → isPassed (r .verdict) ≡ false → r .verdict ≡ initCheckBytes bs
+  unfolding checkBytes initCheckBytes judged initCheck
+  init-stops {r} x f = x .verdict ∙ go (admitted bs) (sym (ap isPassed (x .verdict)) ∙ f)
+    where
+      go : (o : Outcome Book) → isPassed (judged check o) ≡ false → judged check o ≡ judged initCheck o
+      go (refused q) g = refl
+      go (given b) g = rw g
+
+  pub init-goes : {p : Passed} (x : BookPassed bs roots ends′ p) {both : List ℕ} {r : InitFound} → InitFoundAs (x .book .admitted) both r → r .verdict ≡ initCheckBytes bs
+  unfolding initCheckBytes judged initCheck
+  init-goes x y = y .verdict ∙ sym (rw (x .is, x .book .passed .passed))

@@ -1,6 +1,3 @@
--- Laws that the proofs of the functions cite.
-pub mod Asking
-pub mod Passed
-pub mod Lists
-pub mod Drafting
-pub mod Usage
+-- Laws that the proofs of several questions cite.
+mod Asking
+mod Walks

@@ -4,8 +4,8 @@ use mathlib.Core.Bool.{true, false}
 use mathlib.Core.List.{List}
 use Prim.Native.Nat.{ℕ}
 use lib.ListN.{take}
-use Rattle.book.specs.declared.refusal.Refusal.the-variants.{Unbound}
-use Rattle.listing.specs.Questions.{Outcome, refused, given}
+use Rattle.refusals.specs.declared.Refusal.the-variants.{Unbound}
+use Rattle.refusals.specs.Outcome.{Outcome, refused, given}
 use Rattle.analysis.specs.declared.chase.Walk.{Walk}
 
 -- The outcome of a walk that is over: the name that stopped it, or what it has listed.

@@ -2,7 +2,7 @@
 --     all-read    by computation, the one theorem of the table
 --     all-fit     so each book fits, and the bytes are its encoding
 use mathlib.Core.Path.{_≡_, refl, ap, _∙_, sym}
-use mathlib.Core.List.{List, [], _∷_, map, List·Memᴰ, List·Memᴰ·head, List·Memᴰ·tail, head-eq-of-cons-eq, tail-eq-of-cons-eq}
+use mathlib.Core.List.{List, _∷_, map, List·Memᴰ, List·Memᴰ·head, List·Memᴰ·tail, head-eq-of-cons-eq, tail-eq-of-cons-eq}
 use Rattle.format.specs.Encode.{encode}
 use Rattle.format.specs.Fits.{Fits}
 use Rattle.format.specs.Layout.{layout, whole}

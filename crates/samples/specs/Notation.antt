@@ -9,19 +9,19 @@ use Prim.Native.String as strings
 use Prim.Native.String.{String}
 use Rattle.labels.specs.declared.Label.{Label}
 use Rattle.format.specs.Forest.{Forest, end, tree, breadth, beside}
-use Rattle.format.specs.Node.{PrimType, FuncMode, Kind, PrimT, VarT, OptT, RecordT, VariantT, FuncT, ServT, InitT, Labelled, unlabelled, labelled, Node}
+use Rattle.format.specs.Node.{PrimType, FuncMode, Kind, PrimT, VarT, OptT, RecordT, VariantT, FuncT, ServT, InitT, unlabelled, labelled, Node}
 use Rattle.format.specs.Book.{Definition, Role, File}
 
 infix 60 _∶_
 infixr 55 _⨾_
 -- The bytes of names; a character is the byte of its code, so they are written in ASCII.
-unfoldable pub ascii : String → List ℕ
-ascii strings.[] = []
-ascii (strings._∷_ c s) = code c ∷ ascii s
+unfoldable pub asciiBytes : String → List ℕ
+asciiBytes strings.[] = []
+asciiBytes (strings._∷_ c s) = code c ∷ asciiBytes s
 
 unfoldable pub spelled : List String → List (List ℕ)
 spelled [] = []
-spelled (s ∷ ss) = ascii s ∷ spelled ss
+spelled (s ∷ ss) = asciiBytes s ∷ spelled ss
 
 -- A type: the kind of its root and the children, without the label that the root gets by its place.
 pub record Shape : Type 0 where
@@ -29,8 +29,8 @@ pub record Shape : Type 0 where
   pub kids : Forest Node
 
 -- The one tree of a type, without a label.
-abbrev pub plain : Shape → Forest Node
-plain t = tree (record { kind = t .kind; label = unlabelled }) (t .kids) end
+abbrev pub unlabelledTree : Shape → Forest Node
+unlabelledTree t = tree (record { kind = t .kind; label = unlabelled }) (t .kids) end
 
 -- A field or a method.
 abbrev pub _∶_ : Label → Shape → Forest Node
@@ -51,7 +51,7 @@ abbrev pub ref : ℕ → Shape
 ref n = record { kind = VarT n; kids = end }
 
 abbrev pub opt : Shape → Shape
-opt t = record { kind = OptT; kids = plain t }
+opt t = record { kind = OptT; kids = unlabelledTree t }
 
 abbrev pub record-of : Forest Node → Shape
 record-of fields = record { kind = RecordT; kids = fields }
@@ -72,7 +72,7 @@ args-of args = record { kind = InitT; kids = args }
 
 -- A definition: the number of its file, that of its name, and its type.
 abbrev pub type : ℕ → ℕ → Shape → Definition
-type file n t = record { name = n; file = file; body = plain t }
+type file n t = record { name = n; file = file; body = unlabelledTree t }
 
 -- A file: the number of its name, its role, and the tree of its actor or init argument list; `end` where it has none.
 abbrev pub file : ℕ → Role → Forest Node → File

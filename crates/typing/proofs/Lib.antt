@@ -1,21 +1,5 @@
--- Laws that the proofs of the functions cite.
+-- Laws that the proofs of the functions cite; `Passed` is for callers.
 pub mod Nodes
-pub mod Walk
 pub mod Modes
-pub mod Definitions
-pub mod Fitting
-pub mod Founds
-pub mod Split
-pub mod Checks
-pub mod Order
-pub mod Opened
-pub mod ImportFiles
-pub mod Classes
-pub mod Resolving
-pub mod NodeTrees
-pub mod Merging
-pub mod ActorWalk
-pub mod Parts
-pub mod Inits
-pub mod Buckets
-pub mod Hashing
+pub mod Walk
+pub mod Passed

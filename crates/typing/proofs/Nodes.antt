@@ -1,11 +1,11 @@
 -- The verdict of a node by its stored kind. Assumes nothing.
-use mathlib.Core.Path.{_≡_, refl, sym, ap, _∙_}
-use mathlib.Core.Bool.{Bool, true, false, cond, not, _&&_, and-true, and-false}
-use mathlib.Core.List.{List, [], _∷_, _++_}
+use mathlib.Core.Path.{_≡_, refl, _∙_}
+use mathlib.Core.Bool.{Bool, false, not, _&&_, and-true, and-false}
+use mathlib.Core.List.{List, [], _∷_}
 use Prim.Native.Nat.{ℕ, zero, suc, _+_, _/_, _%_, _≤_, _<_}
 use native.Mathlib.Decide.{ℕ-discrete}
 use native.Mathlib.Omega.{arith}
-use borrow.Author.Tests.{eq-eqb, ne-eqb}
+use borrow.Author.Tests.{ne-eqb}
 use lib.Dec.{eqb}
 use lib.ListN.{length, getD, List·getD-append}
 use Rattle.format.specs.Forest.{Forest, breadth}
@@ -13,12 +13,11 @@ use Rattle.format.specs.Node.{PrimType, Kind, PrimT, VarT, OptT, VecT, RecordT,
 use Rattle.format.specs.Book.{Definition}
 use Rattle.format.specs.Encode.{Row}
 use Rattle.format.specs.Layout.{rowAt, siblings, modesOf, kinds, kindOf, nodeOf}
-use Rattle.book.specs.declared.refusal.Refusal as refusal
-use Rattle.book.specs.declared.refusal.Verdict.{Verdict}
-use Rattle.book.specs.declared.refusal.Verdict.the-variants.{Passed, Refused}
-use Rattle.book.specs.Refusal.{andThen, unless}
-use Rattle.judgement.specs.Environment.{findType, isServKind}
-use Rattle.judgement.specs.Check.{nameVerdict, kindVerdict, modesVerdict, checkForest}
+use Rattle.refusals.specs.declared.Refusal as refusal
+use Rattle.refusals.specs.declared.Verdict.the-variants.{Passed, Refused}
+use Rattle.refusals.specs.Verdict.{unless}
+use Rattle.judgement.specs.Environment.{isServKind}
+use Rattle.judgement.specs.Check.{nameVerdict, kindVerdict, checkForest}
 use Rattle.environment.specs.Tables.{foundAt, Binds}
 use Rattle.typing.specs.Walk.{boundVerdict, valueVerdict, typeVerdict, funcVerdict}
 

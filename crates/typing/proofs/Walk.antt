@@ -1,101 +1,28 @@
 -- The walks over types that stand beside each other: what is left gives the verdict. Assumes nothing.
-use mathlib.Core.Path.{_≡_, refl, sym, ap, ap₂, subst, _∙_}
-use mathlib.Core.Bool.{Bool, true, false, cond, not, _&&_, _||_}
+use mathlib.Core.Path.{_≡_, refl, sym, ap, _∙_}
+use mathlib.Core.Bool.{Bool, true, false, not, _||_}
 use mathlib.Core.List.{List}
-use Prim.Native.Nat.{ℕ, suc, _+_, _-_, _*_, _≤_, _<_}
+use Prim.Native.Nat.{ℕ, suc, _+_, _-_, _≤_, _<_}
 use native.Mathlib.Omega.{arith}
 use borrow.Author.Tests.{not-true}
-use lib.Dec.{T}
-use Rattle.labels.specs.declared.Label.the-variants.{Id, Named, Unnamed}
-use Rattle.format.specs.declared.Place.{Place}
 use Rattle.format.specs.declared.Place.the-variants.{Method}
 use Rattle.format.specs.Forest.{Forest, end, tree, breadth}
-use Rattle.format.specs.Node.{Kind, Labelled, unlabelled, labelled, Node, labelValue, labelKind}
+use Rattle.format.specs.Node.{Node, labelValue}
 use Rattle.format.specs.Book.{Definition}
-use Rattle.format.specs.Encode.{Row, rowOf}
-use Rattle.format.specs.Fits.{placeBelow, kindFits, kindAllowed, labelFits, nodeFits, forestFits}
-use Rattle.format.specs.Layout.{rowAt, siblings, nodeOf, kindOf, kinds}
-use Rattle.format.specs.Whole.{Within, Whole, WholeAt, RowFits, treeAt}
-use Rattle.format.proofs.Logic.{both, both₃, join₃}
-use Rattle.format.proofs.Rows.{Opened, opens, kids-whole, node-within, siblings-none, siblings-opens}
-use Rattle.format.proofs.Stored.{tree-whole, tree-opens}
-use Rattle.book.specs.declared.refusal.Refusal as refusal
-use Rattle.book.specs.declared.refusal.Verdict.{Verdict}
-use Rattle.book.specs.declared.refusal.Verdict.the-variants.{Passed, Refused}
-use Rattle.book.specs.Refusal.{isPassed, andThen, unless}
-use Rattle.judgement.specs.Environment.{isServKind, asFunc}
+use Rattle.format.specs.Layout.{rowAt, siblings, nodeOf}
+use Rattle.format.proofs.Rows.{siblings-none, siblings-opens}
+use Rattle.format.proofs.Stored.{tree-opens}
+use Rattle.refusals.specs.declared.Refusal as refusal
+use Rattle.refusals.specs.declared.Verdict.{Verdict}
+use Rattle.refusals.specs.declared.Verdict.the-variants.{Passed, Refused}
+use Rattle.refusals.specs.Verdict.{isPassed, andThen}
+use Rattle.judgement.specs.Environment.{asFunc}
 use Rattle.judgement.specs.Check.{methodVerdict, checkForest}
-use Rattle.environment.specs.Tables.{Ended, endIs}
-use Rattle.typing.specs.Walk.{Walkable, Trees, Methods, Env, valueVerdict, typeVerdict, funcVerdict}
-
--- ---- two verdicts
-pub and-on : (v w : Verdict) → isPassed v ≡ true → andThen v w ≡ w
-and-on v w h = rw h
-
-pub and-stops : (v w : Verdict) → isPassed v ≡ false → andThen v w ≡ v
-and-stops v w h = rw h
-
-pub and-passed : (v : Verdict) → andThen v Passed ≡ v
-and-passed Passed = refl
-and-passed (Refused r) = refl
-
--- ---- trees of a book, opened
-module _ {ns roots ends′ : List ℕ} {i until : ℕ} (t : Trees ns roots ends′ i until) (h : i < until) where
-  pub opened : Opened ns i until
-  opened = opens (t .whole) h
-
-  pub fit-parts : (T (nodeFits (t .walk .names) (t .place) (nodeOf (rowAt ns i)) (breadth (siblings ns (i + 1) (i + rowAt ns i .size))))
-      × T (forestFits (t .walk .names) (placeBelow (nodeOf (rowAt ns i) .kind)) (siblings ns (i + 1) (i + rowAt ns i .size))))
-      × T (forestFits (t .walk .names) (t .place) (siblings ns (i + rowAt ns i .size) until))
-  unfolding forestFits
-  fit-parts =
-      let f = subst (λ (q : Forest Node). T (forestFits (t .walk .names) (t .place) q)) (siblings-opens opened) (t .fits) in
-      let a = nodeFits (t .walk .names) (t .place) (nodeOf (rowAt ns i)) (breadth (siblings ns (i + 1) (i + rowAt ns i .size))) in
-      let b = forestFits (t .walk .names) (placeBelow (nodeOf (rowAt ns i) .kind)) (siblings ns (i + 1) (i + rowAt ns i .size)) in
-      let p = both (a && b) _ f in
-      (both a b (p .0), p .1)
-
-  pub ends-inside : i + rowAt ns i .size ≤ until
-  ends-inside = opened .rest .ordered
-
-  pub one-at-least : 1 ≤ rowAt ns i .size
-  one-at-least = opened .here .one
-
-  pub rest-trees : Trees ns roots ends′ (i + rowAt ns i .size) until
-  rest-trees = record { count = t .count; place = t .place; walk = t .walk; whole = opened .rest; inside = t .inside; fits = fit-parts .1 }
-
-  pub kids-trees : Trees ns roots ends′ (i + 1) (i + rowAt ns i .size)
-  kids-trees =
-      record {
-        count = t .count;
-        place = placeBelow (nodeOf (rowAt ns i) .kind);
-        walk = t .walk;
-        whole = kids-whole (opened .here);
-        inside = omega (arith, t .inside, ends-inside);
-        fits = fit-parts .0 .1;
-      }
-
-  pub this-tree : Trees ns roots ends′ i (i + rowAt ns i .size)
-  unfolding forestFits
-  this-tree =
-      record {
-        count = t .count;
-        place = t .place;
-        walk = t .walk;
-        whole = tree-whole (opened .here);
-        inside = omega (arith, t .inside, ends-inside);
-        fits = rw (tree-opens (opened .here)) (join₃ (nodeFits (t .walk .names) (t .place) (nodeOf (rowAt ns i)) (breadth (siblings ns (i + 1) (i + rowAt ns i .size))))
-            (forestFits (t .walk .names) (placeBelow (nodeOf (rowAt ns i) .kind)) (siblings ns (i + 1) (i + rowAt ns i .size))) true (fit-parts .0 .0) (fit-parts .0 .1) tt);
-      }
-
-  pub row-within : Within ns (i + 1)
-  row-within = node-within (opened .here)
-
-  pub row-fits : RowFits (t .walk .names) (rowAt ns i)
-  row-fits = t .walk .nodes .row i (omega (arith, t .inside))
-
-  pub ended : Ended ns ends′ i
-  ended = record { names = t .walk .names; count = t .count; nodes = t .walk .nodes; table = t .walk .ended; inside = omega (arith, t .inside) }
+use Rattle.environment.specs.Tables.{endIs}
+use Rattle.environment.proofs.Trees.{opened, rest-trees, one-at-least, row-within}
+use Rattle.syntax.proofs.Verdicts.{and-on, and-stops}
+use Rattle.environment.specs.Trees.{Trees, Methods}
+use Rattle.typing.specs.Walk.{Env, valueVerdict, typeVerdict, funcVerdict}
 
 -- ---- the verdict of trees, where there are none and where there is one
 module _ (pre tested : Bool) (ds : List Definition) where
@@ -168,38 +95,6 @@ module _ (pre : Bool) {ns roots ends′ : List ℕ} {i until : ℕ} (t : Trees n
       Refused (refusal.Refusal.MethodNoFunction (labelValue (nodeOf (rowAt ns i) .label))) ≡ method ds
   unfolding methodVerdict
   method-refused b q z ds e = rw (← tested-as (not pre) (not-true pre) ds e, ← q, z)
-
--- a method's label is a name of the book
-name-label : (names : ℕ) (x : Labelled) → T (labelFits names Method x) → (labelKind x ≡ 2)
-unfolding labelFits labelKind
-name-label names unlabelled h = absurd h
-name-label names (labelled (Id n)) h = absurd h
-name-label names (labelled (Named n)) h = refl
-name-label names (labelled (Unnamed n)) h = absurd h
-
-module _ {ns roots ends′ : List ℕ} {i until : ℕ} (t : Trees ns roots ends′ i until) (h : i < until) where
-  row-same : labelValue (nodeOf (rowAt ns i) .label) ≡ rowAt ns i .label
-  unfolding rowOf
-  row-same = ap (λ (r : Row). r .label) (row-fits t h .same)
-
-  pub method-label : t .place ≡ Method → (rowAt ns i .label < 1024) × (labelValue (nodeOf (rowAt ns i) .label) ≡ rowAt ns i .label)
-  unfolding nodeFits rowOf
-  method-label m =
-      let f = both₃ (kindFits (t .walk .names) (nodeOf (rowAt ns i) .kind) (breadth (siblings ns (i + 1) (i + rowAt ns i .size)))) (kindAllowed (t .place) (nodeOf (rowAt ns i) .kind)) (labelFits (t .walk .names) (t .place) (nodeOf (rowAt ns i) .label)) (fit-parts t h .0 .0) .2 in
-      let k = name-label (t .walk .names) (nodeOf (rowAt ns i) .label) (subst (λ (p : Place). T (labelFits (t .walk .names) p (nodeOf (rowAt ns i) .label))) m f) in
-      let two : rowAt ns i .lkind ≡ 2 = sym (ap (λ (r : Row). r .lkind) (row-fits t h .same)) ∙ k in
-      (omega (arith, row-fits t h .label two, t .walk .nodes .fewNames), row-same)
-
-  pub kids-place : rowAt ns i .kind ≡ 24 → kids-trees t h .place ≡ Method
-  unfolding kids-trees placeBelow nodeOf kindOf kinds
-  kids-place k = rw k
-
-  pub kids-methods : rowAt ns i .kind ≡ 24 → Methods ns roots ends′ (i + 1) (i + rowAt ns i .size)
-  kids-methods k = record { trees = kids-trees t h; methods = kids-place k }
-
-pub rest-methods : {ns roots ends′ : List ℕ} {i until : ℕ} → Methods ns roots ends′ i until → i < until → Methods ns roots ends′ (i + rowAt ns i .size) until
-unfolding rest-trees
-rest-methods m h = record { trees = rest-trees (m .trees) h; methods = m .methods }
 
 -- ---- the loop over methods
 pub record MethodsLeft (pre : Bool) (ns roots ends′ : List ℕ) (from until i : ℕ) : Type 0 where

@@ -1,39 +1,20 @@
 -- What the walks over stored types ask and say. Definitions; assumes nothing.
 use mathlib.Core.Path.{_≡_}
-use mathlib.Core.Bool.{Bool, true, false, not, _&&_, _||_}
+use mathlib.Core.Bool.{Bool, false, not, _&&_}
 use mathlib.Core.List.{List}
-use Prim.Native.Nat.{ℕ, _+_, _/_, _%_, _≤_, _<_}
-use lib.Dec.{T, eqb}
-use Rattle.format.specs.declared.Place.{Place}
-use Rattle.format.specs.declared.Place.the-variants.{Method}
+use Prim.Native.Nat.{ℕ, _+_, _/_, _%_}
+use lib.Dec.{eqb}
 use Rattle.format.specs.Node.{Node}
 use Rattle.format.specs.Forest.{Forest, breadth}
 use Rattle.format.specs.Book.{Definition}
-use Rattle.format.specs.Fits.{forestFits}
 use Rattle.format.specs.Layout.{rowAt, siblings, nodeOf, modesOf}
-use Rattle.format.specs.Whole.{Within, Whole, treeAt}
-use Rattle.book.specs.declared.refusal.Refusal as refusal
-use Rattle.book.specs.declared.refusal.Verdict.{Verdict}
-use Rattle.book.specs.Refusal.{andThen, unless}
+use Rattle.format.specs.Whole.{Within, treeAt}
+use Rattle.refusals.specs.declared.Refusal as refusal
+use Rattle.refusals.specs.declared.Verdict.{Verdict}
+use Rattle.refusals.specs.Verdict.{andThen, unless}
 use Rattle.judgement.specs.Environment.{isServKind, asFunc}
 use Rattle.judgement.specs.Check.{kindVerdict, modesVerdict, checkForest}
-use Rattle.environment.specs.Tables.{Nodes, Roots, Binds, EndNodes, endIs}
-
--- Nodes of a book, a table of roots and one of alias ends.
-pub record Walkable (ns roots ends′ : List ℕ) (count : ℕ) : Type 0 where
-  pub names : ℕ
-  pub nodes : Nodes ns names count
-  pub bound : Roots roots count
-  pub ended : EndNodes ends′ count
-
--- The trees from node `from` up to node `until` are trees of the book, at a place.
-pub record Trees (ns roots ends′ : List ℕ) (from until : ℕ) : Type 0 where
-  pub count : ℕ
-  pub place : Place
-  pub walk : Walkable ns roots ends′ count
-  pub whole : Whole ns from until
-  pub inside : until ≤ count
-  pub fits : T (forestFits (walk .names) place (siblings ns from until))
+use Rattle.environment.specs.Tables.{Binds, endIs}
 
 -- The tables are those of the definitions; that of alias ends is asked only where methods are tested.
 pub record Env (ns roots ends′ : List ℕ) (pre : Bool) (ds : List Definition) : Type 0 where
@@ -58,8 +39,3 @@ typeVerdict pre ds ns n =
 -- A function's arguments and results, and then its modes.
 unfoldable pub funcVerdict : Bool → List Definition → ℕ → Forest Node → Verdict
 funcVerdict pre ds value kids = andThen (checkForest pre false ds kids) (valueVerdict value (breadth kids))
-
--- Trees that are the methods of a service.
-pub record Methods (ns roots ends′ : List ℕ) (from until : ℕ) : Type 0 where
-  pub trees : Trees ns roots ends′ from until
-  pub methods : trees .place ≡ Method

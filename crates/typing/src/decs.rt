@@ -1,68 +1,93 @@
-// The definitions of a book, or of its init file: `check_decs`.
+// The definitions of a book, or of its init file: `check_decs` of typing.rs.
 ghost use mathlib.Core.Path.{_≡_};
-ghost use Rattle.environment.specs.Tables.{blankTable, Nodes, Entries};
-ghost use Rattle.typing.specs.Decs.{Bodies, DecsAs};
-use book::refusal::Refusal;
-use book::refusal::Verdict;
+ghost use Prim.Native.Nat.{_≤_};
+ghost use Rattle.format.specs.Layout.{nodesPart, definitionsPart};
+ghost use Rattle.book.specs.Reading.{Admitted};
+ghost use Rattle.book.specs.Tables.{blankTable};
+ghost use Rattle.environment.specs.Tables.{Nodes, Roots};
+ghost use Rattle.typing.specs.Decs.{DecsAs, Entered, Walked, CycleAs};
+use book::kinds::Contents;
 use environment::Table;
+use refusals::Refusal;
+use refusals::Verdict;
 
-// What the definitions are found to be, with the tables that later walks need.
-pub struct Decs {
-    pub verdict: Verdict,
-    pub roots: [u16; 1024],
-    pub ends: [u16; 1024],
-}
-
-// 2, the bodies (3, 4, 5, 6), 7 and 8, of the definitions of entries `from` up to `to`, into tables that have nothing.
-pub fn decs_in(
-    entries: &[u8],
+// 7: `check_cycle`. The alias ends go into a table that has nothing.
+fn check_cycle(
     rows: &[u8],
+    roots: &[u16],
     names: usize,
     nodes: usize,
+    definitions: usize,
+    ends: &mut [u16],
+) -> Verdict
+    requires { ⌜ Nodes (now rows) names nodes × Roots (now roots) nodes × (now ends ≡ blankTable) ⌝ }
+    ensures { λ r. ⌜ CycleAs (now (rows .entry)) (now (roots .entry)) names nodes definitions (now (ends .exit)) r ⌝ }
+{
+    let circle = environment::find_ends(rows, roots, names, nodes, definitions, ends);
+    if circle != Table::NONE {
+        return Verdict::Refused(Refusal::Circle(circle));
+    }
+    Verdict::Passed
+}
+
+// The alias ends of definitions whose bodies passed, and 8.
+fn check_ends(
+    book: &[u8],
+    c: Contents,
+    from: usize,
+    to: usize,
+    roots: &[u16],
+    ends: &mut [u16],
+) -> Verdict
+    requires { ⌜ Admitted (now book) c × Walked (definitionsPart (now book)) (nodesPart (now book)) (c .names) (c .nodes) from to (now roots) × (now ends ≡ blankTable) ⌝ }
+    ensures { λ r. ⌜ DecsAs (definitionsPart (now (book .entry))) (nodesPart (now (book .entry))) (c .names) (c .nodes) from to r (now (roots .entry)) (now (ends .exit)) ⌝ }
+{
+    let rows = c.nodes(book);
+    let v = check_cycle(rows, roots, c.names, c.nodes, to - from, ends);
+    if !v.passed() {
+        return v;
+    }
+    if crate::defs::validate_decs(c.definitions(book), rows, ends, from, to) {
+        return Verdict::Passed;
+    }
+    Verdict::Refused(Refusal::NoFunction)
+}
+
+// The bodies of definitions that are in the table (3, 4, 5, 6), and what follows.
+fn check_entered(
+    book: &[u8],
+    c: Contents,
+    from: usize,
+    to: usize,
+    roots: &[u16],
+    ends: &mut [u16],
+) -> Verdict
+    requires { ⌜ Admitted (now book) c × Entered (definitionsPart (now book)) (nodesPart (now book)) (c .names) (c .nodes) from to (now roots) × (now ends ≡ blankTable) ⌝ }
+    ensures { λ r. ⌜ DecsAs (definitionsPart (now (book .entry))) (nodesPart (now (book .entry))) (c .names) (c .nodes) from to r (now (roots .entry)) (now (ends .exit)) ⌝ }
+{
+    let rows = c.nodes(book);
+    let v = crate::defs::check_defs(c.definitions(book), rows, roots, ends, from, to);
+    if !v.passed() {
+        return v;
+    }
+    check_ends(book, c, from, to, roots, ends)
+}
+
+// The definitions of entries `from` up to `to`: 2, the bodies, 7 and 8. The roots and alias ends go into tables that have nothing.
+pub fn check_decs(
+    book: &[u8],
+    c: Contents,
     from: usize,
     to: usize,
     roots: &mut [u16],
     ends: &mut [u16],
 ) -> Verdict
-    requires { ⌜ Bodies (now entries) (now rows) names nodes from to × (now roots ≡ blankTable) × (now ends ≡ blankTable) ⌝ }
-    ensures { λ r. ⌜ DecsAs (now (entries .entry)) (now (rows .entry)) names nodes from to r (now (roots .exit)) (now (ends .exit)) ⌝ }
+    requires { ⌜ Admitted (now book) c × (from ≤ to) × (to ≤ c .definitions) × (now roots ≡ blankTable) × (now ends ≡ blankTable) ⌝ }
+    ensures { λ r. ⌜ DecsAs (definitionsPart (now (book .entry))) (nodesPart (now (book .entry))) (c .names) (c .nodes) from to r (now (roots .exit)) (now (ends .exit)) ⌝ }
 {
-    let twice = environment::enter(entries, names, nodes, from, to, roots);
+    let twice = environment::enter(c.definitions(book), c.names, c.nodes, from, to, roots);
     if twice != Table::NONE {
         return Verdict::Refused(Refusal::Twice(twice));
     }
-    let v = crate::bodies::bodies(entries, rows, roots, ends, from, to);
-    if !v.passed() {
-        return v;
-    }
-    let circle = environment::find_ends(rows, roots, names, nodes, to - from, ends);
-    if circle != Table::NONE {
-        return Verdict::Refused(Refusal::Circle(circle));
-    }
-    if !crate::bodies::bodies_fit(entries, rows, ends, from, to) {
-        return Verdict::Refused(Refusal::NoFunction);
-    }
-    Verdict::Passed
-}
-
-// The same with tables of their own.
-pub fn check_decs(
-    entries: &[u8],
-    rows: &[u8],
-    names: usize,
-    nodes: usize,
-    from: usize,
-    to: usize,
-) -> Decs
-    requires { ⌜ Bodies (now entries) (now rows) names nodes from to ⌝ }
-    ensures { λ r. ⌜ DecsAs (now (entries .entry)) (now (rows .entry)) names nodes from to (r .verdict) (r .roots) (r .ends) ⌝ }
-{
-    let mut roots = environment::blank();
-    let mut ends = environment::blank();
-    let verdict = decs_in(entries, rows, names, nodes, from, to, &mut roots, &mut ends);
-    Decs {
-        verdict,
-        roots,
-        ends,
-    }
+    check_entered(book, c, from, to, roots, ends)
 }

@@ -1,37 +1,61 @@
-// The check of init arguments: `check_init_args` of typing.rs, by the parts of a book that passed.
+// The check of init arguments: `check_init_args` of typing.rs, of a book that passed. Three steps: the init file's own definitions, the merge
+// with main's, and the arguments under both.
 ghost use mathlib.Core.Path.{_≡_};
 ghost use mathlib.Core.List.{List};
-ghost use Prim.Native.Nat.{ℕ, _+_, _≤_};
+ghost use Prim.Native.Nat.{ℕ, _+_, _≤_, _<_};
 ghost use lib.ListN.{length};
-ghost use Rattle.environment.specs.Tables.{Entries, definitionsIn};
-ghost use Rattle.typing.specs.Checking.{PartsOf};
-ghost use Rattle.typing.specs.Init.{lacked, MainPassed, initNone, InitCheckedAs};
+ghost use Rattle.format.specs.Book.{Definition};
+ghost use Rattle.book.specs.Tables.{blankTable};
+ghost use Rattle.environment.specs.Tables.{Entries, Roots, definitionsIn};
+ghost use Rattle.book.specs.Reading.{Admitted};
+ghost use Rattle.typing.specs.Init.{lacked, InitFile, NoInitFile, OwnDecsAs, OwnPassed, MergeAs, Seen, initNone, ArgumentsFound, InitFoundAs};
+ghost use Rattle.typing.specs.Passing.{PassedBook};
+use crate::prog::Passed;
+use book::kinds::Contents;
 use book::read::Entry;
 use book::read::Node;
-use book::refusal::Verdict;
 use environment::Table;
+use refusals::Verdict;
 
-// What the init check finds, and what the init list needs: the table of the definitions that the arguments see, how many those are, and the
-// range of the arguments' nodes. Without an init file the definitions are main's, and the range is empty.
-pub struct InitChecked {
+// What the init check finds, and what the init list needs beside the table of the definitions that the arguments see: how many those are, and
+// the range of the arguments' nodes. Without an init file the definitions are main's, and the range is empty.
+pub struct InitFound {
     pub verdict: Verdict,
-    pub roots: [u16; 1024],
     pub count: usize,
     pub from: usize,
     pub until: usize,
 }
 
 // Refused arguments have nothing to go on with.
-pub fn stopped(verdict: Verdict) -> InitChecked
+fn stopped(verdict: Verdict) -> InitFound
     ensures { λ r. ⌜ r ≡ initNone verdict ⌝ }
 {
-    InitChecked {
+    InitFound {
         verdict,
-        roots: environment::blank(),
         count: 0,
         from: 0,
         until: 0,
     }
+}
+
+// The init file's own definitions, which are those of the entries from `main` on: they do not see main's. Their table goes into `own`.
+fn check_own(book: &[u8], c: Contents, main: usize, own: &mut [u16]) -> Verdict
+    requires { ⌜ Admitted (now book) c × (main ≤ c .definitions) × (now own ≡ blankTable) ⌝ }
+    ensures { λ r. ⌜ OwnDecsAs (now (book .entry)) c main (now (own .exit)) r ⌝ }
+{
+    let mut ends = book::tables::blank();
+    crate::decs::check_decs(book, c, main, c.definitions, own, &mut ends)
+}
+
+// 11, and the table of both into `both`.
+fn merge(book: &[u8], c: Contents, own: &[u16], roots: &[u16], both: &mut [u16]) -> Verdict
+    requires { ⌜ Admitted (now book) c × Roots (now own) (c .nodes) × Roots (now roots) (c .nodes) × (length (now both) ≡ 1024) ⌝ }
+    ensures { λ r. ⌜ ((a : Admitted (now (book .entry)) c) → MergeAs a (now (own .entry)) (now (roots .entry)) (now (both .exit)) r) ⌝ }
+{
+    environment::merge::merged(own, roots, both);
+    let hashes = book::tables::name_hashes(c.names(book), c.names);
+    let rows = c.nodes(book);
+    environment::merge::merge(rows, &hashes, own, roots, c.names)
 }
 
 // How many definitions the init file's `count` and main's make together: a name that both define counts once.
@@ -58,62 +82,94 @@ fn merged_count(
     n
 }
 
-// The init file's own definitions, which do not see main's; the merge with main's; and the arguments under both.
-pub fn check_init_args(
-    names: &[u8],
-    rows: &[u8],
-    entries: &[u8],
-    files: &[u8],
-    name_count: usize,
-    nodes: usize,
-    definitions: usize,
-    file_count: usize,
-    roots: [u16; 1024],
-) -> InitChecked
-    requires { ⌜ ((p : PartsOf (now names) (now rows) (now entries) (now files) «name_count» nodes definitions «file_count») × MainPassed p roots) ⌝ }
-    ensures { λ r. ⌜ ((p : PartsOf (now (names .entry)) (now (rows .entry)) (now (entries .entry)) (now (files .entry)) «name_count» nodes definitions «file_count») →
-        MainPassed p roots → InitCheckedAs p r) ⌝ }
+// The arguments, which are the children of node `root`, where `count` definitions have the table `both`.
+fn check_arguments(book: &[u8], c: Contents, both: &[u16], count: usize, root: usize) -> InitFound
+    requires { ⌜ Admitted (now book) c × Roots (now both) (c .nodes) × (root < c .nodes) × ((ds : List Definition) × Seen (now book) c (now both) count ds) ⌝ }
+    ensures { λ r. ⌜ ((ds : List Definition) → Seen (now (book .entry)) c (now (both .entry)) count ds → ArgumentsFound (now (book .entry)) count root ds r) ⌝ }
 {
-    let init = crate::files::init_file(files, file_count);
-    if init == file_count {
-        return InitChecked {
-            verdict: Verdict::Passed,
-            roots,
-            count: definitions,
-            from: 0,
-            until: 0,
-        };
-    }
-    let main = crate::files::main_definitions(entries, definitions, init);
-    let decs = crate::decs::check_decs(entries, rows, name_count, nodes, main, definitions);
-    let v = decs.verdict;
-    if !v.passed() {
-        return stopped(v);
-    }
-    let own = decs.roots;
-    let hashes = environment::merge::name_hashes(names, name_count);
-    let w = environment::merge::merge(rows, &hashes, &own, &roots, name_count);
-    if !w.passed() {
-        return stopped(w);
-    }
-    let both = environment::merge::merged(&own, &roots);
-    let count = merged_count(entries, &own, name_count, nodes, definitions - main, main);
-    let found = environment::alias_ends(rows, &both, name_count, nodes, count);
-    let ends = found.ends;
-    let e = Entry::at(files, init);
-    let root = e.root as usize;
+    let rows = c.nodes(book);
+    let mut ends = book::tables::blank();
+    environment::find_ends(rows, both, c.names, c.nodes, count, &mut ends);
     let n = Node::at(rows, root);
     let from = root + 1;
-    let until = root + n.size as usize;
-    let z = crate::check_fields(rows, &both, &ends, false, from, until);
-    if !z.passed() {
-        return stopped(z);
+    let until = root + n.size;
+    let verdict = crate::check_fields(rows, both, &ends, false, from, until);
+    if !verdict.passed() {
+        return stopped(verdict);
     }
-    InitChecked {
-        verdict: z,
-        roots: both,
+    InitFound {
+        verdict,
         count,
         from,
         until,
     }
+}
+
+// The merge with main's definitions, and the arguments under both.
+fn check_both(
+    book: &[u8],
+    p: Passed,
+    roots: &[u16],
+    own: &[u16],
+    init: usize,
+    main: usize,
+    both: &mut [u16],
+) -> InitFound
+    requires { ⌜ ((ends : List ℕ) × (x : PassedBook (now book) (now roots) ends p) × OwnPassed (x .admitted) (now own) init main) × (length (now both) ≡ 1024) ⌝ }
+    ensures { λ r. ⌜ ((ends : List ℕ) (x : PassedBook (now (book .entry)) (now (roots .entry)) ends p) → OwnPassed (x .admitted) (now (own .entry)) init main →
+        InitFoundAs (x .admitted) (now (both .exit)) r) ⌝ }
+{
+    let c = p.contents;
+    let w = merge(book, c, own, roots, both);
+    if !w.passed() {
+        return stopped(w);
+    }
+    let entries = c.definitions(book);
+    let count = merged_count(entries, own, c.names, c.nodes, c.definitions - main, main);
+    let e = Entry::at(c.files(book), init);
+    check_arguments(book, c, both, count, e.root as usize)
+}
+
+// The init file, of number `init`: its own definitions first.
+fn check_file(book: &[u8], p: Passed, roots: &[u16], init: usize, both: &mut [u16]) -> InitFound
+    requires { ⌜ ((ends : List ℕ) × (x : PassedBook (now book) (now roots) ends p) × InitFile (x .admitted) init) × (length (now both) ≡ 1024) ⌝ }
+    ensures { λ r. ⌜ ((ends : List ℕ) (x : PassedBook (now (book .entry)) (now (roots .entry)) ends p) → InitFile (x .admitted) init → InitFoundAs (x .admitted) (now (both .exit)) r) ⌝ }
+{
+    let c = p.contents;
+    let main = p.main;
+    let mut own = book::tables::blank();
+    let v = check_own(book, c, main, &mut own);
+    if !v.passed() {
+        return stopped(v);
+    }
+    check_both(book, p, roots, &own, init, main, both)
+}
+
+// Without an init file the arguments, which are none, see main's definitions.
+fn no_file(book: &[u8], p: Passed, roots: &[u16], both: &mut [u16]) -> InitFound
+    requires { ⌜ (length (now roots) ≡ 1024) × (length (now both) ≡ 1024) ⌝ }
+    ensures { λ r. ⌜ ((ends : List ℕ) (x : PassedBook (now (book .entry)) (now (roots .entry)) ends p) → NoInitFile (x .admitted) → InitFoundAs (x .admitted) (now (both .exit)) r) ⌝ }
+{
+    let none = book::tables::blank();
+    environment::merge::merged(&none, roots, both);
+    let c = p.contents;
+    InitFound {
+        verdict: Verdict::Passed,
+        count: c.definitions,
+        from: 0,
+        until: 0,
+    }
+}
+
+// The init arguments of a book that passed: refusals 2 to 9 and 11. The table of the definitions that they see goes into `both`.
+pub fn check_init_args(book: &[u8], p: Passed, roots: &[u16], both: &mut [u16]) -> InitFound
+    requires { ⌜ ((ends : List ℕ) × PassedBook (now book) (now roots) ends p) × (now both ≡ blankTable) ⌝ }
+    ensures { λ r. ⌜ ((ends : List ℕ) (x : PassedBook (now (book .entry)) (now (roots .entry)) ends p) → InitFoundAs (x .admitted) (now (both .exit)) r) ⌝ }
+{
+    let c = p.contents;
+    let init = syntax::files::init_file(book, c);
+    if init == c.files {
+        return no_file(book, p, roots, both);
+    }
+    check_file(book, p, roots, init, both)
 }

@@ -1,29 +1,28 @@
-// The check of a declaration: typing.rs, and what of syntax/mod.rs resolves the actor.
+// The check of a declaration: typing.rs. Here the types; each function asks of its caller what an admitted book gives.
 ghost use mathlib.Core.Path.{_≡_};
 ghost use mathlib.Core.Bool.{false, _||_, not};
 ghost use mathlib.Core.List.{List};
-ghost use Prim.Native.Nat.{_+_, _<_, _≤_};
+ghost use Prim.Native.Nat.{_+_, _<_};
 ghost use lib.ListN.{length, getD};
 ghost use Rattle.format.specs.Book.{Definition};
 ghost use Rattle.format.specs.Layout.{rowAt, siblings};
 ghost use Rattle.judgement.specs.Check.{checkForest};
 ghost use Rattle.environment.specs.Tables.{Ended, endIs};
-ghost use Rattle.typing.specs.Walk.{Trees, Methods, Env, boundVerdict, valueVerdict, typeVerdict, funcVerdict};
+ghost use Rattle.environment.specs.Trees.{Trees, Methods};
+ghost use Rattle.typing.specs.Walk.{Env, boundVerdict, valueVerdict, typeVerdict, funcVerdict};
 
-pub mod actor;
-pub mod bodies;
-pub mod check;
-pub mod decs;
-pub mod files;
-pub mod hashes;
+mod actor;
+mod decs;
+mod defs;
 pub mod init;
+pub mod prog;
 
 use book::kinds::Kind;
 use book::kinds::Mode;
 use book::read::Node;
-use book::refusal::Refusal;
-use book::refusal::Verdict;
 use environment::Table;
+use refusals::Refusal;
+use refusals::Verdict;
 
 // A name has to have a definition.
 fn check_var(roots: &[u16], v: u32) -> Verdict

@@ -1,7 +1,8 @@
 -- `name` meets its contract: the book of the layout, and its name. Assumes nothing.
-use mathlib.Core.Path.{_≡_, sym, ap, _∙_}
+use mathlib.Core.Path.{sym, _∙_}
 use Rattle.format.specs.Layout.{part}
-use Rattle.book.proofs.Named.{Book-of, book-of, name-broken, name-outside, has-name, name-there, names-start, names-within}
+use Rattle.book.specs.Reading.{Admitted}
+use Rattle.book.proofs.Named.{book-of, name-broken, name-outside, has-name, name-there, names-start, names-within}
 use borrow.Author.Needs.{needs}
 use Rattle.book.proofs.name.Statement.{statement}
 use Rattle.book.proofs.name.Tie as tie
@@ -32,7 +33,7 @@ returns : tie.Need-returns
 returns c = name-broken _ _ (sym (c .before .enum-told .given .1) ∙ c .before .before .before .layout .ensures)
 
 -- the book that was laid out
-the-book : (c : tie.After-known-told) → Book-of (c .before .before .before .before .before .args .book .now) (c .before .c .given .0 .0)
+the-book : (c : tie.After-known-told) → Admitted (c .before .before .before .before .before .args .book .now) (c .before .c .given .0 .0)
 the-book c = book-of _ _ (sym (c .before .c .given .1) ∙ c .before .before .before .layout .ensures)
 
 sub-result-2 : tie.Need-sub-result-2

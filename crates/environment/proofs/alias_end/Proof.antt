@@ -1,9 +1,8 @@
 -- `alias_end` meets its contract: what is left of the chain ends where all of it does. Assumes nothing.
 use Prim.Native.Nat.{ℕ, _-_, _<_}
-use mathlib.Core.Path.{_≡_, sym, ap, subst, _∙_}
+use mathlib.Core.Path.{sym, subst, _∙_}
 use native.Mathlib.Omega.{arith}
-use lib.ListN.{length, getD}
-use Rattle.environment.proofs.Links.{ChainLeft, AliasAs, chain-start, row-within, name-small, alias-ends, alias-unbound, alias-circle, chain-step, in-table}
+use Rattle.environment.proofs.Links.{ChainLeft, chain-start, row-within, name-small, alias-ends, alias-unbound, alias-circle, chain-step, in-table}
 use Rattle.environment.proofs.alias_end.Statement.{statement}
 use Rattle.environment.proofs.alias_end.Tie as tie
 use Rattle.environment.proofs.alias_end.Reads as reads
@@ -15,6 +14,13 @@ Inv-loop rows roots names nodes left node at₀ k₀ at k = ChainLeft rows roots
 
 abbrev μ-loop : tie.MeasureT-loop
 μ-loop rows roots names nodes left node at₀ k₀ at k = k
+
+-- places that are far back
+abbrev entry-after-then2 : tie.Then2 Inv-loop μ-loop → tie.Start Inv-loop μ-loop
+entry-after-then2 c = c .before .before .before .before .before .before .before .before .before
+
+abbrev entry-after-else2 : tie.Else2 Inv-loop μ-loop → tie.Start Inv-loop μ-loop
+entry-after-else2 c = c .before .before .before .before .before .before .before .before .before
 
 loop-holds : tie.Need-loop-holds Inv-loop μ-loop
 loop-holds c = chain-start _ _ _ _ _ (c .before .before .pre .2)
@@ -43,14 +49,14 @@ cast-t16 c = omega (arith, small (c .before .before .before))
 
 returns-2 : tie.Need-returns-2 Inv-loop μ-loop
 returns-2 c =
-    let v = in-table (c .before .before .before .before .before .before .before .before .before .before .pre .1) (small (c .before .before .before)) in
-    let a = alias-unbound (c .before .before .before .before .before .before .before .before .before .before .pre .0) (c .before .before .before .before .before .before .before .before .before .before .pre .1) (c .before .before .before .before .before .before .before .loop .inv) _ (c .before .before .before .before .before .before .at .ensures) (c .before .before .before .before .if1 .left) (sym v ∙ c .before .if2 .taken) in
+    let v = in-table ((entry-after-then2 (c .before)) .pre .1) (small (c .before .before .before)) in
+    let a = alias-unbound ((entry-after-then2 (c .before)) .pre .0) ((entry-after-then2 (c .before)) .pre .1) (c .before .before .before .before .before .before .before .loop .inv) _ (c .before .before .before .before .before .before .at .ensures) (c .before .before .before .before .if1 .left) (sym v ∙ c .before .if2 .taken) in
     (a .within, a .is)
 
 returns-3 : tie.Need-returns-3 Inv-loop μ-loop
 returns-3 c =
-    let v = in-table (c .before .before .before .before .before .before .before .before .before .before .pre .1) (small (c .before .before .before)) in
-    let a = alias-circle (c .before .before .before .before .before .before .before .before .before .before .pre .0) (c .before .before .before .before .before .before .before .before .before .before .pre .1) (c .before .before .before .before .before .before .before .loop .inv) _ (c .before .before .before .before .before .before .at .ensures) (c .before .before .before .before .if1 .left) (λ e. c .before .if2 .left (v ∙ e)) (c .if3 .taken) in
+    let v = in-table ((entry-after-else2 (c .before)) .pre .1) (small (c .before .before .before)) in
+    let a = alias-circle ((entry-after-else2 (c .before)) .pre .0) ((entry-after-else2 (c .before)) .pre .1) (c .before .before .before .before .before .before .before .loop .inv) _ (c .before .before .before .before .before .before .at .ensures) (c .before .before .before .before .if1 .left) (λ e. c .before .if2 .left (v ∙ e)) (c .if3 .taken) in
     (a .within, a .is)
 
 sub-k : tie.Need-sub-k Inv-loop μ-loop
@@ -64,10 +70,10 @@ loop-less c = omega arith
 
 loop-again : tie.Need-loop-again Inv-loop μ-loop
 loop-again c =
-    let a = c .before .before .before .before .before .before .before .before .before .before .args in
-    let v = in-table (c .before .before .before .before .before .before .before .before .before .before .pre .1) (small (c .before .before .before)) in
+    let a = (entry-after-else2 (c .before)) .args in
+    let v = in-table ((entry-after-else2 (c .before)) .pre .1) (small (c .before .before .before)) in
     subst (λ (m : ℕ). ChainLeft (a .rows .now) (a .roots .now) (a .nodes) (a .left) (a .node) m (c .before .before .before .before .before .before .before .loop .k - 1)) (sym v)
-    (chain-step (c .before .before .before .before .before .before .before .before .before .before .pre .0) (c .before .before .before .before .before .before .before .before .before .before .pre .1) (c .before .before .before .before .before .before .before .loop .inv) _ (c .before .before .before .before .before .before .at .ensures) (c .before .before .before .before .if1 .left) (λ e. c .before .if2 .left (v ∙ e)) (c .if3 .left))
+    (chain-step ((entry-after-else2 (c .before)) .pre .0) ((entry-after-else2 (c .before)) .pre .1) (c .before .before .before .before .before .before .before .loop .inv) _ (c .before .before .before .before .before .before .at .ensures) (c .before .before .before .before .if1 .left) (λ e. c .before .if2 .left (v ∙ e)) (c .if3 .left))
 
 pub alias-end-spec : {M : Type 1} → statement M
 alias-end-spec =

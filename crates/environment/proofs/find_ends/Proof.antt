@@ -3,7 +3,7 @@ use Prim.Native.Nat.{_-_}
 use mathlib.Core.Path.{sym, ap, _∙_}
 use native.Mathlib.Omega.{arith}
 use lib.ListN.{length}
-use Rattle.environment.proofs.Defines.{blank-length}
+use Rattle.book.proofs.Blank.{blank-length}
 use Rattle.environment.proofs.Ends.{EndsLeft, ends-start, ends-end, ends-circle, ends-on}
 use Rattle.environment.proofs.find_ends.Statement.{statement}
 use Rattle.environment.proofs.find_ends.Tie as tie
@@ -19,6 +19,10 @@ Inv-loop rows roots names nodes definitions ends₀ n₀ ends n = EndsLeft rows 
 abbrev μ-loop : tie.MeasureT-loop
 μ-loop rows roots names nodes definitions ends₀ n₀ ends n = names - n
 
+-- places that are far back
+abbrev entry-after-in-loop : tie.In-loop Inv-loop μ-loop → tie.Start Inv-loop μ-loop
+entry-after-in-loop c = c .before .before .before .before .before .before .before .before .before
+
 open-ends-requires : tie.Need-open-ends-requires Inv-loop μ-loop
 open-ends-requires c κs = (c .before .before .before .before .pre .1 .long, c .before .before .before .before .pre .0 .fewNames, c .before .before .before .before .pre .2)
 
@@ -26,28 +30,28 @@ loop-holds : tie.Need-loop-holds Inv-loop μ-loop
 loop-holds c = ends-start _ _ _ _ _ _ (c .before .before .open-ends .ensures)
 
 follow-requires : tie.Need-follow-requires Inv-loop μ-loop
-follow-requires c κs = (c .before .before .before .before .before .before .before .before .before .before .pre .0, c .before .before .before .before .before .before .before .before .before .before .pre .1, c .before .before .loop .inv .table, c .before .loop-test .taken)
+follow-requires c κs = ((entry-after-in-loop (c .before)) .pre .0, (entry-after-in-loop (c .before)) .pre .1, c .before .before .loop .inv .table, c .before .loop-test .taken)
 
 cast-result : tie.Need-cast-result Inv-loop μ-loop
-cast-result c = omega (arith, c .before .before .before .loop-test .taken, c .before .before .before .before .before .before .before .before .before .before .before .before .pre .0 .fewNames)
+cast-result c = omega (arith, c .before .before .before .loop-test .taken, (entry-after-in-loop (c .before .before .before)) .pre .0 .fewNames)
 
 same-length : tie.Need-same-length Inv-loop μ-loop
-same-length c = c .before .before .before .before .loop .inv .table .long ∙ sym (ap length (c .before .before .before .before .before .before .before .before .before .before .before .before .pre .2) ∙ blank-length)
+same-length c = c .before .before .before .before .loop .inv .table .long ∙ sym (ap length ((entry-after-in-loop (c .before .before .before)) .pre .2) ∙ blank-length)
 
 returns : tie.Need-returns Inv-loop μ-loop
-returns c = ends-circle (c .before .before .before .before .before .before .before .before .before .before .before .before .pre .0 .fewNames) (c .before .before .before .before .loop .inv) (c .before .before .before .loop-test .taken) _ (c .before .follow .ensures) (c .if1 .taken)
+returns c = ends-circle ((entry-after-in-loop (c .before .before .before)) .pre .0 .fewNames) (c .before .before .before .before .loop .inv) (c .before .before .before .loop-test .taken) _ (c .before .follow .ensures) (c .if1 .taken)
 
 note-requires : tie.Need-note-requires Inv-loop μ-loop
-note-requires c κs = (c .before .before .before .before .before .before .before .before .before .before .before .before .before .pre .0, c .before .before .before .before .before .before .before .before .before .before .before .before .before .pre .1, c .before .before .before .before .before .loop .inv .table, c .before .before .before .before .loop-test .taken, c .before .before .follow .ensures .known (c .before .if1 .left))
+note-requires c κs = ((entry-after-in-loop (c .before .before .before .before)) .pre .0, (entry-after-in-loop (c .before .before .before .before)) .pre .1, c .before .before .before .before .before .loop .inv .table, c .before .before .before .before .loop-test .taken, c .before .before .follow .ensures .known (c .before .if1 .left))
 
 add-n : tie.Need-add-n Inv-loop μ-loop
-add-n c = omega (arith, c .before .before .before .before .before .before .before .loop-test .taken, c .before .before .before .before .before .before .before .before .before .before .before .before .before .before .before .before .pre .0 .fewNames)
+add-n c = omega (arith, c .before .before .before .before .before .before .before .loop-test .taken, (entry-after-in-loop (c .before .before .before .before .before .before .before)) .pre .0 .fewNames)
 
 loop-less : tie.Need-loop-less Inv-loop μ-loop
 loop-less c = omega (arith, c .before .before .before .before .before .before .before .loop-test .taken)
 
 loop-again : tie.Need-loop-again Inv-loop μ-loop
-loop-again c = ends-on (c .before .before .before .before .before .before .before .before .before .before .before .before .before .before .before .before .pre .0 .fewNames) (c .before .before .before .before .before .before .before .before .loop .inv) (c .before .before .before .before .before .before .before .loop-test .taken) _ (c .before .before .before .before .before .follow .ensures) (c .before .before .before .before .if1 .left) _ (c .before .before .note .ensures)
+loop-again c = ends-on ((entry-after-in-loop (c .before .before .before .before .before .before .before)) .pre .0 .fewNames) (c .before .before .before .before .before .before .before .before .loop .inv) (c .before .before .before .before .before .before .before .loop-test .taken) _ (c .before .before .before .before .before .follow .ensures) (c .before .before .before .before .if1 .left) _ (c .before .before .note .ensures)
 
 same-length-2 : tie.Need-same-length-2 Inv-loop μ-loop
 same-length-2 c = c .before .loop .inv .table .long ∙ sym (ap length (c .before .before .before .before .before .before .before .before .before .pre .2) ∙ blank-length)

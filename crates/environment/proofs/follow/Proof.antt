@@ -13,6 +13,10 @@ Inv-loop rows roots ends names nodes definitions n m₀ k₀ m k = Follows rows 
 abbrev μ-loop : tie.MeasureT-loop
 μ-loop rows roots ends names nodes definitions n m₀ k₀ m k = k
 
+-- places that are far back
+abbrev entry-after-at : tie.After-at Inv-loop μ-loop → tie.Start Inv-loop μ-loop
+entry-after-at c = c .before .before .before .before .before .before .before .before .before
+
 loop-holds : tie.Need-loop-holds Inv-loop μ-loop
 loop-holds c = follow-start _ _ _ _ _ (c .before .before .before .pre .3)
 
@@ -44,16 +48,16 @@ at-requires : tie.Need-at-requires Inv-loop μ-loop
 at-requires c κs = root-within (c .before .before .before .before .before .before .before .before .pre .0) (c .before .before .before .before .before .before .before .before .pre .1) (c .before .before .before .before .loop .inv .inside) (open-bound (c .before .before .before .before .before .before .before .before .pre .0) (c .before .before .before .before .loop .inv .inside) (c .before .before .before .before .before .before .before .before .pre .2) (c .before .before .if1 .left))
 
 returns-3 : tie.Need-returns-3 Inv-loop μ-loop
-returns-3 c = follow-ends (c .before .before .before .before .before .before .before .before .before .before .before .pre .0) (c .before .before .before .before .before .before .before .before .before .before .before .pre .1) (c .before .before .before .before .before .before .before .before .before .before .before .pre .2) (c .before .before .before .before .before .before .before .loop .inv) (c .before .before .before .before .before .if1 .left) _ (c .before .before .at .ensures) (c .if3 .taken)
+returns-3 c = follow-ends ((entry-after-at (c .before .before)) .pre .0) ((entry-after-at (c .before .before)) .pre .1) ((entry-after-at (c .before .before)) .pre .2) (c .before .before .before .before .before .before .before .loop .inv) (c .before .before .before .before .before .if1 .left) _ (c .before .before .at .ensures) (c .if3 .taken)
 
 cast-m : tie.Need-cast-m Inv-loop μ-loop
-cast-m c = omega (arith, next-inside (c .before .before .before .before .before .before .before .before .before .before .before .before .pre .0) (c .before .before .before .before .before .before .before .before .before .before .before .before .pre .1) (c .before .before .before .before .before .before .before .before .loop .inv .inside) (open-bound (c .before .before .before .before .before .before .before .before .before .before .before .before .pre .0) (c .before .before .before .before .before .before .before .before .loop .inv .inside) (c .before .before .before .before .before .before .before .before .before .before .before .before .pre .2) (c .before .before .before .before .before .before .if1 .left)) _ (c .before .before .before .at .ensures) (c .before .if3 .left), c .before .before .before .before .before .before .before .before .before .before .before .before .pre .0 .fewNames)
+cast-m c = omega (arith, next-inside ((entry-after-at (c .before .before .before)) .pre .0) ((entry-after-at (c .before .before .before)) .pre .1) (c .before .before .before .before .before .before .before .before .loop .inv .inside) (open-bound ((entry-after-at (c .before .before .before)) .pre .0) (c .before .before .before .before .before .before .before .before .loop .inv .inside) ((entry-after-at (c .before .before .before)) .pre .2) (c .before .before .before .before .before .before .if1 .left)) _ (c .before .before .before .at .ensures) (c .before .if3 .left), (entry-after-at (c .before .before .before)) .pre .0 .fewNames)
 
 loop-less : tie.Need-loop-less Inv-loop μ-loop
 loop-less c = omega arith
 
 loop-again : tie.Need-loop-again Inv-loop μ-loop
-loop-again c = follow-on (c .before .before .before .before .before .before .before .before .before .before .before .before .pre .0) (c .before .before .before .before .before .before .before .before .before .before .before .before .pre .1) (c .before .before .before .before .before .before .before .before .before .before .before .before .pre .2) (c .before .before .before .before .before .before .before .before .loop .inv) (c .before .before .before .before .before .before .if1 .left) _ (c .before .before .before .at .ensures) (c .before .if3 .left) (c .before .before .before .before .before .if2 .left)
+loop-again c = follow-on ((entry-after-at (c .before .before .before)) .pre .0) ((entry-after-at (c .before .before .before)) .pre .1) ((entry-after-at (c .before .before .before)) .pre .2) (c .before .before .before .before .before .before .before .before .loop .inv) (c .before .before .before .before .before .before .if1 .left) _ (c .before .before .before .at .ensures) (c .before .if3 .left) (c .before .before .before .before .before .if2 .left)
 
 pub follow-spec : {M : Type 1} → statement M
 follow-spec =

@@ -14,6 +14,10 @@ Inv-loop rows roots names nodes n end ends₀ m₀ ends m = Notes rows roots nam
 abbrev μ-loop : tie.MeasureT-loop
 μ-loop rows roots names nodes n end ends₀ m₀ ends m = toFind ends
 
+-- places that are far back
+abbrev entry-after-struct-known : tie.After-struct-known Inv-loop μ-loop → tie.Start Inv-loop μ-loop
+entry-after-struct-known c = c .before .before .before .before .before .before .before .before .before
+
 loop-holds : tie.Need-loop-holds Inv-loop μ-loop
 loop-holds c = note-start (c .before .before .before .pre .3) (c .before .before .before .pre .4) (c .before .before .before .pre .2)
 
@@ -42,19 +46,19 @@ at-requires : tie.Need-at-requires Inv-loop μ-loop
 at-requires c κs = root-within (c .before .before .before .before .before .before .before .pre .0) (c .before .before .before .before .before .before .before .pre .1) (c .before .before .before .loop .inv .inside) (open-bound (c .before .before .before .before .before .before .before .pre .0) (c .before .before .before .loop .inv .inside) (c .before .before .before .loop .inv .table) (c .before .if1 .taken))
 
 same-length : tie.Need-same-length Inv-loop μ-loop
-same-length c = note-set (c .before .before .before .before .before .before .before .before .before .before .pre .0) (c .before .before .before .before .before .before .before .before .before .before .pre .1) (c .before .before .before .before .before .before .loop .inv) (c .before .before .before .before .if1 .taken) .table .long ∙ sym (c .before .before .before .before .before .before .before .before .before .before .pre .2 .long)
+same-length c = note-set ((entry-after-struct-known (c .before)) .pre .0) ((entry-after-struct-known (c .before)) .pre .1) (c .before .before .before .before .before .before .loop .inv) (c .before .before .before .before .if1 .taken) .table .long ∙ sym ((entry-after-struct-known (c .before)) .pre .2 .long)
 
 returns : tie.Need-returns Inv-loop μ-loop
-returns c = note-set (c .before .before .before .before .before .before .before .before .before .before .pre .0) (c .before .before .before .before .before .before .before .before .before .before .pre .1) (c .before .before .before .before .before .before .loop .inv) (c .before .before .before .before .if1 .taken)
+returns c = note-set ((entry-after-struct-known (c .before)) .pre .0) ((entry-after-struct-known (c .before)) .pre .1) (c .before .before .before .before .before .before .loop .inv) (c .before .before .before .before .if1 .taken)
 
 cast-m : tie.Need-cast-m Inv-loop μ-loop
-cast-m c = omega (arith, next-inside (c .before .before .before .before .before .before .before .before .before .before .before .pre .0) (c .before .before .before .before .before .before .before .before .before .before .before .pre .1) (c .before .before .before .before .before .before .before .loop .inv .inside) (open-bound (c .before .before .before .before .before .before .before .before .before .before .before .pre .0) (c .before .before .before .before .before .before .before .loop .inv .inside) (c .before .before .before .before .before .before .before .loop .inv .table) (c .before .before .before .before .before .if1 .taken)) _ (c .before .before .before .at .ensures) (c .before .if2 .left), c .before .before .before .before .before .before .before .before .before .before .before .pre .0 .fewNames)
+cast-m c = omega (arith, next-inside ((entry-after-struct-known (c .before .before)) .pre .0) ((entry-after-struct-known (c .before .before)) .pre .1) (c .before .before .before .before .before .before .before .loop .inv .inside) (open-bound ((entry-after-struct-known (c .before .before)) .pre .0) (c .before .before .before .before .before .before .before .loop .inv .inside) (c .before .before .before .before .before .before .before .loop .inv .table) (c .before .before .before .before .before .if1 .taken)) _ (c .before .before .before .at .ensures) (c .before .if2 .left), (entry-after-struct-known (c .before .before)) .pre .0 .fewNames)
 
 loop-less : tie.Need-loop-less Inv-loop μ-loop
-loop-less c = note-less (c .before .before .before .before .before .before .before .before .before .before .before .pre .0) (c .before .before .before .before .before .before .before .before .before .before .before .pre .1) (c .before .before .before .before .before .before .before .loop .inv) (c .before .before .before .before .before .if1 .taken)
+loop-less c = note-less ((entry-after-struct-known (c .before .before)) .pre .0) ((entry-after-struct-known (c .before .before)) .pre .1) (c .before .before .before .before .before .before .before .loop .inv) (c .before .before .before .before .before .if1 .taken)
 
 loop-again : tie.Need-loop-again Inv-loop μ-loop
-loop-again c = note-on (c .before .before .before .before .before .before .before .before .before .before .before .pre .0) (c .before .before .before .before .before .before .before .before .before .before .before .pre .1) (c .before .before .before .before .before .before .before .loop .inv) (c .before .before .before .before .before .if1 .taken) _ (c .before .before .before .at .ensures) (c .before .if2 .left)
+loop-again c = note-on ((entry-after-struct-known (c .before .before)) .pre .0) ((entry-after-struct-known (c .before .before)) .pre .1) (c .before .before .before .before .before .before .before .loop .inv) (c .before .before .before .before .before .if1 .taken) _ (c .before .before .before .at .ensures) (c .before .if2 .left)
 
 same-length-2 : tie.Need-same-length-2 Inv-loop μ-loop
 same-length-2 c = c .before .before .loop .inv .table .long ∙ sym (c .before .before .before .before .before .before .pre .2 .long)

@@ -3,7 +3,7 @@ use Prim.Native.Nat.{_-_}
 use mathlib.Core.Path.{sym, ap, _∙_}
 use native.Mathlib.Omega.{arith}
 use lib.ListN.{length}
-use Rattle.environment.proofs.Defines.{blank-length}
+use Rattle.book.proofs.Blank.{blank-length}
 use Rattle.environment.proofs.Ends.{Begun, begun-start, begun-end, begun-on}
 use Rattle.environment.proofs.open_ends.Statement.{statement}
 use Rattle.environment.proofs.open_ends.Tie as tie

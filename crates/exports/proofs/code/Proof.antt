@@ -5,8 +5,8 @@ use Rattle.exports.proofs.code.Statement.{statement}
 use Rattle.exports.proofs.code.Tie as tie
 use Rattle.exports.proofs.code.Reads as reads
 use Rattle.exports.proofs.code.Lts as lts
-use Rattle.book.proofs.refusal.Refusal.name.Reads as name-reads
-use Rattle.book.proofs.refusal.Refusal.number.Reads as number-reads
+use Rattle.refusals.proofs.Refusal.name.Reads as name-reads
+use Rattle.refusals.proofs.Refusal.number.Reads as number-reads
 
 enum-told : tie.Need-enum-told
 enum-told c = search needs

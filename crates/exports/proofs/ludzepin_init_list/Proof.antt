@@ -1,8 +1,10 @@
 -- `ludzepin_init_list` meets its contract. Assumes nothing.
 use mathlib.Core.Path.{sym, ap, subst, _∙_}
+use native.Mathlib.Omega.{arith}
 use lib.ListN.{length}
 use Rattle.exports.specs.Coded.{codedAnswer, Below, small}
-use Rattle.exports.proofs.Small.{init-small}
+use Rattle.exports.proofs.Small.{most-below}
+use Rattle.listing.proofs.InitList.{init-list-bytes-most}
 use borrow.Author.Needs.{needs}
 use Rattle.exports.proofs.ludzepin_init_list.Statement.{statement}
 use Rattle.exports.proofs.ludzepin_init_list.Tie as tie
@@ -17,7 +19,7 @@ init-list-requires c κs = search needs
 answer-code-requires : tie.Need-answer-code-requires
 answer-code-requires c κs =
     let start = c .before .before .before .before .before .before .args in
-    subst (Below small) (sym (c .before .before .init-list .ensures .answer)) (init-small (start .book .now) (length (start .out .now)))
+    subst (Below small) (sym (c .before .before .init-list .ensures .answer)) (most-below small 512 (omega arith) _ (init-list-bytes-most (start .book .now) (length (start .out .now))))
 
 same-length : tie.Need-same-length
 same-length c = search needs

@@ -1,5 +1,5 @@
 -- `line` meets its contract: its parts are laid one after another. Assumes nothing.
-use Rattle.text.proofs.Laid.{then}
+use Rattle.print.proofs.Laid.{then}
 use Rattle.list.specs.Printed.{line}
 use borrow.Author.Needs.{needs}
 use Rattle.list.proofs.line.Statement.{statement}

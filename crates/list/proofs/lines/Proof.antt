@@ -2,8 +2,8 @@
 use Prim.Native.Nat.{_-_}
 use native.Mathlib.Omega.{arith}
 use lib.ListN.{length, take}
-use Rattle.text.specs.Laid.{Laid}
-use Rattle.text.proofs.Laid.{same}
+use Rattle.print.specs.Laid.{Laid}
+use Rattle.print.proofs.Laid.{same}
 use Rattle.list.specs.Printed.{lines}
 use Rattle.list.proofs.Listed.{lines-start, lines-on, lines-end}
 use Rattle.list.proofs.lines.Statement.{statement}

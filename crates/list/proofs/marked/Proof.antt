@@ -1,7 +1,7 @@
 -- `marked` meets its contract: the marks' answer says which of the two texts is laid. Assumes nothing.
 use mathlib.Core.Path.{sym}
 use lib.Seq.{length-take-le}
-use Rattle.text.proofs.Laid.{alias}
+use Rattle.print.proofs.Laid.{alias}
 use Rattle.list.proofs.Answered.{given-within}
 use Rattle.list.proofs.Listed.{marks-refused, marks-given}
 use borrow.Author.Needs.{needs}

@@ -1,6 +1,6 @@
 -- `refusal` meets its contract: the name is the book's. Assumes nothing.
-use Rattle.text.proofs.Laid.{alias}
-use Rattle.batch.proofs.Refused.{refusal-of}
+use Rattle.print.proofs.Laid.{alias}
+use Rattle.print.proofs.Refusals.{refusal-of}
 use borrow.Author.Needs.{needs}
 use Rattle.list.proofs.refusal.Statement.{statement}
 use Rattle.list.proofs.refusal.Tie as tie

@@ -1,5 +1,5 @@
 -- `table` meets its contract: the lines stand after the heading. Assumes nothing.
-use Rattle.text.proofs.Laid.{then, alias}
+use Rattle.print.proofs.Laid.{then, alias}
 use Rattle.list.proofs.Listed.{table-is}
 use borrow.Author.Needs.{needs}
 use Rattle.list.proofs.table.Statement.{statement}

@@ -1,15 +1,15 @@
--- `draft_list` meets its contract. Assumes nothing.
-use mathlib.Core.Path.{_≡_, sym, _∙_}
-use Rattle.listing.specs.Questions as asked
-use Rattle.typing.proofs.Opened.{admitted-is}
-use Rattle.questions.proofs.Asking.{bytes-refused, bytes-answered}
+-- `draft_list` meets its contract: admission, and the question. Assumes nothing.
+use mathlib.Core.Path.{sym, _∙_}
+use Rattle.listing.specs.DraftList.{draftList}
+use Rattle.admission.proofs.Admitting.{admission-gives}
+use Rattle.questions.proofs.Asking.{unadmitted, answered, handed-refused, handed-as}
 use borrow.Author.Needs.{needs}
 use Rattle.questions.proofs.draft_list.Statement.{statement}
 use Rattle.questions.proofs.draft_list.Tie as tie
 use Rattle.questions.proofs.draft_list.Reads as reads
 use Rattle.questions.proofs.draft_list.Lts as lts
-use Rattle.book.proofs.admit.Reads as admit-reads
-use Rattle.questions.proofs.draft_list_book.Reads as draft-list-book-reads
+use Rattle.admission.proofs.admit.Reads as admit-reads
+use Rattle.questions.proofs.passed.draft_list.draft_list_admitted.Reads as draft-list-admitted-reads
 
 admit-requires : tie.Need-admit-requires
 admit-requires c κs = search needs
@@ -20,17 +20,17 @@ enum-known-why c = search needs
 enum-known-c : tie.Need-enum-known-c
 enum-known-c c = search needs
 
-draft-list-book-requires : tie.Need-draft-list-book-requires
-draft-list-book-requires c κs = admitted-is _ (sym (c .before .before .c .given .1) ∙ c .before .before .before .before .admit .ensures)
+draft-list-admitted-requires : tie.Need-draft-list-admitted-requires
+draft-list-admitted-requires c κs = admission-gives _ (sym (c .before .before .c .given .1) ∙ c .before .before .before .before .admit .ensures) .read
 
 returns : tie.Need-returns
-returns c = bytes-refused _ asked.draftList _ (sym (c .before .why .given .1) ∙ c .before .before .before .admit .ensures)
+returns c = handed-refused _ (unadmitted draftList _ (sym (c .before .why .given .1) ∙ c .before .before .before .admit .ensures))
 
 same-length : tie.Need-same-length
 same-length c = search needs
 
 returns-2 : tie.Need-returns-2
-returns-2 c = let a = admitted-is _ (sym (c .before .before .before .before .before .c .given .1) ∙ c .before .before .before .before .before .before .before .admit .ensures) in bytes-answered a asked.draftList (c .before .before .draft-list-book .ensures a)
+returns-2 c = let g = admission-gives _ (sym (c .before .before .before .before .before .c .given .1) ∙ c .before .before .before .before .before .before .before .admit .ensures) in handed-as (answered draftList _ (g .is)) (c .before .before .draft-list-admitted .ensures (g .read))
 
 pub draft-list-spec : {M : Type 1} → statement M
 draft-list-spec =
@@ -39,7 +39,7 @@ draft-list-spec =
     admit-requires
     enum-known-why
     enum-known-c
-    draft-list-book-requires
+    draft-list-admitted-requires
     returns
     same-length
     returns-2)

@@ -1,45 +1,70 @@
--- `emptiness` meets its contract. Assumes nothing.
-use mathlib.Core.Path.{_≡_, sym, _∙_}
-use Rattle.listing.specs.Questions as asked
-use Rattle.typing.proofs.Opened.{admitted-is}
-use Rattle.questions.proofs.Asking.{bytes-refused, bytes-answered}
+-- `emptiness` meets its contract: admission, the check, and the question. Assumes nothing.
+use mathlib.Core.Path.{sym, _∙_}
+use Rattle.listing.specs.Emptiness.{emptiness}
+use Rattle.questions.proofs.Asking.{stopped, answered, handed-refused, handed-as}
+use Rattle.questions.proofs.passed.emptiness.Laws.{emptiness-after}
 use borrow.Author.Needs.{needs}
 use Rattle.questions.proofs.emptiness.Statement.{statement}
 use Rattle.questions.proofs.emptiness.Tie as tie
 use Rattle.questions.proofs.emptiness.Reads as reads
 use Rattle.questions.proofs.emptiness.Lts as lts
-use Rattle.book.proofs.admit.Reads as admit-reads
-use Rattle.questions.proofs.emptiness_book.Reads as emptiness-book-reads
+use Rattle.book.proofs.tables.blank.Reads as blank-reads
+use Rattle.questions.proofs.passed.emptiness.emptiness_passed.Reads as emptiness-passed-reads
+use Rattle.questions.proofs.stages.pass.Reads as pass-reads
 
-admit-requires : tie.Need-admit-requires
-admit-requires c κs = search needs
+blank-requires : tie.Need-blank-requires
+blank-requires c κs = search needs
 
-enum-known-why : tie.Need-enum-known-why
-enum-known-why c = search needs
+blank-requires-2 : tie.Need-blank-requires-2
+blank-requires-2 c κs = search needs
 
-enum-known-c : tie.Need-enum-known-c
-enum-known-c c = search needs
+slice-aggregate-pass : tie.Need-slice-aggregate-pass
+slice-aggregate-pass c = search needs
 
-emptiness-book-requires : tie.Need-emptiness-book-requires
-emptiness-book-requires c κs = admitted-is _ (sym (c .before .before .c .given .1) ∙ c .before .before .before .before .admit .ensures)
+slice-aggregate-pass-2 : tie.Need-slice-aggregate-pass-2
+slice-aggregate-pass-2 c = search needs
+
+pass-requires : tie.Need-pass-requires
+pass-requires c κs = search needs
+
+enum-known-v : tie.Need-enum-known-v
+enum-known-v c = search needs
+
+enum-told : tie.Need-enum-told
+enum-told c = search needs
+
+slice-aggregate-emptiness-passed : tie.Need-slice-aggregate-emptiness-passed
+slice-aggregate-emptiness-passed c = search needs
+
+slice-aggregate-emptiness-passed-2 : tie.Need-slice-aggregate-emptiness-passed-2
+slice-aggregate-emptiness-passed-2 c = search needs
+
+emptiness-passed-requires : tie.Need-emptiness-passed-requires
+emptiness-passed-requires c κs = c .before .before .before .before .before .before .before .before .pass .ensures .passed (c .before .before .before .enum-told .given .1) .book
 
 returns : tie.Need-returns
-returns c = bytes-refused _ asked.emptiness _ (sym (c .before .why .given .1) ∙ c .before .before .before .admit .ensures)
+returns c = handed-refused _ (stopped emptiness _ emptiness-after (sym (c .before .before .before .before .before .before .pass .ensures .verdict) ∙ c .before .v .given .1))
 
 same-length : tie.Need-same-length
 same-length c = search needs
 
 returns-2 : tie.Need-returns-2
-returns-2 c = let a = admitted-is _ (sym (c .before .before .before .before .before .c .given .1) ∙ c .before .before .before .before .before .before .before .admit .ensures) in bytes-answered a asked.emptiness (c .before .before .emptiness-book .ensures a)
+returns-2 c = let x = c .before .before .before .before .before .before .before .before .before .before .before .pass .ensures .passed (c .before .before .before .before .before .before .enum-told .given .1) in handed-as (answered emptiness _ (x .is)) (c .before .before .emptiness-passed .ensures (x .book))
 
 pub emptiness-spec : {M : Type 1} → statement M
 emptiness-spec =
     tie.close
     (tie.spec
-    admit-requires
-    enum-known-why
-    enum-known-c
-    emptiness-book-requires
+    blank-requires
+    blank-requires-2
+    slice-aggregate-pass
+    slice-aggregate-pass-2
+    pass-requires
+    enum-known-v
+    enum-told
+    slice-aggregate-emptiness-passed
+    slice-aggregate-emptiness-passed-2
+    emptiness-passed-requires
     returns
     same-length
     returns-2)

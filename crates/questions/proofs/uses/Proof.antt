@@ -1,45 +1,69 @@
--- `uses` meets its contract. Assumes nothing.
-use mathlib.Core.Path.{_≡_, sym, _∙_}
-use Rattle.listing.specs.Questions as asked
-use Rattle.typing.proofs.Opened.{admitted-is}
-use Rattle.questions.proofs.Asking.{uses-bytes-refused, uses-bytes-answered}
+-- `uses` meets its contract: admission, the check, and the question. Assumes nothing.
+use mathlib.Core.Path.{sym, _∙_}
+use Rattle.questions.proofs.Asking.{stopped, answered, uses-refused, uses-as}
+use Rattle.questions.proofs.passed.uses.Laws.{uses-after}
 use borrow.Author.Needs.{needs}
 use Rattle.questions.proofs.uses.Statement.{statement}
 use Rattle.questions.proofs.uses.Tie as tie
 use Rattle.questions.proofs.uses.Reads as reads
 use Rattle.questions.proofs.uses.Lts as lts
-use Rattle.book.proofs.admit.Reads as admit-reads
-use Rattle.questions.proofs.uses_book.Reads as uses-book-reads
+use Rattle.book.proofs.tables.blank.Reads as blank-reads
+use Rattle.questions.proofs.stages.pass.Reads as pass-reads
+use Rattle.questions.proofs.passed.uses.uses_passed.Reads as uses-passed-reads
 
-admit-requires : tie.Need-admit-requires
-admit-requires c κs = search needs
+blank-requires : tie.Need-blank-requires
+blank-requires c κs = search needs
 
-enum-known-why : tie.Need-enum-known-why
-enum-known-why c = search needs
+blank-requires-2 : tie.Need-blank-requires-2
+blank-requires-2 c κs = search needs
 
-enum-known-c : tie.Need-enum-known-c
-enum-known-c c = search needs
+slice-aggregate-pass : tie.Need-slice-aggregate-pass
+slice-aggregate-pass c = search needs
 
-uses-book-requires : tie.Need-uses-book-requires
-uses-book-requires c κs = admitted-is _ (sym (c .before .before .c .given .1) ∙ c .before .before .before .before .admit .ensures)
+slice-aggregate-pass-2 : tie.Need-slice-aggregate-pass-2
+slice-aggregate-pass-2 c = search needs
+
+pass-requires : tie.Need-pass-requires
+pass-requires c κs = search needs
+
+enum-known-v : tie.Need-enum-known-v
+enum-known-v c = search needs
+
+enum-told : tie.Need-enum-told
+enum-told c = search needs
+
+slice-aggregate-uses-passed : tie.Need-slice-aggregate-uses-passed
+slice-aggregate-uses-passed c = search needs
+
+slice-aggregate-uses-passed-2 : tie.Need-slice-aggregate-uses-passed-2
+slice-aggregate-uses-passed-2 c = search needs
+
+uses-passed-requires : tie.Need-uses-passed-requires
+uses-passed-requires c κs = c .before .before .before .before .before .before .before .before .pass .ensures .passed (c .before .before .before .enum-told .given .1) .book
 
 returns : tie.Need-returns
-returns c = uses-bytes-refused _ (λ b. asked.uses b (c .before .before .before .before .before .before .args .name)) _ (sym (c .before .why .given .1) ∙ c .before .before .before .admit .ensures)
+returns c = uses-refused _ (stopped _ _ (uses-after _) (sym (c .before .before .before .before .before .before .pass .ensures .verdict) ∙ c .before .v .given .1))
 
 same-length : tie.Need-same-length
 same-length c = search needs
 
 returns-2 : tie.Need-returns-2
-returns-2 c = let a = admitted-is _ (sym (c .before .before .before .before .before .c .given .1) ∙ c .before .before .before .before .before .before .before .admit .ensures) in uses-bytes-answered a (λ b. asked.uses b (c .before .before .before .before .before .before .before .before .before .before .args .name)) (c .before .before .uses-book .ensures a)
+returns-2 c = let x = c .before .before .before .before .before .before .before .before .before .before .before .pass .ensures .passed (c .before .before .before .before .before .before .enum-told .given .1) in uses-as (answered _ _ (x .is)) (c .before .before .uses-passed .ensures (x .book))
 
 pub uses-spec : {M : Type 1} → statement M
 uses-spec =
     tie.close
     (tie.spec
-    admit-requires
-    enum-known-why
-    enum-known-c
-    uses-book-requires
+    blank-requires
+    blank-requires-2
+    slice-aggregate-pass
+    slice-aggregate-pass-2
+    pass-requires
+    enum-known-v
+    enum-told
+    slice-aggregate-uses-passed
+    slice-aggregate-uses-passed-2
+    uses-passed-requires
     returns
     same-length
     returns-2)

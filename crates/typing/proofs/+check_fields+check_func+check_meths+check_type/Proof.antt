@@ -1,7 +1,7 @@
 -- The proof of the cycle of calls {check_fields, check_func, check_meths, check_type}. A walk over types weighs two for each node and one
 -- more, a type two for each node: so every call weighs less. Assumes nothing.
-use mathlib.Core.Path.{_≡_, refl, sym, ap, subst, _∙_}
-use mathlib.Core.Bool.{true, false, not}
+use mathlib.Core.Path.{refl, sym, ap, _∙_}
+use mathlib.Core.Bool.{false, not}
 use Prim.Native.Nat.{ℕ, _+_, _-_, _*_, _<_}
 use native.Mathlib.Omega.{arith}
 use borrow.Author.Tests.{not-true, not-false}
@@ -9,12 +9,13 @@ use borrow.Fn.Kinds.{In}
 use borrow.Fn.PlainCycle.{Measures, is, falls, and}
 use Rattle.format.specs.Encode.{Row}
 use Rattle.format.specs.Layout.{rowAt, siblings}
-use Rattle.book.specs.declared.refusal.Refusal as refusal
-use Rattle.book.specs.declared.refusal.Verdict.the-variants.{Passed, Refused}
+use Rattle.refusals.specs.declared.Refusal as refusal
+use Rattle.refusals.specs.declared.Verdict.the-variants.{Refused}
 use Rattle.judgement.specs.Check.{checkForest}
 use Rattle.typing.specs.Walk.{funcVerdict}
 use Rattle.typing.proofs.Nodes.{at-prim, at-var, at-func, at-service, at-class, at-fields}
-use Rattle.typing.proofs.Walk.{ends-inside, one-at-least, kids-trees, this-tree, row-within, row-fits, ended, WalkLeft, walk-start, walk-end, walk-stop, walk-method, walk-on, untested, method-refused, method-label, kids-methods, MethodsLeft, methods-start, methods-on, FuncLeft, func-start, func-end, func-stop, func-on}
+use Rattle.environment.proofs.Trees.{ends-inside, one-at-least, kids-trees, this-tree, row-within, row-fits, ended, method-label, kids-methods}
+use Rattle.typing.proofs.Walk.{WalkLeft, walk-start, walk-end, walk-stop, walk-method, walk-on, untested, method-refused, MethodsLeft, methods-start, methods-on, FuncLeft, func-start, func-end, func-stop, func-on}
 use Rattle.typing.proofs.check_fields.Reads as check-fields
 use Rattle.typing.proofs.check_fields.Kinds as check-fields-kinds
 use Rattle.typing.proofs.+check_fields+check_func+check_meths+check_type.Lts-check_fields as check-fields-lts
@@ -28,7 +29,7 @@ use Rattle.typing.proofs.check_type.Reads as check-type
 use Rattle.typing.proofs.check_type.Kinds as check-type-kinds
 use Rattle.typing.proofs.+check_fields+check_func+check_meths+check_type.Lts-check_type as check-type-lts
 use Rattle.book.proofs.read.Node.at.Reads as at-reads
-use Rattle.book.proofs.refusal.Verdict.passed.Reads as passed-reads
+use Rattle.refusals.proofs.Verdict.passed.Reads as passed-reads
 use Rattle.typing.proofs.check_modes.Reads as check-modes-reads
 use Rattle.typing.proofs.check_var.Reads as check-var-reads
 use Rattle.typing.proofs.method_fits.Reads as method-fits-reads

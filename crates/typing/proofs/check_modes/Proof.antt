@@ -1,6 +1,4 @@
 -- `check_modes` meets its contract. Assumes nothing.
-use mathlib.Core.Path.{_≡_, sym, _∙_}
-use native.Mathlib.Omega.{arith}
 use Rattle.typing.proofs.Modes.{no-mode, many-modes, other-mode, oneway-results, oneway-none}
 use borrow.Author.Needs.{needs}
 use Rattle.typing.proofs.check_modes.Statement.{statement}

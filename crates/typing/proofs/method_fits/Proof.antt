@@ -1,5 +1,4 @@
 -- `method_fits` meets its contract. Assumes nothing.
-use mathlib.Core.Path.{_≡_, sym, _∙_}
 use borrow.Author.Needs.{needs}
 use Rattle.typing.proofs.method_fits.Statement.{statement}
 use Rattle.typing.proofs.method_fits.Tie as tie

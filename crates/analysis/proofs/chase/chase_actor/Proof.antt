@@ -4,34 +4,35 @@ use mathlib.Core.Path.{ap}
 use native.Mathlib.Omega.{arith}
 use Rattle.format.specs.Encode.{Row}
 use borrow.Author.Tests.{not-true, not-false}
-use Rattle.typing.proofs.ActorWalk.{plain-length}
 use Rattle.analysis.proofs.BookNodes.{here-whole, here-within, here-small, kids-readable}
-use Rattle.analysis.proofs.ChasedActor.{ServicesLeft, services-start, services-started, services-on, actor-written, actor-merged, actor-root}
+use Rattle.analysis.proofs.ChasedActor.{ServicesLeft, services-start, services-started, services-on, actor-written, actor-merged, interface-root, interface-arguments, walked-same}
 use Rattle.analysis.proofs.chase.chase_actor.Statement.{statement}
 use Rattle.analysis.proofs.chase.chase_actor.Tie as tie
 use Rattle.analysis.proofs.chase.chase_actor.Lts as lts
 use Rattle.analysis.proofs.chase.chase.Reads as chase-reads
-use Rattle.analysis.proofs.chase.chase_arguments.Reads as chase-arguments-reads
+use Rattle.analysis.proofs.chase.chase_types.Reads as chase-types-reads
 use Rattle.analysis.proofs.chase.chase_written.Reads as chase-written-reads
 use Rattle.book.proofs.read.Node.at.Reads as at-reads
 
 abbrev Inv-loop : tie.InvT-loop
-Inv-loop rows roots actor definitions v₀ services k₀ v k = ServicesLeft rows roots definitions (actor .root) (actor .count) services v k
+Inv-loop rows roots interface definitions v₀ services k₀ v k = ServicesLeft rows roots definitions (interface .root) (interface .count) services v k
 
 abbrev μ-loop : tie.MeasureT-loop
-μ-loop rows roots actor definitions v₀ services k₀ v k = actor .count - k
+μ-loop rows roots interface definitions v₀ services k₀ v k = interface .count - k
 
 chase-written-requires : tie.Need-chase-written-requires Inv-loop μ-loop
-chase-written-requires c κs = (actor-root (c .before .before .before .before .pre .0), c .before .before .before .before .pre .1)
+chase-written-requires c κs = (interface-root (c .before .before .before .before .pre .0), c .before .before .before .before .pre .1)
 
 returns : tie.Need-returns Inv-loop μ-loop
 returns c = actor-written (c .before .before .before .before .before .pre .1) _ (not-true _ (c .before .if1 .taken)) _ (c .chase-written .ensures)
 
-chase-arguments-requires : tie.Need-chase-arguments-requires Inv-loop μ-loop
-chase-arguments-requires c κs = (actor-root (c .before .before .before .before .pre .0), c .before .before .before .before .pre .1)
+chase-types-requires : tie.Need-chase-types-requires Inv-loop μ-loop
+chase-types-requires c κs = (interface-arguments (c .before .before .before .before .pre .0) (not-false _ (c .if1 .left)), c .before .before .before .before .pre .1)
 
 loop-holds : tie.Need-loop-holds Inv-loop μ-loop
-loop-holds c = services-start _ (c .before .chase-arguments .ensures)
+loop-holds c =
+    let s = c .before .before .before .before .before .before .pre in
+    services-start _ (walked-same (s .1) _ (s .0 .arguments (not-false _ (c .before .before .if1 .left)) .are) (c .before .chase-types .ensures))
 
 mul-s : tie.Need-mul-s Inv-loop μ-loop
 mul-s c = omega (arith, c .if2 .taken, c .before .before .before .before .before .before .before .before .before .pre .0 .nodes .few)
@@ -73,8 +74,7 @@ loop-less c = omega (arith, c .before .before .before .if2 .taken)
 loop-again : tie.Need-loop-again Inv-loop μ-loop
 loop-again c =
     let s = c .before .before .before .before .before .before .before .before .before .before .before .before .pre in
-    let long = plain-length (c .before .before .before .before .before .before .before .before .before .before .before .before .args .actor .services) 16 (c .before .before .before .before .before .before .before .before .before .before .before .before .good .1 .1 .0 .1 .1 .1 .1 .1 .0 .1 .0 .1) in
-    services-on (s .1) (c .before .before .before .before .before .loop .inv) (c .before .before .before .if2 .taken) (omega (arith, s .0 .nodes .few, long)) (here-whole (s .0 .rooted) (s .0 .nodes .service _ (c .before .before .before .if2 .taken) .0)) _ (c .before .before .at .ensures) _ (c .chase .ensures)
+    services-on (s .1) (c .before .before .before .before .before .loop .inv) (c .before .before .before .if2 .taken) (omega (arith, s .0 .nodes .few, s .0 .nodes .held)) (here-whole (s .0 .rooted) (s .0 .nodes .service _ (c .before .before .before .if2 .taken) .0)) _ (c .before .before .at .ensures) _ (c .chase .ensures)
 
 returns-2 : tie.Need-returns-2 Inv-loop μ-loop
 returns-2 c = actor-merged (c .before .before .before .before .before .before .before .before .before .pre .1) _ (not-false _ (c .before .before .before .before .before .if1 .left)) (c .before .before .loop .inv) (c .if2 .left)
@@ -87,7 +87,7 @@ chase-actor-spec =
     μ-loop
     chase-written-requires
     returns
-    chase-arguments-requires
+    chase-types-requires
     loop-holds
     mul-s
     array-read-s

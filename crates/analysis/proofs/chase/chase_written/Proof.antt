@@ -35,7 +35,7 @@ chase-types-requires c κs =
 returns-2 : tie.Need-returns-2
 returns-2 c =
     let s = c .before .before .before .before .before .before .pre .0 in
-    walked-same (c .before .before .before .before .before .before .pre .1) _ (written-is (s .rooted) (s .node (c .before .before .before .if1 .left)) _ (c .before .before .at .ensures) (c .before .before .before .if1 .left)) (c .chase-types .ensures)
+    walked-same (c .before .before .before .before .before .before .pre .1) _ (written-is _ _ (c .before .before .at .ensures) (c .before .before .before .if1 .left)) (c .chase-types .ensures)
 
 pub chase-written-spec : {M : Type 1} → statement M
 chase-written-spec =

@@ -1,6 +1,6 @@
 -- `fresh` meets its contract by computation. Assumes nothing.
 use mathlib.Core.Path.{refl}
-use Rattle.environment.specs.Flags.{noFlags}
+use Rattle.book.specs.Tables.{noFlags}
 use Rattle.analysis.specs.Walking.{noList, nothingMet}
 use Rattle.analysis.proofs.chase.fresh.Statement.{statement}
 use Rattle.analysis.proofs.chase.fresh.Tie as tie

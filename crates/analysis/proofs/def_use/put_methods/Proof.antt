@@ -3,13 +3,13 @@ use Prim.Native.Nat.{_-_}
 use mathlib.Core.Path.{ap}
 use native.Mathlib.Omega.{arith}
 use Rattle.format.specs.Encode.{Row}
-use Rattle.analysis.proofs.ChainEnds.{served-whole, served-within, served-small, served-until, served-at, end-whole}
+use Rattle.environment.proofs.ChainEnds.{served-whole, served-within, served-small, served-until, served-at, end-whole}
 use Rattle.analysis.proofs.SitedMethods.{MethodsLeft, methods-start, methods-few, method-within, method-next, methods-on, methods-most, methods-counted, methods-puts}
 use Rattle.analysis.proofs.def_use.put_methods.Statement.{statement}
 use Rattle.analysis.proofs.def_use.put_methods.Tie as tie
 use Rattle.analysis.proofs.def_use.put_methods.Reads as reads
 use Rattle.analysis.proofs.def_use.put_methods.Lts as lts
-use Rattle.analysis.proofs.def_use.end_of.Reads as end-of-reads
+use Rattle.environment.proofs.end_of.Reads as end-of-reads
 use Rattle.analysis.proofs.def_use.put_end.Reads as put-end-reads
 use Rattle.book.proofs.read.Node.at.Reads as at-reads
 

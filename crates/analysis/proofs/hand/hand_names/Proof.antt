@@ -3,7 +3,7 @@ use mathlib.Core.Path.{sym}
 use native.Mathlib.Omega.{arith}
 use lib.Seq.{length-take-le}
 use borrow.Author.Needs.{needs}
-use Rattle.typing.proofs.ActorWalk.{plain-length}
+use Rattle.syntax.proofs.Lists.{plain-length}
 use Rattle.analysis.proofs.hand.hand_names.Statement.{statement}
 use Rattle.analysis.proofs.hand.hand_names.Tie as tie
 

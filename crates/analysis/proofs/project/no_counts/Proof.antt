@@ -1,6 +1,6 @@
 -- `no_counts` meets its contract. Assumes nothing.
 use mathlib.Core.Path.{refl}
-use Rattle.environment.specs.Flags.{noFlags}
+use Rattle.book.specs.Tables.{noFlags}
 use Rattle.analysis.proofs.project.no_counts.Statement.{statement}
 use Rattle.analysis.proofs.project.no_counts.Tie as tie
 

@@ -8,7 +8,7 @@ use Rattle.analysis.proofs.reaching.link.Statement.{statement}
 use Rattle.analysis.proofs.reaching.link.Tie as tie
 use Rattle.analysis.proofs.reaching.link.Reads as reads
 use Rattle.analysis.proofs.reaching.link.Lts as lts
-use Rattle.analysis.proofs.reaching.no_heads.Reads as no-heads-reads
+use Rattle.book.proofs.tables.no_links.Reads as no-links-reads
 use Rattle.analysis.proofs.reaching.no_rows.Reads as no-rows-reads
 use Rattle.book.proofs.read.Node.at.Reads as at-reads
 
@@ -18,14 +18,14 @@ Inv-loop rows nodes head₀ next₀ j₀ head next j = LinksLeft rows nodes head
 abbrev μ-loop : tie.MeasureT-loop
 μ-loop rows nodes head₀ next₀ j₀ head next j = nodes - j
 
-no-heads-requires : tie.Need-no-heads-requires Inv-loop μ-loop
-no-heads-requires c κs = tt
+no-links-requires : tie.Need-no-links-requires Inv-loop μ-loop
+no-links-requires c κs = tt
 
 no-rows-requires : tie.Need-no-rows-requires Inv-loop μ-loop
 no-rows-requires c κs = tt
 
 loop-holds : tie.Need-loop-holds Inv-loop μ-loop
-loop-holds c = links-start _ _ _ _ (c .before .no-heads .ensures) (c .no-rows .ensures)
+loop-holds c = links-start _ _ _ _ (c .before .no-links .ensures) (c .no-rows .ensures)
 
 at-requires : tie.Need-at-requires Inv-loop μ-loop
 at-requires c κs = record { held = omega (arith, c .before .before .before .before .before .pre .known .within .held, c .loop-test .taken); few = c .before .before .before .before .before .pre .known .within .few }
@@ -78,7 +78,7 @@ link-spec =
     (tie.spec
     Inv-loop
     μ-loop
-    no-heads-requires
+    no-links-requires
     no-rows-requires
     loop-holds
     at-requires

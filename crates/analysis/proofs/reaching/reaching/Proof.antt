@@ -11,9 +11,9 @@ use Rattle.analysis.proofs.reaching.reaching.Tie as tie
 use Rattle.analysis.proofs.reaching.reaching.Reads as reads
 use Rattle.analysis.proofs.reaching.reaching.Lts as lts
 use Rattle.analysis.proofs.reaching.link.Reads as link-reads
-use Rattle.analysis.proofs.reaching.no_heads.Reads as no-heads-reads
+use Rattle.book.proofs.tables.no_links.Reads as no-links-reads
 use Rattle.analysis.proofs.reaching.owners.Reads as owners-reads
-use Rattle.environment.proofs.empty.no_flags.Reads as no-flags-reads
+use Rattle.book.proofs.tables.no_flags.Reads as no-flags-reads
 
 abbrev Inv-loop2 : tie.InvT-loop2
 Inv-loop2 entries rows names nodes definitions wanted owner head next flags₀ queue₀ len₀ q m x₀ flags queue len x = NameLeft rows entries owner nodes definitions wanted flags queue len q m x
@@ -36,8 +36,8 @@ link-requires c κs = record { names = _; known = c .before .before .before .pre
 no-flags-requires : tie.Need-no-flags-requires Inv-loop2 μ-loop2 Inv-loop μ-loop
 no-flags-requires c κs = tt
 
-no-heads-requires : tie.Need-no-heads-requires Inv-loop2 μ-loop2 Inv-loop μ-loop
-no-heads-requires c κs = tt
+no-links-requires : tie.Need-no-links-requires Inv-loop2 μ-loop2 Inv-loop μ-loop
+no-links-requires c κs = tt
 
 array-write-flags : tie.Need-array-write-flags Inv-loop2 μ-loop2 Inv-loop μ-loop
 array-write-flags c = c .before .before .before .before .before .before .before .before .pre .1
@@ -49,7 +49,7 @@ array-write-queue : tie.Need-array-write-queue Inv-loop2 μ-loop2 Inv-loop μ-lo
 array-write-queue c = omega arith
 
 loop-holds : tie.Need-loop-holds Inv-loop2 μ-loop2 Inv-loop μ-loop
-loop-holds c = left-start _ _ _ _ _ _ _ _ (c .before .before .before .before .before .before .before .before .pre .1) (c .before .no-flags .ensures) (c .no-heads .ensures)
+loop-holds c = left-start _ _ _ _ _ _ _ _ (c .before .before .before .before .before .before .before .before .pre .1) (c .before .no-flags .ensures) (c .no-links .ensures)
 
 mul-m : tie.Need-mul-m Inv-loop2 μ-loop2 Inv-loop μ-loop
 mul-m c = omega (arith, c .loop-test .taken, work-most (c .before .loop .inv .work))
@@ -162,7 +162,7 @@ reaching-spec =
     owners-requires
     link-requires
     no-flags-requires
-    no-heads-requires
+    no-links-requires
     array-write-flags
     cast-queue
     array-write-queue

@@ -1,8 +1,6 @@
 -- `read::name_at` meets its contract: the name that is left to find is the one sought. Assumes nothing.
-use mathlib.Core.Path.{_≡_, sym, ap, _∙_}
-use Prim.Native.Nat.{_+_, _-_}
+use Prim.Native.Nat.{_-_}
 use native.Mathlib.Omega.{arith}
-use lib.ListN.{getD, take, drop}
 use Rattle.book.proofs.Named.{Sought, sought-start, sought-here, sought-fits, sought-on, sought-found}
 use Rattle.book.proofs.read.name_at.Statement.{statement}
 use Rattle.book.proofs.read.name_at.Tie as tie

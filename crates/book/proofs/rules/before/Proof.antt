@@ -3,7 +3,7 @@ use mathlib.Core.Path.{_≡_, refl, sym, _∙_}
 use native.Mathlib.Omega.{arith}
 use native.Mathlib.Numerals.{add-one}
 use lib.ListN.{length, drop}
-use Prim.Native.Nat.{_≤_, _-_}
+use Prim.Native.Nat.{_-_}
 use Rattle.format.specs.Fits.{before}
 use Rattle.book.proofs.Tests.{before-longer, before-differs, before-on, before-ends}
 use Rattle.book.proofs.rules.before.Statement.{statement}

@@ -1,15 +1,22 @@
 -- `rules::definition` meets its contract: the tests of an entry in the order of the code. Assumes nothing.
-use mathlib.Core.Path.{_≡_, sym, ap}
-use mathlib.Core.List.{List}
 use native.Mathlib.Omega.{arith}
-use Rattle.format.specs.Encode.{Entry}
-use Rattle.book.proofs.Entries.{DefinitionTests, definition-tests, definition-none, definition-init, definition-next, root-fits, root-rest}
+use Rattle.book.proofs.Entries.{definition-tests, definition-none, definition-init, definition-next, root-fits, root-rest}
 use borrow.Author.Needs.{needs}
 use Rattle.book.proofs.rules.definition.Statement.{statement}
 use Rattle.book.proofs.rules.definition.Tie as tie
 use Rattle.book.proofs.rules.definition.Reads as reads
 use Rattle.book.proofs.rules.definition.Lts as lts
 use Rattle.book.proofs.read.Node.at.Reads as at-reads
+
+-- places that are far back
+abbrev entry-after-else4 : tie.Else4 → tie.Start
+entry-after-else4 c = c .before .before .before .before .before .before .before .before .before
+
+abbrev else1-after-else6 : tie.Else6 → tie.Else1
+else1-after-else6 c = c .before .before .before .before .before .before .before .before .before
+
+abbrev else2-after-struct-known6 : tie.After-struct-known6 → tie.Else2
+else2-after-struct-known6 c = c .before .before .before .before .before .before .before .before .before
 
 cast-if1 : tie.Need-cast-if1
 cast-if1 c = search needs
@@ -36,22 +43,22 @@ returns-5 : tie.Need-returns-5
 returns-5 c = λ es fs x. let t = definition-tests _ _ _ _ _ es fs _ x in c .if5 .taken (t .reserved)
 
 returns-6 : tie.Need-returns-6
-returns-6 c = λ es fs x. definition-none _ _ _ _ _ es fs _ _ (c .before .before .before .before .before .before .before .before .before .before .before .before .pre) (c .if6 .taken) x
+returns-6 c = λ es fs x. definition-none _ _ _ _ _ es fs _ _ ((entry-after-else4 (c .before .before .before)) .pre) (c .if6 .taken) x
 
 at-requires : tie.Need-at-requires
 at-requires c κs = search needs
 
 returns-7 : tie.Need-returns-7
-returns-7 c = λ es fs x. definition-init _ _ _ _ _ es fs _ _ (c .before .before .before .before .before .before .before .before .before .before .before .before .before .before .before .pre) (c .before .before .before .if6 .left) _ (c .before .before .at .ensures) (c .if7 .taken) x
+returns-7 c = λ es fs x. definition-init _ _ _ _ _ es fs _ _ ((entry-after-else4 (c .before .before .before .before .before .before)) .pre) (c .before .before .before .if6 .left) _ (c .before .before .at .ensures) (c .if7 .taken) x
 
 add-t9 : tie.Need-add-t9
-add-t9 c = omega (arith, root-fits (c .before .before .before .before .before .before .before .before .before .before .before .before .before .before .before .before .pre) (c .before .before .before .before .if6 .left) _ (c .before .before .before .at .ensures), c .before .before .before .before .before .before .before .before .before .before .before .before .before .before .before .before .fits)
+add-t9 c = omega (arith, root-fits ((entry-after-else4 (c .before .before .before .before .before .before .before)) .pre) (c .before .before .before .before .if6 .left) _ (c .before .before .before .at .ensures), (entry-after-else4 (c .before .before .before .before .before .before .before)) .fits)
 
 returns-8 : tie.Need-returns-8
 returns-8 c = (
-  root-rest (c .before .before .before .before .before .before .before .before .before .before .before .before .before .before .before .before .pre) (c .before .before .before .before .if6 .left) _ (c .before .before .before .at .ensures),
-  λ es fs. definition-next _ _ _ _ _ es fs _ _ (c .before .before .before .before .before .before .before .before .before .before .before .before .before .before .before .before .pre) (c .before .before .before .before .if6 .left) _ (c .before .before .before .at .ensures)
-      (record { name = c .before .before .before .before .before .before .before .before .before .before .before .before .before .if1 .left; owner = c .before .before .before .before .before .before .before .before .before .before .before .if2 .left; rising = c .before .before .before .before .before .before .before .before .before .if3 .left; root = c .before .before .before .before .before .before .before .if4 .left; reserved = c .before .before .before .before .before .if5 .left }) (c .before .if7 .left),
+  root-rest ((entry-after-else4 (c .before .before .before .before .before .before .before)) .pre) (c .before .before .before .before .if6 .left) _ (c .before .before .before .at .ensures),
+  λ es fs. definition-next _ _ _ _ _ es fs _ _ ((entry-after-else4 (c .before .before .before .before .before .before .before)) .pre) (c .before .before .before .before .if6 .left) _ (c .before .before .before .at .ensures)
+      (record { name = (else1-after-else6 (c .before .before .before .before)) .if1 .left; owner = (else2-after-struct-known6 (c .before .before)) .if2 .left; rising = c .before .before .before .before .before .before .before .before .before .if3 .left; root = c .before .before .before .before .before .before .before .if4 .left; reserved = c .before .before .before .before .before .if5 .left }) (c .before .if7 .left),
 )
 
 pub definition-spec : {M : Type 1} → statement M

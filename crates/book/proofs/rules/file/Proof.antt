@@ -1,5 +1,5 @@
 -- `rules::file` meets its contract: the tests of an entry in the order of the code. Assumes nothing.
-use mathlib.Core.Path.{_≡_, sym, ap, subst, _∙_}
+use mathlib.Core.Path.{sym, ap, subst, _∙_}
 use mathlib.Core.Logic.{inl, inr}
 use native.Mathlib.Omega.{arith}
 use borrow.Author.Tests.{not-true, not-false, ne-eqb}

@@ -1,6 +1,6 @@
 -- `rules::files` meets its contract: the entries that are left are judged as all of them. Assumes nothing.
 use Prim.Native.Nat.{_+_, _-_}
-use mathlib.Core.Path.{_≡_, sym, ap, subst, _∙_}
+use mathlib.Core.Path.{subst}
 use native.Mathlib.Omega.{arith}
 use lib.Dec.{eqb}
 use Rattle.book.specs.Reading.{asEntry}

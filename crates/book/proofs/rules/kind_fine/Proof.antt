@@ -1,7 +1,7 @@
 -- `rules::kind_fine` meets its contract: a return for each test of `goodKind`. Assumes nothing.
-use mathlib.Core.Path.{_≡_, refl, sym, ap, _∙_}
+use mathlib.Core.Path.{sym}
 use native.Mathlib.Omega.{arith}
-use borrow.Author.Tests.{lt-ltb, le-ltb, le-leb, lt-leb, eq-eqb, ne-eqb}
+use borrow.Author.Tests.{lt-ltb, le-ltb, le-leb, lt-leb, ne-eqb}
 use Rattle.format.specs.Rules.{goodKind}
 use Rattle.book.proofs.Tests.{value-zero}
 use borrow.Author.Needs.{needs}

@@ -1,5 +1,4 @@
 -- `rules::label_fine` meets its contract: a return for each place and test of `goodLabel`. Assumes nothing.
-use mathlib.Core.Path.{_≡_, refl, sym, ap, _∙_}
 use borrow.Author.Tests.{ne-eqb}
 use Rattle.format.specs.Rules.{goodLabel}
 use borrow.Author.Needs.{needs}

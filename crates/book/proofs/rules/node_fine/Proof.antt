@@ -1,5 +1,5 @@
 -- `rules::node_fine` meets its contract: the three tests of `goodRow` in order. Assumes nothing.
-use mathlib.Core.Path.{_≡_, sym, _∙_}
+use mathlib.Core.Path.{sym, _∙_}
 use borrow.Author.Tests.{not-true, not-false}
 use Rattle.format.specs.Rules.{goodRow}
 use borrow.Author.Needs.{needs}

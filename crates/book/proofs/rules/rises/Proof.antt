@@ -1,6 +1,5 @@
 -- `rules::rises` meets its contract. Assumes nothing.
-use mathlib.Core.Path.{_≡_, sym, _∙_}
-use native.Mathlib.Nat.{pos-of-ne-zero}
+use mathlib.Core.Path.{sym, _∙_}
 use Rattle.format.specs.Layout.{part}
 use Rattle.book.specs.Steps.{risesTo}
 use Rattle.book.proofs.Tests.{rises-after}

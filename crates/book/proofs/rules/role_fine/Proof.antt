@@ -1,5 +1,5 @@
 -- `rules::role_fine` meets its contract: a return for each test of `goodRole`. Assumes nothing.
-use borrow.Author.Tests.{ne-eqb, not-true, not-false}
+use borrow.Author.Tests.{ne-eqb}
 use Rattle.format.specs.Rules.{goodRole}
 use Rattle.book.proofs.rules.role_fine.Statement.{statement}
 use Rattle.book.proofs.rules.role_fine.Tie as tie

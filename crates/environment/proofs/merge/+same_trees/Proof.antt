@@ -1,6 +1,5 @@
 -- The proof of the cycle of calls {same_trees}: its measure is the number of nodes of the first forest. What is left of both forests is the
 -- same just where all of both is. Assumes nothing.
-use mathlib.Core.Path.{_≡_}
 use Prim.Native.Nat.{ℕ, _-_, _<_}
 use native.Mathlib.Omega.{arith}
 use borrow.Author.Tests.{not-true, not-false}

@@ -15,6 +15,10 @@ Inv-loop rows hashes init main names n₀ n = MergeLeft rows hashes init main na
 abbrev μ-loop : tie.MeasureT-loop
 μ-loop rows hashes init main names n₀ n = names - n
 
+-- places that are far back
+abbrev entry-after-same-roots : tie.After-same-roots Inv-loop μ-loop → tie.Start Inv-loop μ-loop
+entry-after-same-roots c = c .before .before .before .before .before .before .before .before .before
+
 loop-holds : tie.Need-loop-holds Inv-loop μ-loop
 loop-holds c = merge-start _ _ _ _ _
 
@@ -34,19 +38,19 @@ same-roots-requires : tie.Need-same-roots-requires Inv-loop μ-loop
 same-roots-requires c κs = roots-at (c .before .before .before .before .before .before .before .before .pre) (c .before .before .before .loop .inv) (c .before .before .loop-test .taken)
 
 cast-t15 : tie.Need-cast-t15 Inv-loop μ-loop
-cast-t15 c = omega (arith, c .before .before .before .before .loop-test .taken, c .before .before .before .before .before .before .before .before .before .before .pre .nodes .fewNames)
+cast-t15 c = omega (arith, c .before .before .before .before .loop-test .taken, (entry-after-same-roots (c .before)) .pre .nodes .fewNames)
 
 returns : tie.Need-returns Inv-loop μ-loop
-returns c = merge-differs (c .before .before .before .before .before .before .before .before .before .before .pre) (c .before .before .before .before .before .loop .inv) (c .before .before .before .before .loop-test .taken) (c .before .same-roots .ensures) (not-true _ (c .if1 .taken))
+returns c = merge-differs ((entry-after-same-roots (c .before)) .pre) (c .before .before .before .before .before .loop .inv) (c .before .before .before .before .loop-test .taken) (c .before .same-roots .ensures) (not-true _ (c .if1 .taken))
 
 add-n : tie.Need-add-n Inv-loop μ-loop
-add-n c = omega (arith, c .before .before .before .before .loop-test .taken, c .before .before .before .before .before .before .before .before .before .before .pre .nodes .fewNames)
+add-n c = omega (arith, c .before .before .before .before .loop-test .taken, (entry-after-same-roots (c .before)) .pre .nodes .fewNames)
 
 loop-less : tie.Need-loop-less Inv-loop μ-loop
 loop-less c = omega (arith, c .before .before .before .before .loop-test .taken)
 
 loop-again : tie.Need-loop-again Inv-loop μ-loop
-loop-again c = merge-on (c .before .before .before .before .before .before .before .before .before .before .pre) (c .before .before .before .before .before .loop .inv) (c .before .before .before .before .loop-test .taken) (c .before .same-roots .ensures) (not-false _ (c .if1 .left))
+loop-again c = merge-on ((entry-after-same-roots (c .before)) .pre) (c .before .before .before .before .before .loop .inv) (c .before .before .before .before .loop-test .taken) (c .before .same-roots .ensures) (not-false _ (c .if1 .left))
 
 returns-2 : tie.Need-returns-2 Inv-loop μ-loop
 returns-2 c = merge-end (c .before .before .before .before .before .before .pre) (c .before .loop .inv) (c .loop-test .left)

@@ -1,27 +1,19 @@
 -- `merge::merged` meets its contract. Assumes nothing.
-use Prim.Native.Nat.{ℕ, _-_}
-use mathlib.Core.Path.{_≡_, sym, subst}
-use mathlib.Core.List.{List}
+use Prim.Native.Nat.{_-_}
 use native.Mathlib.Omega.{arith}
 use Rattle.environment.proofs.Merges.{MergedLeft, merged-start, merged-end, merged-on}
+use borrow.Author.Needs.{needs}
 use Rattle.environment.proofs.merge.merged.Statement.{statement}
 use Rattle.environment.proofs.merge.merged.Tie as tie
-use Rattle.environment.proofs.merge.merged.Reads as reads
-use Rattle.environment.proofs.merge.merged.Lts as lts
-use Rattle.environment.proofs.blank.Reads as blank-reads
-use Rattle.environment.proofs.merge.either_root.Reads as either-root-reads
 
 abbrev Inv-loop : tie.InvT-loop
-Inv-loop init main roots₀ n₀ roots n = MergedLeft init main roots n
+Inv-loop init main both₀ n₀ both n = MergedLeft init main both n
 
 abbrev μ-loop : tie.MeasureT-loop
-μ-loop init main roots₀ n₀ roots n = 1024 - n
-
-blank-requires : tie.Need-blank-requires Inv-loop μ-loop
-blank-requires c κs = tt
+μ-loop init main both₀ n₀ both n = 1024 - n
 
 loop-holds : tie.Need-loop-holds Inv-loop μ-loop
-loop-holds c = subst (λ (l : List ℕ). MergedLeft (c .before .before .before .args .init .now) (c .before .before .before .args .main .now) l 0) (sym (c .blank .ensures)) (merged-start _ _)
+loop-holds c = merged-start _ _ _ (c .before .before .before .pre .2)
 
 mul-either-root : tie.Need-mul-either-root Inv-loop μ-loop
 mul-either-root c = omega (arith, c .loop-test .taken)
@@ -36,13 +28,13 @@ shared-slice-read-either-root-2 : tie.Need-shared-slice-read-either-root-2 Inv-l
 shared-slice-read-either-root-2 c = omega (arith, c .before .before .loop-test .taken, c .before .before .before .before .before .before .before .pre .1)
 
 either-root-requires : tie.Need-either-root-requires Inv-loop μ-loop
-either-root-requires c κs = tt
+either-root-requires c κs = search needs
 
-mul-roots : tie.Need-mul-roots Inv-loop μ-loop
-mul-roots c = omega (arith, c .before .before .before .loop-test .taken)
+mul-both : tie.Need-mul-both Inv-loop μ-loop
+mul-both c = omega (arith, c .before .before .before .loop-test .taken)
 
-array-write-roots : tie.Need-array-write-roots Inv-loop μ-loop
-array-write-roots c = omega (arith, c .before .before .before .loop-test .taken)
+slice-write-both : tie.Need-slice-write-both Inv-loop μ-loop
+slice-write-both c = omega (arith, c .before .before .before .loop-test .taken, c .before .before .before .before .loop .inv .long)
 
 add-n : tie.Need-add-n Inv-loop μ-loop
 add-n c = omega (arith, c .before .before .before .loop-test .taken)
@@ -53,6 +45,9 @@ loop-less c = omega (arith, c .before .before .before .loop-test .taken)
 loop-again : tie.Need-loop-again Inv-loop μ-loop
 loop-again c = merged-on (c .before .before .before .before .before .before .before .before .pre .0) (c .before .before .before .before .before .before .before .before .pre .1) (c .before .before .before .before .loop .inv) (c .before .before .before .loop-test .taken) _ (c .either-root .ensures)
 
+same-length : tie.Need-same-length Inv-loop μ-loop
+same-length c = omega (arith, c .before .loop .inv .long, c .before .before .before .before .before .pre .2)
+
 returns : tie.Need-returns Inv-loop μ-loop
 returns c = merged-end (c .before .before .before .before .before .pre .0) (c .before .before .before .before .before .pre .1) (c .before .loop .inv) (c .loop-test .left)
 
@@ -62,16 +57,16 @@ merged-spec =
     (tie.spec
     Inv-loop
     μ-loop
-    blank-requires
     loop-holds
     mul-either-root
     shared-slice-read-either-root
     mul-either-root-2
     shared-slice-read-either-root-2
     either-root-requires
-    mul-roots
-    array-write-roots
+    mul-both
+    slice-write-both
     add-n
     loop-less
     loop-again
+    same-length
     returns)

@@ -1,7 +1,7 @@
 -- `merge::same_label` meets its contract: a return for each place. Assumes nothing.
-use mathlib.Core.Path.{_≡_, ap₂}
+use mathlib.Core.Path.{ap₂}
 use lib.Dec.{eqb}
-use Rattle.judgement.specs.Environment.{sameLabel}
+use Rattle.format.specs.Labels.{sameLabel}
 use borrow.Author.Needs.{needs}
 use Rattle.environment.proofs.merge.same_label.Statement.{statement}
 use Rattle.environment.proofs.merge.same_label.Tie as tie

@@ -1,5 +1,4 @@
 -- `merge::same_node` meets its contract. Assumes nothing.
-use mathlib.Core.Path.{_≡_}
 use Rattle.environment.proofs.Hashes.{row-label, node-kind, node-value, node-same}
 use Rattle.environment.proofs.merge.same_node.Statement.{statement}
 use Rattle.environment.proofs.merge.same_node.Tie as tie

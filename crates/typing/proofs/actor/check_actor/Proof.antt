@@ -1,30 +1,37 @@
 -- `check_actor` meets its contract. Assumes nothing.
-use Rattle.typing.proofs.ActorWalk.{root-stored, merged-actor, no-actor, written-actor}
+use mathlib.Core.Path.{sym, _∙_}
+use borrow.Author.Tests.{not-true, not-false}
+use Rattle.typing.proofs.actor.Laws.{root-stored, no-actor, walk-stop, no-service, some-service}
 use borrow.Author.Needs.{needs}
 use Rattle.typing.proofs.actor.check_actor.Statement.{statement}
 use Rattle.typing.proofs.actor.check_actor.Tie as tie
-use Rattle.typing.proofs.actor.check_actor.Reads as reads
-use Rattle.typing.proofs.actor.check_actor.Lts as lts
-use Rattle.typing.proofs.actor.check_merged.Reads as check-merged-reads
-use Rattle.typing.proofs.actor.check_written.Reads as check-written-reads
 
 check-merged-requires : tie.Need-check-merged-requires
-check-merged-requires c κs = search needs
+check-merged-requires c κs = let p = c .before .before .before .before .pre in (p .0, p .1, c .if1 .taken)
 
 returns : tie.Need-returns
-returns c = λ ds e s. merged-actor ds _ _ (c .before .if1 .taken) (c .check-merged .ensures ds e)
+returns c = λ ds s e. c .check-merged .ensures ds s (c .before .if1 .taken) e
 
 returns-2 : tie.Need-returns-2
-returns-2 c = λ ds e s. no-actor ds _ _ (c .before .before .if1 .left) (c .if2 .taken)
+returns-2 c = λ ds s e. no-actor s (c .before .before .if1 .left) (c .if2 .taken)
 
-cast-check-written : tie.Need-cast-check-written
-cast-check-written c = search needs
+cast-check-top : tie.Need-cast-check-top
+cast-check-top c = search needs
 
-check-written-requires : tie.Need-check-written-requires
-check-written-requires c κs = root-stored (c .before .before .before .before .before .before .before .pre) (c .before .if2 .left)
+check-top-requires : tie.Need-check-top-requires
+check-top-requires c κs = root-stored (c .before .before .before .before .before .before .before .pre .1) (c .before .if2 .left)
+
+passed-requires : tie.Need-passed-requires
+passed-requires c κs = search needs
 
 returns-3 : tie.Need-returns-3
-returns-3 c = λ ds e s. written-actor ds _ _ (c .before .before .before .before .if1 .left) (c .before .before .if2 .left) (c .check-written .ensures ds e s)
+returns-3 c = λ ds s e. walk-stop s (c .before .before .before .before .before .before .if1 .left) (c .before .before .before .before .if2 .left) (c .before .before .check-top .ensures ds e) (sym (c .before .passed .ensures) ∙ not-true _ (c .if3 .taken))
+
+returns-4 : tie.Need-returns-4
+returns-4 c = λ ds s e. no-service s (c .before .before .before .before .before .before .before .before .if1 .left) (c .before .before .before .before .before .before .if2 .left) (c .before .before .before .before .check-top .ensures ds e) (sym (c .before .before .before .passed .ensures) ∙ not-false _ (c .before .before .if3 .left)) (c .if4 .taken)
+
+returns-5 : tie.Need-returns-5
+returns-5 c = λ ds s e. some-service s (c .before .before .before .before .before .before .before .before .if1 .left) (c .before .before .before .before .before .before .if2 .left) (c .before .before .before .before .check-top .ensures ds e) (sym (c .before .before .before .passed .ensures) ∙ not-false _ (c .before .before .if3 .left)) (c .if4 .left)
 
 pub check-actor-spec : {M : Type 1} → statement M
 check-actor-spec =
@@ -33,6 +40,9 @@ check-actor-spec =
     check-merged-requires
     returns
     returns-2
-    cast-check-written
-    check-written-requires
-    returns-3)
+    cast-check-top
+    check-top-requires
+    passed-requires
+    returns-3
+    returns-4
+    returns-5)

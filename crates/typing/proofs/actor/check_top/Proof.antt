@@ -1,19 +1,14 @@
 -- `check_top` meets its contract. Assumes nothing.
-use mathlib.Core.Path.{_≡_, sym, ap, _∙_}
+use mathlib.Core.Path.{ap, _∙_}
+use mathlib.Core.Bool.{false}
 use native.Mathlib.Omega.{arith}
 use Rattle.format.specs.Encode.{Row}
 use Rattle.judgement.specs.Check.{checkForest}
-use mathlib.Core.Bool.{false}
-use Rattle.typing.proofs.Walk.{opened, kids-trees}
-use Rattle.typing.proofs.ActorWalk.{top-class, top-other, tree-verdict}
+use Rattle.environment.proofs.Trees.{opened, kids-trees}
+use Rattle.typing.proofs.actor.Laws.{top-class, top-other, tree-verdict}
 use borrow.Author.Needs.{needs}
 use Rattle.typing.proofs.actor.check_top.Statement.{statement}
 use Rattle.typing.proofs.actor.check_top.Tie as tie
-use Rattle.typing.proofs.actor.check_top.Reads as reads
-use Rattle.typing.proofs.actor.check_top.Lts as lts
-use Rattle.book.proofs.read.Node.at.Reads as at-reads
-use Rattle.typing.proofs.check_fields.Reads as check-fields-reads
-use Rattle.typing.proofs.check_type.Reads as check-type-reads
 
 at-requires : tie.Need-at-requires
 at-requires c κs = search needs
@@ -22,19 +17,19 @@ add-check-fields : tie.Need-add-check-fields
 add-check-fields c = search needs
 
 add-check-fields-2 : tie.Need-add-check-fields-2
-add-check-fields-2 c = omega (arith, c .before .before .before .before .before .before .before .pre .0 .inside, c .before .before .before .before .before .before .before .pre .0 .walk .nodes .fewNodes, ap (λ (q : Row). q .size) (c .before .before .before .at .ensures))
+add-check-fields-2 c = let p = c .before .before .before .before .before .before .before .pre in omega (arith, p .0 .inside, p .0 .walk .nodes .fewNodes, ap (λ (q : Row). q .size) (c .before .before .before .at .ensures))
 
 check-fields-requires : tie.Need-check-fields-requires
-check-fields-requires c κs = rw (ap (λ (q : Row). q .size) (c .before .before .before .at .ensures)) (kids-trees (c .before .before .before .before .before .before .before .pre .0) (c .before .before .before .before .before .before .before .pre .1))
+check-fields-requires c κs = let p = c .before .before .before .before .before .before .before .pre in rw (ap (λ (q : Row). q .size) (c .before .before .before .at .ensures)) (kids-trees (p .0) (p .1))
 
 returns : tie.Need-returns
-returns c = λ ds e. c .check-fields .ensures ds e ∙ ap (checkForest false false ds) (top-class (opened (c .before .before .before .before .before .before .before .before .pre .0) (c .before .before .before .before .before .before .before .before .pre .1) .here) _ (c .before .before .before .before .at .ensures) (c .before .before .if1 .taken))
+returns c = let p = c .before .before .before .before .before .before .before .before .pre in λ ds e. c .check-fields .ensures ds e ∙ ap (checkForest false false ds) (top-class (opened (p .0) (p .1) .here) _ (c .before .before .before .before .at .ensures) (c .before .before .if1 .taken))
 
 check-type-requires : tie.Need-check-type-requires
 check-type-requires c κs = search needs
 
 returns-2 : tie.Need-returns-2
-returns-2 c = λ ds e. c .check-type .ensures ds e ∙ tree-verdict (c .before .before .before .before .before .before .before .pre .0) (c .before .before .before .before .before .before .before .pre .1) ds ∙ ap (checkForest false false ds) (top-other (opened (c .before .before .before .before .before .before .before .pre .0) (c .before .before .before .before .before .before .before .pre .1) .here) _ (c .before .before .before .at .ensures) (c .before .if1 .left))
+returns-2 c = let p = c .before .before .before .before .before .before .before .pre in λ ds e. c .check-type .ensures ds e ∙ tree-verdict (p .0) (p .1) ds ∙ ap (checkForest false false ds) (top-other (opened (p .0) (p .1) .here) _ (c .before .before .before .at .ensures) (c .before .if1 .left))
 
 pub check-top-spec : {M : Type 1} → statement M
 check-top-spec =

@@ -1,11 +1,10 @@
 -- `merged_count` meets its contract. Assumes nothing.
-use Prim.Native.Nat.{ℕ, _-_, _<_}
-use mathlib.Core.Path.{_≡_, sym, ap, _∙_}
+use Prim.Native.Nat.{_-_}
+use mathlib.Core.Path.{sym, ap, _∙_}
 use mathlib.Core.Logic.{⊎-elim}
 use native.Mathlib.Omega.{arith}
-use lib.ListN.{length, getD}
 use Rattle.format.specs.Encode.{Entry}
-use Rattle.typing.proofs.Inits.{CountLeft, table-read, count-start, count-end, count-more, count-same}
+use Rattle.typing.proofs.init.Laws.{CountLeft, table-read, count-start, count-end, count-more, count-same}
 use Rattle.typing.proofs.init.merged_count.Statement.{statement}
 use Rattle.typing.proofs.init.merged_count.Tie as tie
 use Rattle.typing.proofs.init.merged_count.Reads as reads

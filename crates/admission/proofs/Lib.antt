@@ -1,0 +1,2 @@
+-- Laws that callers of admission cite.
+pub mod Admitting

@@ -1,0 +1,2 @@
+-- What admission answers.
+pub mod Admitting

@@ -1,0 +1,428 @@
+// The questions, and what a book is asked. A new one is a variant with its arms, a place in the tally with its word, and the line that asks it:
+// no other file of the program knows it.
+ghost use mathlib.Core.Path.{_≡_};
+ghost use lib.ListN.{length};
+use book::Reading;
+use book::kinds::Limits;
+use refusals::Answer;
+use refusals::Refusal;
+
+// Which names a book is asked about: all, but of a book with more than MOST_NAMES of which none is listed the first and the last ones alone,
+// since none has uses there; and then the first number outside every table.
+pub struct Asked {}
+
+impl Asked {
+    pub const MOST_NAMES: u16 = 514;
+
+    pub const FIRST_AND_LAST: u16 = 8;
+
+    pub const OUTSIDE: u16 = 1024;
+}
+
+// Those whose answers are lists. Marks are made over names, uses asked of one, projection for names.
+pub enum Question {
+    MainList,
+    Marks,
+    InitList,
+    DraftList,
+    Emptiness,
+    Uses,
+    Projection,
+}
+
+impl Question {
+    // Places in the tally, after the refusals.
+    const LAYOUT: usize = 18;
+
+    const NAME: usize = 19;
+
+    const CHECK: usize = 20;
+
+    const INIT_CHECK: usize = 21;
+
+    const LIST: usize = 22;
+
+    const MARKS: usize = 23;
+
+    const INIT_LIST: usize = 24;
+
+    const DRAFT_LIST: usize = 25;
+
+    const EMPTINESS: usize = 26;
+
+    const USES: usize = 27;
+
+    const PROJECTION: usize = 28;
+
+    pub fn place(self) -> usize {
+        match self {
+            Question::MainList => Question::LIST,
+            Question::Marks => Question::MARKS,
+            Question::InitList => Question::INIT_LIST,
+            Question::DraftList => Question::DRAFT_LIST,
+            Question::Emptiness => Question::EMPTINESS,
+            Question::Uses => Question::USES,
+            Question::Projection => Question::PROJECTION,
+        }
+    }
+
+    // The numbers that an entry takes in the lent list.
+    pub fn width(self) -> usize {
+        match self {
+            Question::Uses => 3,
+            _ => 1,
+        }
+    }
+
+    // The numbers that so many entries take.
+    pub fn numbers(self, entries: usize) -> usize {
+        match self {
+            Question::Uses => 3 * crate::asking::few(entries),
+            _ => entries,
+        }
+    }
+}
+
+pub fn reply(question: Question, book: &[u8], names: &[u16], out: &mut [u16]) -> Answer {
+    match question {
+        Question::MainList => questions::list(book, out),
+        Question::Marks => questions::marks(book, names, out),
+        Question::InitList => questions::init_list(book, out),
+        Question::DraftList => questions::draft_list(book, out),
+        Question::Emptiness => questions::emptiness(book, out),
+        Question::Uses => questions::uses(book, crate::asking::first_of(names), out),
+        Question::Projection => questions::project(book, names, out),
+    }
+}
+
+// A number of an answer, at this place of the list, as what it is: a use is three numbers with points between.
+pub fn print_number(question: Question, place: usize, number: u16, book: &[u8], names: u16) {
+    match question {
+        Question::Uses => crate::asking::print_of_use(place % 3 == 0, number),
+        Question::Projection => crate::lines::counts(b" ", number as usize),
+        _ => crate::lines::name(crate::lines::name_in(book, names, number)),
+    }
+}
+
+// A count for each place of the tally.
+pub fn no_counts() -> [u32; 29]
+    ensures { λ r. ⌜ 29 ≡ length r ⌝ }
+{
+    [0; 29]
+}
+
+// What is counted at a place of the tally.
+pub fn print_counted(place: usize) {
+    match place {
+        Question::LAYOUT => crate::lines::write(b"tally given layout"),
+        Question::NAME => crate::lines::write(b"tally given name"),
+        Question::CHECK => crate::lines::write(b"tally given check"),
+        Question::INIT_CHECK => crate::lines::write(b"tally given init-check"),
+        Question::LIST => crate::lines::write(b"tally given list"),
+        Question::MARKS => crate::lines::write(b"tally given marks"),
+        Question::INIT_LIST => crate::lines::write(b"tally given init"),
+        Question::DRAFT_LIST => crate::lines::write(b"tally given draft"),
+        Question::EMPTINESS => crate::lines::write(b"tally given empty"),
+        Question::USES => crate::lines::write(b"tally given uses"),
+        Question::PROJECTION => crate::lines::write(b"tally given project"),
+        _ => crate::lines::counts(b"tally refused ", place),
+    }
+}
+
+// ---- What a book is asked
+
+// Every question of a book, a line for each. Broken books have no names.
+pub fn replay(source: &[u8], book: &[u8], tally: &mut [u32]) {
+    let names = ask_layout(source, book, tally);
+    ask_name(source, book, names, tally);
+    ask_checks(source, book, names, tally);
+    let listed = ask_list(source, book, names, tally);
+    ask_others(source, book, names, tally);
+    ask_of_names(source, book, names, listed, tally);
+}
+
+// What the layout is. Answers how many names the book has.
+fn ask_layout(source: &[u8], book: &[u8], tally: &mut [u32]) -> u16 {
+    crate::lines::asks(source, b"layout", b"");
+    let Reading::Whole(c) = book::layout(book) else {
+        crate::asking::refuse(Refusal::Broken, book, 0, tally);
+        return 0;
+    };
+    crate::lines::whole(c);
+    crate::tally::count(Question::LAYOUT, tally);
+    let names = c.names;
+    if Limits::NAMES < names {
+        return 0;
+    }
+    names as u16
+}
+
+// Every name by its number, then the number after the last and the highest, which have none.
+fn ask_name(source: &[u8], book: &[u8], names: u16, tally: &mut [u32]) {
+    crate::lines::asks(source, b"name", b"");
+    crate::lines::counts(b"given ", names as usize + 2);
+    let mut number: u16 = 0;
+    while number < names {
+        crate::lines::name(book::name(book, number));
+        number += 1;
+    }
+    crate::lines::name(book::name(book, names));
+    crate::lines::name(book::name(book, u16::MAX));
+    crate::lines::write(b"\n");
+    crate::tally::count(Question::NAME, tally);
+}
+
+fn ask_checks(source: &[u8], book: &[u8], names: u16, tally: &mut [u32]) {
+    crate::lines::asks(source, b"check", b"");
+    crate::asking::judge(questions::check(book), Question::CHECK, book, names, tally);
+    crate::lines::asks(source, b"init-check", b"");
+    crate::asking::judge(
+        questions::init_check(book),
+        Question::INIT_CHECK,
+        book,
+        names,
+        tally,
+    );
+}
+
+// The definition list, and the marks over it, over no names where it is refused. Answers how many are listed.
+fn ask_list(source: &[u8], book: &[u8], names: u16, tally: &mut [u32]) -> usize {
+    let mut out = crate::asking::room();
+    let none = [0u16; 0];
+    let listed = crate::asking::ask_both(
+        source,
+        b"list",
+        Question::MainList,
+        false,
+        book,
+        names,
+        &none,
+        &mut out,
+        tally,
+    );
+    let end = crate::asking::within(listed, &out);
+    ask_marks(source, book, names, &out[..end], tally);
+    listed
+}
+
+// The marks over a list, over it from its end, and over it and then a number that is no name's.
+fn ask_marks(source: &[u8], book: &[u8], names: u16, list: &[u16], tally: &mut [u32]) {
+    crate::asking::ask_again(
+        source,
+        b"marks",
+        Question::Marks,
+        false,
+        book,
+        names,
+        list,
+        tally,
+    );
+    ask_marks_turned(source, book, names, list, tally);
+}
+
+fn ask_marks_turned(source: &[u8], book: &[u8], names: u16, list: &[u16], tally: &mut [u32]) {
+    let mut back = crate::asking::room_for_names();
+    let end = crate::asking::within(crate::asking::put_backwards(list, &mut back), &back);
+    crate::asking::ask(
+        source,
+        b"marks-back",
+        Question::Marks,
+        false,
+        book,
+        names,
+        &back[..end],
+        tally,
+    );
+    let mut more = crate::asking::room_for_names();
+    let next = crate::asking::put_backwards(&back[..end], &mut more);
+    let last = crate::asking::within(
+        crate::asking::put(true, Asked::OUTSIDE, &mut more, next),
+        &more,
+    );
+    crate::asking::ask(
+        source,
+        b"marks-outside",
+        Question::Marks,
+        false,
+        book,
+        names,
+        &more[..last],
+        tally,
+    );
+}
+
+// The other questions that are asked with no names.
+fn ask_others(source: &[u8], book: &[u8], names: u16, tally: &mut [u32]) {
+    let none = [0u16; 0];
+    crate::asking::ask_again(
+        source,
+        b"init",
+        Question::InitList,
+        false,
+        book,
+        names,
+        &none,
+        tally,
+    );
+    crate::asking::ask_again(
+        source,
+        b"draft",
+        Question::DraftList,
+        false,
+        book,
+        names,
+        &none,
+        tally,
+    );
+    crate::asking::ask_again(
+        source,
+        b"empty",
+        Question::Emptiness,
+        false,
+        book,
+        names,
+        &none,
+        tally,
+    );
+}
+
+// The questions about each name and about a number that is no name's; the methods projected for none, for all names that have one, and for
+// all names. A broken book has none and is not asked.
+fn ask_of_names(source: &[u8], book: &[u8], names: u16, listed: usize, tally: &mut [u32]) {
+    if names == 0 {
+        return;
+    }
+    let mut numbers = crate::asking::room_for_names();
+    let end = crate::asking::within(
+        crate::asking::put_asked(names, listed, &mut numbers),
+        &numbers,
+    );
+    let mut taken = crate::asking::room_for_names();
+    let count = ask_of_each(source, book, names, &numbers[..end], &mut taken, tally);
+    ask_outside(source, book, names, tally);
+    let last = crate::asking::within(count, &taken);
+    ask_together(source, book, names, &taken[..last], tally);
+}
+
+fn ask_outside(source: &[u8], book: &[u8], names: u16, tally: &mut [u32]) {
+    let outside = [Asked::OUTSIDE];
+    crate::asking::ask(
+        source,
+        b"uses-outside",
+        Question::Uses,
+        false,
+        book,
+        names,
+        &outside,
+        tally,
+    );
+    crate::asking::ask(
+        source,
+        b"project-outside",
+        Question::Projection,
+        false,
+        book,
+        names,
+        &outside,
+        tally,
+    );
+    crate::asking::ask(
+        source,
+        b"project-none",
+        Question::Projection,
+        false,
+        book,
+        names,
+        &outside[..0],
+        tally,
+    );
+}
+
+// The projection of these names and of all, the last first.
+fn ask_together(source: &[u8], book: &[u8], names: u16, taken: &[u16], tally: &mut [u32]) {
+    let mut back = crate::asking::room_for_names();
+    let last = crate::asking::within(crate::asking::put_backwards(taken, &mut back), &back);
+    crate::asking::ask_again(
+        source,
+        b"project-all",
+        Question::Projection,
+        false,
+        book,
+        names,
+        &back[..last],
+        tally,
+    );
+    let mut every = crate::asking::room_for_names();
+    let end = crate::asking::within(crate::asking::put_asked(names, 1, &mut every), &every);
+    let mut turned = crate::asking::room_for_names();
+    let next = crate::asking::within(
+        crate::asking::put_backwards(&every[..end], &mut turned),
+        &turned,
+    );
+    crate::asking::ask(
+        source,
+        b"project-every",
+        Question::Projection,
+        false,
+        book,
+        names,
+        &turned[..next],
+        tally,
+    );
+}
+
+// The questions about each of these names. Puts those into a list that have a method, and answers how many.
+fn ask_of_each(
+    source: &[u8],
+    book: &[u8],
+    names: u16,
+    numbers: &[u16],
+    taken: &mut [u16],
+    tally: &mut [u32],
+) -> usize {
+    let mut end = 0;
+    let mut i = 0;
+    while i < numbers.len() {
+        let has_method = ask_of(source, book, names, numbers[i], tally);
+        end = crate::asking::put(has_method, numbers[i], taken, end);
+        i += 1;
+    }
+    end
+}
+
+// The questions about a name. Answers whether it has a method.
+fn ask_of(source: &[u8], book: &[u8], names: u16, number: u16, tally: &mut [u32]) -> bool {
+    let once = [number];
+    let twice = [number, number];
+    crate::asking::ask_again(
+        source,
+        b"uses",
+        Question::Uses,
+        true,
+        book,
+        names,
+        &once,
+        tally,
+    );
+    let taken = crate::asking::ask(
+        source,
+        b"project",
+        Question::Projection,
+        true,
+        book,
+        names,
+        &once,
+        tally,
+    );
+    crate::asking::ask(
+        source,
+        b"twice",
+        Question::Projection,
+        true,
+        book,
+        names,
+        &twice,
+        tally,
+    );
+    0 < taken
+}

@@ -1,0 +1,128 @@
+// The pieces of which lines are made, each written at once, so that no buffer limits a line.
+ghost use mathlib.Core.Path.{_≡_};
+ghost use Prim.Native.Nat.{_≤_, _<_};
+ghost use lib.ListN.{length};
+ghost use Rattle.io.specs.Counts.{Counts};
+use book::kinds::Contents;
+use libc::STDOUT_FILENO;
+use refusals::Refusal;
+
+// More bytes than any piece has: a name with each byte as three, and some words.
+fn room_for_piece() -> [u8; 1050]
+    ensures { λ r. ⌜ 1050 ≡ length r ⌝ }
+{
+    [0; 1050]
+}
+
+pub fn write(text: &[u8]) {
+    io::write_all(STDOUT_FILENO, text);
+}
+
+// A place of a buffer; its first one for a place beyond its end.
+pub fn within(end: usize, out: &[u8]) -> usize
+    ensures { λ r. ⌜ Counts r (now (out .entry)) ⌝ }
+{
+    if out.len() < end {
+        return 0;
+    }
+    end
+}
+
+// A buffer up to a place.
+fn write_piece(out: &[u8], last: usize) {
+    let end = within(last, out);
+    write(&out[..end]);
+}
+
+// The beginning of a line. `more` is added to the question's word.
+pub fn asks(source: &[u8], word: &[u8], more: &[u8]) {
+    let mut out = room_for_piece();
+    let mut next = print::bytes(source, &mut out, 0);
+    next = print::byte(b' ', &mut out, next);
+    next = print::bytes(word, &mut out, next);
+    next = print::bytes(more, &mut out, next);
+    next = print::byte(b' ', &mut out, next);
+    write_piece(&out, next);
+}
+
+// What the question is about.
+pub fn about(name: &[u8]) {
+    let mut out = room_for_piece();
+    let mut next = print::quoted(name, &mut out, 0);
+    next = print::byte(b' ', &mut out, next);
+    write_piece(&out, next);
+}
+
+// A word and a number.
+pub fn counts(word: &[u8], count: usize) {
+    let mut out = room_for_piece();
+    let mut next = print::bytes(word, &mut out, 0);
+    next = print::decimal(count as u64, &mut out, next);
+    write_piece(&out, next);
+}
+
+// An entry that is a name.
+pub fn name(name: &[u8]) {
+    let mut out = room_for_piece();
+    let mut next = print::byte(b' ', &mut out, 0);
+    next = print::quoted(name, &mut out, next);
+    write_piece(&out, next);
+}
+
+// The counts of a book that is whole, which end the line.
+pub fn whole(c: Contents) {
+    counts(b"whole ", c.names);
+    counts(b" ", c.nodes);
+    counts(b" ", c.definitions);
+    counts(b" ", c.files);
+    write(b"\n");
+}
+
+// A refusal, which ends the line. `name` is the book's for the refusal's number.
+pub fn refusal(why: Refusal, name: &[u8]) {
+    let mut out = room_for_piece();
+    let end = print::refusal(why, name, &mut out, 0);
+    write_piece(&out, end);
+}
+
+// A byte as a length.
+pub fn wide(b: u8) -> usize
+    ensures { λ r. ⌜ r < 256 ⌝ }
+{
+    b as usize
+}
+
+// The place after the name at a place of the book; the book's end where that comes first.
+fn after(book: &[u8], at: usize) -> usize
+    ensures { λ r. ⌜ r ≤ length (now (book .entry)) ⌝ }
+{
+    if book.len() <= at {
+        return book.len();
+    }
+    let from = at + 1;
+    let size = wide(book[at]);
+    if book.len() - from < size {
+        return book.len();
+    }
+    from + size
+}
+
+// The name of a number in a book that has so many, by a walk over its table; nothing for a number outside. `book::name` reads the whole
+// layout each time.
+pub fn name_in(book: &[u8], names: u16, number: u16) -> &[u8] {
+    if names <= number {
+        return &book[0..0];
+    }
+    let mut at = Contents::SIZE;
+    let mut left = number;
+    while 0 < left {
+        at = after(book, at);
+        left -= 1;
+    }
+    let end = after(book, at);
+    if end <= at {
+        return &book[0..0];
+    }
+    let from = at + 1;
+    &book[from..end]
+}

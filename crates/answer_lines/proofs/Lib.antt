@@ -1,3 +1,0 @@
--- Laws that the proofs of the functions cite.
-mod Pieces
-mod Counts

@@ -1,3 +1,0 @@
--- What the contracts cite.
-pub mod Tally
-pub mod Lines

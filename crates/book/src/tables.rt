@@ -1,0 +1,60 @@
+// Tables by name number, which there are 1,024 of: tables that have nothing, and the label numbers of all names.
+ghost use mathlib.Core.Path.{_≡_};
+ghost use lib.ListN.{length};
+ghost use Rattle.format.specs.Layout.{namesOf};
+ghost use Rattle.book.specs.Tables.{blankTable, zeroTable, noFlags, NamesIn, HashesOf};
+
+// A node number for each of the 1,024 names.
+pub type ByName = [u16; 1024];
+
+// A table that has nothing.
+pub fn blank() -> ByName
+    ensures { λ r. ⌜ r ≡ blankTable ⌝ }
+{
+    [65535u16; 1024]
+}
+
+// A table of links: one more than a place, or 0 for none.
+pub fn no_links() -> ByName
+    ensures { λ r. ⌜ r ≡ zeroTable ⌝ }
+{
+    [0u16; 1024]
+}
+
+// A flag for each of the 1,024 names: 1 where it is set.
+pub type Flags = [u8; 1024];
+
+// No flag is set.
+pub fn no_flags() -> Flags
+    ensures { λ r. ⌜ r ≡ noFlags ⌝ }
+{
+    [0u8; 1024]
+}
+
+// A label number for each of the 1,024 names.
+pub type HashByName = [u32; 1024];
+
+// A table that has 0 for each name.
+pub fn zeros() -> HashByName
+    ensures { λ r. ⌜ r ≡ zeroTable ⌝ }
+{
+    [0u32; 1024]
+}
+
+// The label number of each name, in one pass over their bytes.
+pub fn name_hashes(names: &[u8], count: usize) -> HashByName
+    requires { ⌜ NamesIn (now names) count ⌝ }
+    ensures { λ r. ⌜ HashesOf r (namesOf (length (now (names .entry))) (now (names .entry))) ⌝ }
+{
+    let mut hashes = zeros();
+    let mut at = 0;
+    let mut n = 0;
+    while n < count {
+        let from = at + 1;
+        let until = from + names[at] as usize;
+        hashes[n] = labels::idl_hash(&names[from..until]);
+        at = until;
+        n += 1;
+    }
+    hashes
+}

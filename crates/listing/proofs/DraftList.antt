@@ -1,0 +1,160 @@
+-- The draft list of a book: what it answers, and what it refuses. Assumes that the book fits, as one that was read from bytes does.
+--     draft-says, draft-stops, draft-lost  a draft is listed, or stops at a name without definition
+--     draft-either, draft-actor, ..        all that it answers
+--     draft-in-row, draft-numbers          a refusal lies in its row; the rows that there are
+--     draft-few, draft-most                no more entries than so many
+--     draft-bytes-in-row, ..               all on bytes
+use mathlib.Core.Path.{_≡_, refl, sym, ap, _∙_, subst}
+use mathlib.Core.Logic.{_↔_, _⊎_, inl, inr, ⊎-elim}
+use mathlib.Core.List.{List, [], map, List·Memᴰ, _++_, List·Memᴰ·head, List·Memᴰ·tail}
+use Prim.Native.Nat.{ℕ, _+_, _≤_}
+use lib.ListN.{length}
+use Rattle.format.specs.Forest.{end}
+use Rattle.format.specs.Book.{Definition, Book}
+use Rattle.format.specs.Fits.{maxDefinitions, Fits}
+use Rattle.format.specs.References.{references}
+use Rattle.format.specs.Rules.{noTrees}
+use Rattle.refusals.specs.declared.Refusal.{Refusal}
+use Rattle.refusals.specs.declared.Refusal.the-variants.{Unbound, Twice, NoActor, Short}
+use Rattle.refusals.specs.declared.Verdict.{Verdict}
+use Rattle.refusals.specs.declared.Verdict.the-variants.{Passed, Refused}
+use Rattle.refusals.specs.Verdict.{andThen}
+use Rattle.judgement.specs.Actor.{mainActor}
+use Rattle.judgement.specs.Check.{onceVerdict}
+use Rattle.format.specs.Distinct.{Distinct}
+use Rattle.judgement.specs.WellFormed.{definedName}
+use Rattle.judgement.specs.Rows.{Repeated}
+use Rattle.refusals.proofs.Verdicts.{both-pass, pass-both, which-refused}
+use Rattle.judgement.proofs.Decs.{once-says, once-refused}
+use Rattle.listing.specs.Chase.{Walk, going, unbound, chaseTypes, walked}
+use Rattle.refusals.specs.Outcome.{refused, given, after, fit}
+use Rattle.listing.specs.Room.{needsActor, EachOnce, ShortRow}
+use Rattle.listing.specs.DraftList.{draftDefinitions, draftList, DraftRow, draftRows, noActor, twice, short}
+use Rattle.listing.proofs.Leaves.{LeafyBodies, main-leafy, kept-leafy}
+use Rattle.listing.proofs.Chases.{Listed}
+use Rattle.listing.specs.References.{Lost, Misses, Reachable}
+use Rattle.listing.proofs.Chase.{walk-lost, lost-says, Answered, going-answered, kept-few, listed-once, walked-listed, walked-missed, walked-refused, answered-few}
+use Rattle.format.proofs.Admission.{asked-row, row-numbers}
+use Rattle.refusals.specs.Refusal.{numberOf}
+use Rattle.format.specs.Admission.{onBytes, admissionRows, InRow, Source}
+use Rattle.refusals.proofs.Outcomes.{given-refused, after-given, after-passed, after-refused, same-refusal}
+use Rattle.listing.proofs.Room.{passed-actor, actor-passed, actor-refused, fit-row, Most, fit-most, bytes-most}
+use Rattle.listing.specs.DraftList as rows
+
+module _ (b : Book) (fits : Fits b) where
+  abbrev draft : List Definition
+  draft = draftDefinitions b
+
+  pub draft-bodies : LeafyBodies (draftDefinitions b)
+  unfolding draftDefinitions
+  draft-bodies = kept-leafy b fits _
+
+  draft-definitions : length (draftDefinitions b) ≤ maxDefinitions
+  unfolding draftDefinitions
+  draft-definitions = kept-few b fits _
+
+  pub draft-actor : mainActor b ≡ end → draftList b ≡ refused NoActor
+  unfolding draftList needsActor noTrees after
+  draft-actor e = rw e
+
+  pub draft-twice : (mainActor b ≡ end → ⊥) → (Distinct (map definedName draft) → ⊥) → (n : ℕ) × (draftList b ≡ refused (Twice n)) × Repeated n (map definedName draft)
+  unfolding draftList after
+  draft-twice some again = go (onceVerdict [] draft) refl
+    where
+      go : (v : Verdict) → onceVerdict [] draft ≡ v → (n : ℕ) × (draftList b ≡ refused (Twice n)) × Repeated n (map definedName draft)
+      go Passed e = absurd (again (once-says draft .0 e))
+      go (Refused r) e = let x = once-refused draft e in (x .0, rw (actor-passed (mainActor b) some, e) (ap refused (x .1)), x .2)
+
+  module _ (some : mainActor b ≡ end → ⊥) (once : Distinct (map definedName draft)) where
+    draft-walk : draftList b ≡ walked (chaseTypes draft (mainActor b))
+    unfolding draftList
+    draft-walk = after-passed (andThen (needsActor (mainActor b)) (onceVerdict [] draft)) _
+        (pass-both (needsActor (mainActor b)) (onceVerdict [] draft) (actor-passed (mainActor b) some) (once-says draft .1 once))
+
+    pub draft-says : (l : List ℕ) → (draftList b ≡ given l) ↔ ((seen : List ℕ) × Listed draft (mainActor b) seen l)
+    draft-says l = rw draft-walk (walked-listed draft once draft-bodies (mainActor b) (main-leafy b fits) l)
+
+    -- It stops at the first name without definition that is met.
+    pub draft-stops : (n : ℕ) → (draftList b ≡ refused (Unbound n)) ↔ Misses draft (references (mainActor b)) [] [] n
+    draft-stops n = rw draft-walk (walked-missed draft once draft-bodies (mainActor b) (main-leafy b fits) n)
+
+    pub draft-lost : ((n : ℕ) × (draftList b ≡ refused (Unbound n))) ↔ ((n : ℕ) × Lost draft (mainActor b) n)
+    unfolding walked
+    draft-lost =
+        let s = lost-says draft once draft-bodies (mainActor b) (main-leafy b fits) in (
+          λ p. s .0 (p .0, walked-refused (chaseTypes draft (mainActor b)) (sym draft-walk ∙ p .1)),
+          λ p. let q = s .1 p in (q .0, draft-walk ∙ ap walked (q .1)),
+        )
+
+    pub draft-either : ((n : ℕ) × (draftList b ≡ refused (Unbound n)) × Lost draft (mainActor b) n) ⊎ Answered draft (mainActor b) (draftList b)
+    unfolding walked
+    draft-either = rw draft-walk (go (chaseTypes draft (mainActor b)) refl)
+      where
+        go : (w : Walk) → chaseTypes draft (mainActor b) ≡ w →
+            ((n : ℕ) × (walked (chaseTypes draft (mainActor b)) ≡ refused (Unbound n)) × Lost draft (mainActor b) n) ⊎ Answered draft (mainActor b) (walked (chaseTypes draft (mainActor b)))
+        go (going s o) e = inr (going-answered draft once draft-bodies (mainActor b) (main-leafy b fits) draft-definitions e)
+        go (unbound n) e = inl (n, ap walked e, walk-lost draft once draft-bodies (mainActor b) (main-leafy b fits) e)
+
+  -- ---- What is refused
+  abbrev draft-verdict : Verdict
+  draft-verdict = andThen (needsActor (mainActor b)) (onceVerdict [] draft)
+
+  draft-begun : draft-verdict ≡ Passed → (mainActor b ≡ end → ⊥) × Distinct (map definedName draft)
+  draft-begun e =
+      let p = both-pass (needsActor (mainActor b)) (onceVerdict [] draft) e in
+      (passed-actor (mainActor b) (p .0), once-says draft .0 (p .1))
+
+  pub draft-in-row : (places : ℕ) {r : Refusal} → fit places (draftList b) ≡ refused r → DraftRow b places r
+  unfolding draftList
+  draft-in-row places = fit-row places (draftList b) _ (DraftRow b places) own result (λ k x. short x)
+    where
+      own : (r : Refusal) → draftList b ≡ refused r → DraftRow b places r
+      own r e =
+          elim (after-refused draft-verdict _ e) [
+            | inl h ↦ elim (which-refused (needsActor (mainActor b)) (onceVerdict [] draft) h) [
+              | inl k ↦ let x = actor-refused (mainActor b) k in subst (DraftRow b places) (x .1) (noActor (x .0))
+              | inr k ↦ let x = once-refused draft (k .1) in subst (DraftRow b places) (sym (x .1)) (twice (x .2))
+            ]
+            | inr h ↦
+                let p = draft-begun (h .0) in
+                elim (draft-either (p .0) (p .1)) [
+                  | inl x ↦ subst (DraftRow b places) (same-refusal (sym (x .1) ∙ e)) (rows.unbound (x .2))
+                  | inr x ↦ given-refused (sym e ∙ x .answer)
+                ]
+          ]
+
+      result : (l : List ℕ) → draftList b ≡ given l → EachOnce (Reachable draft (mainActor b)) l
+      result l e =
+          let p = draft-begun (after-given draft-verdict _ e .0) in
+          listed-once (draft-says (p .0) (p .1) l .0 e .1)
+
+-- The rows that there are.
+pub draft-numbers : {b : Book} {places : ℕ} {r : Refusal} → DraftRow b places r → List·Memᴰ (numberOf r) draftRows
+draft-numbers (noActor x) = List·Memᴰ·tail (List·Memᴰ·tail (List·Memᴰ·tail (List·Memᴰ·head refl)))
+draft-numbers (twice x) = List·Memᴰ·head refl
+draft-numbers (rows.unbound x) = List·Memᴰ·tail (List·Memᴰ·head refl)
+draft-numbers (short x) = List·Memᴰ·tail (List·Memᴰ·tail (List·Memᴰ·head refl))
+
+-- ---- How many entries there are at most
+pub draft-few : (b : Book) → Fits b → (l : List ℕ) → draftList b ≡ given l → length l ≤ 512
+unfolding draftList
+draft-few b fits l e =
+    let p = draft-begun b fits (after-given (draft-verdict b fits) _ e .0) in
+    ⊎-elim (λ x. given-refused (sym (x .1) ∙ e)) (λ a. answered-few a e) (draft-either b fits (p .0) (p .1))
+
+draft-short : (b : Book) {places k : ℕ} → DraftRow b places (Short k) → ShortRow places (draftList b) (EachOnce (Reachable (draftDefinitions b) (mainActor b))) k
+draft-short b (short x) = x
+
+pub draft-most : (b : Book) → Fits b → (places : ℕ) → Most 512 (fit places (draftList b))
+draft-most b fits places = fit-most 512 places (draftList b) (draft-few b fits) (λ k e. draft-short b (draft-in-row b fits places e))
+
+-- ---- On bytes
+module _ (bs : Source) (places : ℕ) {r : Refusal} (e : fit places (onBytes draftList bs) ≡ refused r) where
+  pub draft-bytes-in-row : InRow bs (λ b. DraftRow b places) r
+  draft-bytes-in-row = asked-row bs places draftList (λ b. DraftRow b places) (λ b fits. draft-in-row b fits places) e
+
+  pub draft-bytes-numbers : List·Memᴰ (numberOf r) (admissionRows ++ draftRows)
+  draft-bytes-numbers = row-numbers bs (λ b. DraftRow b places) draftRows r (λ b. draft-numbers) draft-bytes-in-row
+
+pub draft-bytes-most : (bs : Source) (places : ℕ) → Most 512 (fit places (onBytes draftList bs))
+draft-bytes-most bs places = bytes-most 512 places draftList (λ b fits. draft-most b fits places) bs

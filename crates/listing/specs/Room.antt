@@ -1,0 +1,39 @@
+-- What the questions' rooms share: 17, 16, and a result of names. Definitions; assumes nothing.
+use mathlib.Core.Path.{_≡_}
+use mathlib.Core.Logic.{_↔_}
+use mathlib.Core.Bool.{true, false, cond}
+use mathlib.Core.List.{List, List·Memᴰ}
+use Prim.Native.Nat.{ℕ, _<_}
+use lib.ListN.{length}
+use Rattle.refusals.specs.declared.Refusal.the-variants.{NoActor}
+use Rattle.refusals.specs.declared.Verdict.{Verdict}
+use Rattle.refusals.specs.declared.Verdict.the-variants.{Passed}
+use Rattle.refusals.specs.Verdict.{unless}
+use Rattle.refusals.specs.Outcome.{Outcome, given}
+use Rattle.format.specs.Forest.{Forest, end}
+use Rattle.format.specs.Node.{Node}
+use Rattle.format.specs.Book.{Book}
+use Rattle.format.specs.Distinct.{Distinct}
+use Rattle.format.specs.Rules.{noTrees}
+use Rattle.judgement.specs.Actor.{resolveActor}
+use Rattle.judgement.specs.Check.{check}
+
+-- 17: the question needs an actor.
+unfoldable pub needsActor : Forest Node → Verdict
+needsActor t = unless (cond (noTrees t) false true) NoActor
+
+-- Its row: the book passes, and has no actor.
+abbrev pub NoActorRow : Book → Type 0
+NoActorRow b = (check b ≡ Passed) × (resolveActor b ≡ end)
+
+-- 16: the places are fewer than the entries needed, and so many has the list that is given, which is the result asked for.
+pub record ShortRow {A : Type 0} (places : ℕ) (answer : Outcome (List A)) (Result : List A → Type 0) (k : ℕ) : Type 0 where
+  pub entries : List A
+  pub is-given : answer ≡ given entries
+  pub is-result : Result entries
+  pub needed : length entries ≡ k
+  pub short : places < k
+
+-- A result of names: each of which P holds, once, and no other.
+abbrev pub EachOnce : (ℕ → Type 0) → List ℕ → Type 0
+EachOnce P l = Distinct l × ((n : ℕ) → List·Memᴰ n l ↔ P n)

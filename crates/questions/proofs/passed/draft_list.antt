@@ -1,0 +1,2 @@
+-- Laws of the draft list.
+pub mod Laws

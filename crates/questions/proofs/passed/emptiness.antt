@@ -1,0 +1,2 @@
+-- Laws of emptiness.
+pub mod Laws

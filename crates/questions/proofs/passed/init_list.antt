@@ -1,0 +1,2 @@
+-- Laws of the init list.
+pub mod Laws

@@ -1,0 +1,2 @@
+-- Laws of the projection.
+pub mod Laws

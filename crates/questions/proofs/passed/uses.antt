@@ -1,0 +1,3 @@
+-- Laws of the uses.
+pub mod Sites
+pub mod Laws

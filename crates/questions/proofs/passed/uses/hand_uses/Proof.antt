@@ -1,0 +1,41 @@
+-- `hand_uses` meets its contract: counting changes nothing, so a refusal leaves the list as it was. Assumes nothing.
+use Rattle.questions.proofs.passed.uses.Laws.{hands-short, hands-given}
+use borrow.Author.Needs.{needs}
+use Rattle.questions.proofs.passed.uses.hand_uses.Statement.{statement}
+use Rattle.questions.proofs.passed.uses.hand_uses.Tie as tie
+use Rattle.questions.proofs.passed.uses.hand_uses.Reads as reads
+use Rattle.questions.proofs.passed.uses.hand_uses.Lts as lts
+use Rattle.analysis.proofs.def_use.put_uses.Reads as put-uses-reads
+
+put-uses-requires : tie.Need-put-uses-requires
+put-uses-requires c κs = search needs
+
+cast-t14 : tie.Need-cast-t14
+cast-t14 c = search needs
+
+same-length : tie.Need-same-length
+same-length c = search needs
+
+returns : tie.Need-returns
+returns c = λ x. record { handed = λ ds used k o e. hands-short (c .before .before .before .put-uses .ensures .1 x ds used k) o e (c .if1 .taken) }
+
+put-uses-requires-2 : tie.Need-put-uses-requires-2
+put-uses-requires-2 c κs = search needs
+
+same-length-2 : tie.Need-same-length-2
+same-length-2 c = search needs
+
+returns-2 : tie.Need-returns-2
+returns-2 c = λ x. record { handed = λ ds used k o e. hands-given (c .before .before .before .before .before .before .before .put-uses .ensures .1 x ds used k) o e (c .before .before .before .before .if1 .left) (c .before .before .put-uses2 .ensures .1 x ds used k) }
+
+pub hand-uses-spec : {M : Type 1} → statement M
+hand-uses-spec =
+    tie.close
+    (tie.spec
+    put-uses-requires
+    cast-t14
+    same-length
+    returns
+    put-uses-requires-2
+    same-length-2
+    returns-2)

@@ -1,0 +1,58 @@
+-- `pass` meets its contract. Assumes nothing.
+use mathlib.Core.Path.{sym, _∙_}
+use Rattle.admission.proofs.Admitting.{admission-gives}
+use Rattle.questions.proofs.Asking.{pass-refused, pass-goes}
+use borrow.Author.Needs.{needs}
+use Rattle.questions.proofs.stages.pass.Statement.{statement}
+use Rattle.questions.proofs.stages.pass.Tie as tie
+use Rattle.questions.proofs.stages.pass.Reads as reads
+use Rattle.questions.proofs.stages.pass.Lts as lts
+use Rattle.admission.proofs.admit.Reads as admit-reads
+use Rattle.questions.proofs.stages.no_contents.Reads as no-contents-reads
+use Rattle.typing.proofs.prog.check_prog.Reads as check-prog-reads
+use Rattle.typing.proofs.prog.nothing.Reads as nothing-reads
+
+admit-requires : tie.Need-admit-requires
+admit-requires c κs = search needs
+
+enum-known-why : tie.Need-enum-known-why
+enum-known-why c = search needs
+
+no-contents-requires : tie.Need-no-contents-requires
+no-contents-requires c κs = search needs
+
+nothing-requires : tie.Need-nothing-requires
+nothing-requires c κs = search needs
+
+enum-known-c : tie.Need-enum-known-c
+enum-known-c c = search needs
+
+check-prog-requires : tie.Need-check-prog-requires
+check-prog-requires c κs = (admission-gives _ (sym (c .before .before .before .c .given .1) ∙ c .before .before .before .before .before .admit .ensures) .read, c .before .before .before .before .before .before .before .before .before .pre .0, c .before .before .before .before .before .before .before .before .before .pre .1)
+
+returns : tie.Need-returns
+returns c = pass-refused _ _ _ (sym (c .before .before .before .why .given .1) ∙ c .before .before .before .before .before .admit .ensures) (c .nothing .ensures)
+
+same-length : tie.Need-same-length
+same-length c = search needs
+
+same-length-2 : tie.Need-same-length-2
+same-length-2 c = search needs
+
+returns-2 : tie.Need-returns-2
+returns-2 c = pass-goes _ _ _ (sym (c .before .before .before .before .before .before .before .before .c .given .1) ∙ c .before .before .before .before .before .before .before .before .before .before .admit .ensures) (c .before .before .before .before .check-prog .ensures)
+
+pub pass-spec : {M : Type 1} → statement M
+pass-spec =
+    tie.close
+    (tie.spec
+    admit-requires
+    enum-known-why
+    no-contents-requires
+    nothing-requires
+    enum-known-c
+    check-prog-requires
+    returns
+    same-length
+    same-length-2
+    returns-2)

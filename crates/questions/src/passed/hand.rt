@@ -1,0 +1,22 @@
+// What a walk has listed, handed over.
+ghost use mathlib.Core.Path.{_≡_};
+ghost use mathlib.Core.Bool.{false};
+ghost use mathlib.Core.List.{List};
+ghost use Prim.Native.Nat.{ℕ, _≤_};
+ghost use Rattle.refusals.specs.Outcome.{Outcome};
+ghost use Rattle.refusals.specs.Handed.{HandedAs};
+ghost use Rattle.questions.specs.Answers.{WalkSays};
+use analysis::chase::Walk;
+use refusals::Answer;
+use refusals::Refusal;
+
+pub fn hand_walk(w: Walk, out: &mut [u16]) -> Answer
+    requires { ⌜ (w .stopped ≡ false → w .len ≤ 512) ⌝ }
+    ensures { λ r. ⌜ ((o : Outcome (List ℕ)) → WalkSays o w → HandedAs o (now (out .entry)) (now (out .exit)) r) ⌝ }
+{
+    if w.stopped {
+        return Answer::Refused(Refusal::Unbound(w.bad));
+    }
+    let list = w.list;
+    refusals::hand(&list[..w.len], out)
+}

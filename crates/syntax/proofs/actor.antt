@@ -1,0 +1,4 @@
+-- Laws of the resolved actor.
+pub mod OneService
+pub mod AsWritten
+pub mod Merging

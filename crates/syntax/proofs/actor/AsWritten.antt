@@ -1,0 +1,139 @@
+-- An actor as written: the service at the end of the chain from what stands below its top. Assumes nothing.
+use mathlib.Core.Path.{_≡_, refl, sym, ap, subst, _∙_}
+use mathlib.Core.Bool.{Bool, true, false, cond, false≢true}
+use mathlib.Core.List.{List}
+use Prim.Native.Nat.{ℕ, zero, suc, _+_, _≤_, _<_}
+use native.Mathlib.Decide.{ℕ-discrete}
+use native.Mathlib.Omega.{arith}
+use borrow.Author.Tests.{ne-eqb}
+use lib.Dec.{eqb}
+use lib.ListN.{getD, take, replicate, length-replicate}
+use Rattle.format.specs.Forest.{Forest, end}
+use Rattle.format.specs.Node.{Node}
+use Rattle.format.specs.Book.{Definition}
+use Rattle.format.specs.Layout.{rowAt, nodeOf}
+use Rattle.format.specs.Whole.{Within, WholeAt, treeAt, actorAt}
+use Rattle.format.proofs.Rows.{node-within}
+use Rattle.format.proofs.Trees.{beside-end}
+use Rattle.format.proofs.Stored.{tree-opens, actor-none, actor-some}
+use Rattle.judgement.specs.Environment.{head, End, unbound, circle, ends, aliasEnd, isServKind, rootPasses, asService, kidsOf, methodsAt}
+use Rattle.judgement.specs.Actor.{isClass, belowClass}
+use Rattle.environment.specs.Tables.{EndNodes, EndAt, Chains, Ended, endNode}
+use Rattle.environment.specs.Trees.{AllTrees}
+use Rattle.environment.proofs.AsFunc.{stays}
+use Rattle.environment.proofs.ChainEnds.{end-at, end-inside, end-whole}
+use Rattle.syntax.specs.declared.class.Top.{Top}
+use Rattle.syntax.specs.declared.interface.Interface.{Interface}
+use Rattle.syntax.specs.Classes.{TopAs}
+use Rattle.syntax.specs.Interfaces.{IsService, methodsIn, interfaceTree, noInterface, ActorAs}
+use Rattle.syntax.specs.Resolving.{serviceCount}
+use Rattle.syntax.proofs.Lists.{no-long}
+use Rattle.syntax.proofs.class.Laws.{none-arguments}
+use Rattle.syntax.proofs.Stored.{serv-kind}
+
+-- ---- No actor
+none-serves : (ds : List Definition) (t : Forest Node) → t ≡ end → asService ds (belowClass t) ≡ false
+unfolding asService rootPasses belowClass isClass head
+none-serves ds t e = rw e (ap (rootPasses isServKind) (stays ds end refl))
+
+pub written-none : {ns : List ℕ} {names count root : ℕ} → AllTrees ns names count → root ≡ 65535 → {r : Interface} → r ≡ noInterface → (ds : List Definition) →
+    ActorAs ns count ds (actorAt ns root) r
+unfolding interfaceTree
+written-none {ns} {root = root} a e i ds =
+    let none = actor-none ns root e in
+    rw i
+    (record {
+      tree = actor-none ns 65535 refl ∙ sym none;
+      nodes = record { few = omega arith; held = no-long; root = λ h. absurd (h refl); service = λ k h. absurd (let z : ⊥ = omega arith in z) };
+      arguments = none-arguments a e;
+      methods = λ s. absurd (false≢true (sym (none-serves ds _ none) ∙ s));
+      served = λ m h. absurd (h refl);
+    })
+
+-- ---- The type at which a chain ends
+record Served (ns : List ℕ) (count : ℕ) (ds : List Definition) (below e n : ℕ) : Type 0 where
+  counted : n ≡ cond (asService ds (treeAt ns below)) 1 0
+  service : n ≡ 1 → IsService ns count e
+  methods : asService ds (treeAt ns below) ≡ true → methodsIn ns (take n (replicate 16 e)) ≡ methodsAt (aliasEnd ds (treeAt ns below))
+
+root-service : {ns : List ℕ} {e : ℕ} → WholeAt ns e → rootPasses isServKind (ends (treeAt ns e)) ≡ eqb (rowAt ns e .kind) 24
+unfolding rootPasses nodeOf
+root-service {ns} {e} w = rw (tree-opens w) (serv-kind (rowAt ns e .kind) (rowAt ns e .value))
+
+module _ {ns ends′ : List ℕ} {below : ℕ} (s : Ended ns ends′ below) {e n : ℕ} (is : e ≡ endNode ns ends′ below) (z : n ≡ serviceCount ns e) (ds : List Definition) where
+  by-end : (f : End) → aliasEnd ds (treeAt ns below) ≡ f → EndAt ns e f → Served ns (s .count) ds below e n
+  unfolding asService rootPasses serviceCount methodsAt methodsIn
+  by-end (unbound m) q x =
+      let none : n ≡ 0 = z ∙ rw x in
+      let no : asService ds (treeAt ns below) ≡ false = ap (rootPasses isServKind) q in
+      record {
+        counted = none ∙ rw no;
+        service = λ o. absurd (let f : ⊥ = omega (arith, none, o) in f);
+        methods = λ t. absurd (false≢true (sym no ∙ t));
+      }
+  by-end circle q x = absurd x
+  by-end (ends t) q x = go (ℕ-discrete (rowAt ns e .kind) 24)
+    where
+      at : aliasEnd ds (treeAt ns below) ≡ ends (treeAt ns e)
+      at = q ∙ ap ends (x .1)
+
+      says : asService ds (treeAt ns below) ≡ eqb (rowAt ns e .kind) 24
+      says = ap (rootPasses isServKind) at ∙ root-service (end-whole s is (x .0))
+
+      some : n ≡ cond (eqb (rowAt ns e .kind) 24) 1 0
+      some = z ∙ rw (ne-eqb e 65535 (x .0))
+
+      go : Dec (rowAt ns e .kind ≡ 24) → Served ns (s .count) ds below e n
+      go (yes k) =
+          let one : n ≡ 1 = some ∙ rw k in
+          record {
+            counted = some ∙ rw says;
+            service = λ o. (end-inside s is (x .0), k);
+            methods = λ t. rw one (beside-end (kidsOf (treeAt ns e)) ∙ ap methodsAt (sym at));
+          }
+      go (no k) =
+          let no : eqb (rowAt ns e .kind) 24 ≡ false = ne-eqb (rowAt ns e .kind) 24 k in
+          let none : n ≡ 0 = some ∙ rw no in
+          record {
+            counted = some ∙ rw says;
+            service = λ o. absurd (let f : ⊥ = omega (arith, none, o) in f);
+            methods = λ t. absurd (false≢true (sym no ∙ sym says ∙ t));
+          }
+
+  served : Chains ns ends′ (s .names) ds → Served ns (s .count) ds below e n
+  served c = by-end (aliasEnd ds (treeAt ns below)) refl (subst (λ (k : ℕ). EndAt ns k (aliasEnd ds (treeAt ns below))) (sym is) (end-at s ds c))
+
+-- ---- An actor
+module _ {ns ends′ : List ℕ} {names count root : ℕ} (a : AllTrees ns names count) (z : EndNodes ends′ count) {top : Top} (t : TopAs ns count root top)
+    (some : root ≡ 65535 → ⊥) (h : root < count) where
+  pub below-ended : Ended ns ends′ (top .below)
+  below-ended =
+      let b = t .below some in
+      record { names = names; count = count; nodes = a .nodes; table = z; inside = omega (arith, b .inside, a .nodes .tree root h .ends) }
+
+  module _ {e : ℕ} (is : e ≡ endNode ns ends′ (top .below)) where
+    pub end-within : (e ≡ 65535 → ⊥) → Within ns (e + 1)
+    end-within n = node-within (end-whole below-ended is n)
+
+    pub written-as : {n : ℕ} → n ≡ serviceCount ns e → (ds : List Definition) → Chains ns ends′ names ds →
+        ActorAs ns count ds (actorAt ns root) (record { merged = false; root = root; from = top .from; until = top .until; count = n; services = replicate 16 e })
+    unfolding interfaceTree below-ended
+    written-as {n} q ds c =
+        let s = served below-ended is q ds c in
+        let same : treeAt ns (top .below) ≡ belowClass (actorAt ns root) = t .below some .is ∙ ap belowClass (sym (actor-some ns root some)) in
+        let few : n ≤ 1 = at-most (asService ds (treeAt ns (top .below))) (s .counted) in
+        record {
+          tree = refl;
+          nodes = record { few = omega (arith, few); held = length-replicate {A = ℕ} 16 e; root = λ m. h; service = λ k l. one few (s .service) k l };
+          arguments = t .arguments;
+          methods = λ y. s .methods (ap (asService ds) same ∙ y) ∙ ap (λ (u : Forest Node). methodsAt (aliasEnd ds u)) same;
+          served = λ m v. s .counted ∙ ap (λ (u : Forest Node). cond (asService ds u) 1 0) same;
+        }
+      where
+        at-most : (b : Bool) → n ≡ cond b 1 0 → n ≤ 1
+        at-most true w = omega arith
+        at-most false w = omega arith
+
+        one : n ≤ 1 → (n ≡ 1 → IsService ns count e) → (k : ℕ) → k < n → IsService ns count (getD (replicate 16 e) k 0)
+        one few f zero l = f (omega arith)
+        one few f (suc k) l = let w : ⊥ = omega arith in absurd w

@@ -1,0 +1,36 @@
+-- `actor::merge` meets its contract. Assumes nothing.
+use mathlib.Core.Path.{sym, _∙_}
+use borrow.Author.Tests.{not-true, not-false}
+use Rattle.syntax.proofs.actor.Merging.{files-listed, root-inside, main-refused, merge-as}
+use borrow.Author.Needs.{needs}
+use Rattle.syntax.proofs.actor.merge.Statement.{statement}
+use Rattle.syntax.proofs.actor.merge.Tie as tie
+
+main-service-requires : tie.Need-main-service-requires
+main-service-requires c κs = let p = c .before .before .pre in (p .0, p .2, λ h. (root-inside (p .0) (p .1) h, p .3 .below h))
+
+passed-requires : tie.Need-passed-requires
+passed-requires c κs = search needs
+
+refused-requires : tie.Need-refused-requires
+refused-requires c κs = search needs
+
+returns : tie.Need-returns
+returns c = λ a x t. main-refused a x (c .before .before .before .main-service .ensures) (sym (c .before .before .passed .ensures) ∙ not-true _ (c .before .if1 .taken)) (c .refused .ensures)
+
+import-services-requires : tie.Need-import-services-requires
+import-services-requires c κs = let p = c .before .before .before .before .before .before .pre in (p .0, files-listed (p .0) (p .1), p .2, (c .before .before .before .before .before .before .args .files .root, record { main = c .before .before .before .main-service .ensures; passed = sym (c .before .before .passed .ensures) ∙ not-false _ (c .before .if1 .left) }))
+
+returns-2 : tie.Need-returns-2
+returns-2 c = λ a x t. merge-as a x t (c .before .import-services .ensures a (c .before .before .before .before .before .before .before .before .args .files .root) (files-listed a x) (record { main = c .before .before .before .before .before .main-service .ensures; passed = sym (c .before .before .before .before .passed .ensures) ∙ not-false _ (c .before .before .before .if1 .left) }))
+
+pub merge-spec : {M : Type 1} → statement M
+merge-spec =
+    tie.close
+    (tie.spec
+    main-service-requires
+    passed-requires
+    refused-requires
+    returns
+    import-services-requires
+    returns-2)

@@ -1,0 +1,2 @@
+-- Laws of classes.
+pub mod Laws

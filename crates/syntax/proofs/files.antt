@@ -1,0 +1,2 @@
+-- Laws of the files.
+pub mod Laws

@@ -1,0 +1,63 @@
+-- `files::main_definitions` meets its contract. Assumes nothing.
+use Prim.Native.Nat.{ℕ, _-_, _≤_, _<_}
+use mathlib.Core.Path.{_≡_, sym, ap, _∙_}
+use native.Mathlib.Omega.{arith}
+use borrow.Author.Count.{below-more}
+use borrow.Author.Needs.{needs}
+use Rattle.format.specs.Encode.{Entry}
+use Rattle.format.specs.Layout.{entryAt}
+use Rattle.syntax.proofs.files.main_definitions.Statement.{statement}
+use Rattle.syntax.proofs.files.main_definitions.Tie as tie
+use Rattle.syntax.proofs.files.main_definitions.Reads as reads
+use Rattle.syntax.proofs.files.main_definitions.Lts as lts
+use Rattle.book.proofs.read.Entry.at.Reads as at-reads
+
+abbrev Inv-loop : tie.InvT-loop
+Inv-loop entries count init d₀ d = (d ≤ count) × ((k : ℕ) → k < d → entryAt entries k .owner ≡ init → ⊥)
+
+abbrev μ-loop : tie.MeasureT-loop
+μ-loop entries count init d₀ d = count - d
+
+loop-holds : tie.Need-loop-holds Inv-loop μ-loop
+loop-holds c = (omega arith, λ k h. absurd (omega arith))
+
+at-requires : tie.Need-at-requires Inv-loop μ-loop
+at-requires c κs = record { held = omega (arith, c .before .before .before .pre .held, c .loop-test .taken); few = c .before .before .before .pre .few }
+
+cast-if1 : tie.Need-cast-if1 Inv-loop μ-loop
+cast-if1 c = search needs
+
+returns : tie.Need-returns Inv-loop μ-loop
+returns c =
+    record {
+      within = c .before .before .before .before .loop .inv .0;
+      before = c .before .before .before .before .loop .inv .1;
+      next = λ h. sym (ap (λ (q : Entry). q .owner) (c .before .before .at .ensures)) ∙ c .if1 .taken;
+    }
+
+add-d : tie.Need-add-d Inv-loop μ-loop
+add-d c = omega (arith, c .before .before .before .loop-test .taken, c .before .before .before .before .before .before .fits)
+
+loop-less : tie.Need-loop-less Inv-loop μ-loop
+loop-less c = omega (arith, c .before .before .before .loop-test .taken)
+
+loop-again : tie.Need-loop-again Inv-loop μ-loop
+loop-again c = (omega (arith, c .before .before .before .loop-test .taken), below-more _ _ (c .before .before .before .before .loop .inv .1) (λ e. c .if1 .left (ap (λ (q : Entry). q .owner) (c .before .before .at .ensures) ∙ e)))
+
+returns-2 : tie.Need-returns-2 Inv-loop μ-loop
+returns-2 c = record { within = omega arith; before = λ k h. c .before .loop .inv .1 k (omega (arith, c .loop-test .left)); next = λ h. absurd (omega arith) }
+
+pub main-definitions-spec : {M : Type 1} → statement M
+main-definitions-spec =
+    tie.close
+    (tie.spec
+    Inv-loop
+    μ-loop
+    loop-holds
+    at-requires
+    cast-if1
+    returns
+    add-d
+    loop-less
+    loop-again
+    returns-2)

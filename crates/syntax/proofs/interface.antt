@@ -1,0 +1,2 @@
+-- Laws of interfaces.
+pub mod Laws

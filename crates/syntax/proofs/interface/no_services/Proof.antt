@@ -1,0 +1,14 @@
+-- `no_services` meets its contract. Assumes nothing.
+use mathlib.Core.Path.{refl}
+use Rattle.syntax.specs.Interfaces.{noServices}
+use Rattle.syntax.proofs.interface.no_services.Statement.{statement}
+use Rattle.syntax.proofs.interface.no_services.Tie as tie
+use Rattle.syntax.proofs.interface.no_services.Reads as reads
+use Rattle.syntax.proofs.interface.no_services.Lts as lts
+
+returns : tie.Need-returns
+unfolding noServices
+returns c = refl
+
+pub no-services-spec : {M : Type 1} → statement M
+no-services-spec = tie.close (tie.spec returns)

@@ -1,0 +1,2 @@
+-- Laws of the actor.
+pub mod Laws

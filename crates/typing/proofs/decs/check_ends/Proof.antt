@@ -1,0 +1,69 @@
+-- `check_ends` meets its contract. Assumes nothing.
+use mathlib.Core.Path.{sym, _∙_}
+use borrow.Author.Tests.{not-true, not-false}
+use Rattle.typing.proofs.decs.Laws.{table, bodies-here, decs-circle, ends-nodes, decs-unfit, decs-passed}
+use borrow.Author.Needs.{needs}
+use Rattle.typing.proofs.decs.check_ends.Statement.{statement}
+use Rattle.typing.proofs.decs.check_ends.Tie as tie
+
+-- places that are far back
+abbrev entry-after-passed : tie.After-passed → tie.Start
+entry-after-passed c = c .before .before .before .before .before .before .before .before .before
+
+abbrev nodes-after-validate-decs : tie.After-validate-decs → tie.After-nodes
+nodes-after-validate-decs c = c .before .before .before .before .before .before .before .before .before
+
+nodes-requires : tie.Need-nodes-requires
+nodes-requires c κs = c .before .before .before .pre .0
+
+sub-check-cycle : tie.Need-sub-check-cycle
+sub-check-cycle c = c .before .before .before .before .pre .1 .entered .bodies .entries .ordered
+
+check-cycle-requires : tie.Need-check-cycle-requires
+check-cycle-requires c κs = let p = c .before .before .before .before .before .pre in rw (c .before .nodes .ensures) (p .1 .entered .bodies .nodes, table (p .1 .entered), p .2)
+
+passed-requires : tie.Need-passed-requires
+passed-requires c κs = search needs
+
+same-length : tie.Need-same-length
+same-length c = search needs
+
+returns : tie.Need-returns
+returns c = decs-circle ((entry-after-passed (c .before)) .pre .1) (rw (c .before .before .before .before .before .before .nodes .ensures) at (c .before .before .before .before .check-cycle .ensures)) (sym (c .before .passed .ensures) ∙ not-true _ (c .if1 .taken))
+
+definitions-requires : tie.Need-definitions-requires
+definitions-requires c κs = (entry-after-passed (c .before)) .pre .0
+
+validate-decs-requires : tie.Need-validate-decs-requires
+validate-decs-requires c κs =
+    let w = (entry-after-passed (c .before .before .before)) .pre .1 in
+    rw (c .before .definitions .ensures, c .before .before .before .before .before .before .before .before .nodes .ensures) (_, bodies-here (w .entered) (ends-nodes w (rw (c .before .before .before .before .before .before .before .before .nodes .ensures) at (c .before .before .before .before .before .before .check-cycle .ensures)) (sym (c .before .before .before .passed .ensures) ∙ not-false _ (c .before .before .if1 .left))))
+
+same-length-2 : tie.Need-same-length-2
+same-length-2 c = search needs
+
+returns-2 : tie.Need-returns-2
+returns-2 c = decs-passed ((entry-after-passed (c .before .before .before .before .before)) .pre .1) (rw ((nodes-after-validate-decs (c .before)) .nodes .ensures) at (c .before .before .before .before .before .before .before .before .check-cycle .ensures)) (sym (c .before .before .before .before .before .passed .ensures) ∙ not-false _ (c .before .before .before .before .if1 .left)) (rw (c .before .before .before .definitions .ensures, (nodes-after-validate-decs (c .before)) .nodes .ensures) at (c .before .validate-decs .ensures)) (c .if2 .taken)
+
+same-length-3 : tie.Need-same-length-3
+same-length-3 c = search needs
+
+returns-3 : tie.Need-returns-3
+returns-3 c = decs-unfit ((entry-after-passed (c .before .before .before .before .before)) .pre .1) (rw ((nodes-after-validate-decs (c .before)) .nodes .ensures) at (c .before .before .before .before .before .before .before .before .check-cycle .ensures)) (sym (c .before .before .before .before .before .passed .ensures) ∙ not-false _ (c .before .before .before .before .if1 .left)) (rw (c .before .before .before .definitions .ensures, (nodes-after-validate-decs (c .before)) .nodes .ensures) at (c .before .validate-decs .ensures)) (c .if2 .left)
+
+pub check-ends-spec : {M : Type 1} → statement M
+check-ends-spec =
+    tie.close
+    (tie.spec
+    nodes-requires
+    sub-check-cycle
+    check-cycle-requires
+    passed-requires
+    same-length
+    returns
+    definitions-requires
+    validate-decs-requires
+    same-length-2
+    returns-2
+    same-length-3
+    returns-3)

@@ -1,0 +1,2 @@
+-- Laws of init arguments.
+pub mod Laws
