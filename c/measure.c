@@ -10,37 +10,20 @@
 #include <time.h>
 #include <ucontext.h>
 
-#include "ludzepin.h"
+#include "ask.h"
 
 /* No book has more uses of a name. */
 enum { STACK = 8 << 20, FILL = 0xa5, MEASURED_US = 200000, USES = 4186116 };
 
 static uint8_t book[LUDZEPIN_BYTES + 1];
-static size_t bytes;
-static uint16_t names[LUDZEPIN_DEFINITIONS], listed[LUDZEPIN_DEFINITIONS], positions[LUDZEPIN_NODES];
-static uint16_t uses_numbers[3 * USES];
-static uint32_t listed_count;
+static uint16_t listed[LUDZEPIN_DEFINITIONS], out[3 * USES];
+static struct asked asked = {.book = book, .list = listed, .out = out, .places = 3 * USES};
+static const struct question *question;
 static uint64_t answer;
 
-static void check(void) { answer = ludzepin_check(book, bytes); }
-static void init_check(void) { answer = ludzepin_init_check(book, bytes); }
-static void list(void) { answer = ludzepin_list(book, bytes, names, LUDZEPIN_DEFINITIONS); }
-static void init_list(void) { answer = ludzepin_init_list(book, bytes, names, LUDZEPIN_DEFINITIONS); }
-static void draft_list(void) { answer = ludzepin_draft_list(book, bytes, names, LUDZEPIN_DEFINITIONS); }
-static void marks(void) { answer = ludzepin_marks(book, bytes, listed, listed_count, names, LUDZEPIN_DEFINITIONS); }
-static void uses(void) { answer = ludzepin_uses(book, bytes, listed[0], uses_numbers, 3 * USES); }
-static void project(void) { answer = ludzepin_project(book, bytes, listed, 1, positions, LUDZEPIN_NODES); }
-static void emptiness(void) { answer = ludzepin_emptiness(book, bytes, names, LUDZEPIN_DEFINITIONS); }
+static void ask(void) { answer = question->ask(&asked); }
 
-static const struct {
-    const char *name;
-    void (*ask)(void);
-} questions[] = {
-    {"check", check}, {"init_check", init_check}, {"list", list}, {"init_list", init_list}, {"draft_list", draft_list},
-    {"marks", marks}, {"uses", uses}, {"project", project}, {"emptiness", emptiness},
-};
-
-static size_t stack_of(void (*ask)(void)) {
+static size_t stack_taken(void) {
     static uint8_t stack[STACK];
     static ucontext_t here, there;
     size_t untouched = 0;
@@ -62,7 +45,7 @@ static double now(void) {
     return t.tv_sec * 1e6 + t.tv_nsec / 1e3;
 }
 
-static double microseconds_of(void (*ask)(void)) {
+static double microseconds_taken(void) {
     double least = MEASURED_US, end = now() + MEASURED_US;
     while (now() < end) {
         double from = now();
@@ -78,16 +61,16 @@ int main(int argc, char **argv) {
         FILE *file = fopen(argv[i], "rb");
         if (!file)
             return fprintf(stderr, "%s: cannot be read\n", argv[i]), 1;
-        bytes = fread(book, 1, sizeof book, file);
+        asked.bytes = fread(book, 1, sizeof book, file);
         fclose(file);
         listed[0] = 0;
-        listed_count = ludzepin_list(book, bytes, listed, LUDZEPIN_DEFINITIONS);
-        if (ludzepin_refusal(listed_count))
-            listed_count = 0;
-        for (size_t q = 0; q < sizeof questions / sizeof *questions; q++) {
-            size_t stack = stack_of(questions[q].ask);
-            double time = microseconds_of(questions[q].ask);
-            printf("%s %s answer %llu stack %zu KiB time %.1f us\n", argv[i], questions[q].name, (unsigned long long)answer, (stack + 1023) / 1024, time);
+        uint32_t list = ludzepin_list(book, asked.bytes, listed, LUDZEPIN_DEFINITIONS);
+        asked.names = ludzepin_refusal(list) ? 0 : ludzepin_entries(list);
+        asked.name = asked.method = listed[0];
+        for (question = QUESTIONS; question < QUESTIONS + QUESTION_COUNT; question++) {
+            size_t stack = stack_taken();
+            double time = microseconds_taken();
+            printf("%s %s answer %llu stack %zu KiB time %.1f us\n", argv[i], question->word, (unsigned long long)answer, (stack + 1023) / 1024, time);
         }
     }
     return 0;

@@ -1,5 +1,5 @@
 #!/usr/bin/env python3
-r"""Answers document 01's questions on a book, by the paper alone:  python3 tools/answers.py BOOK-OR-SOURCE.did
+r"""Answers document 01's questions on a book, by the paper alone:  python3 tools/answers.py BOOK-OR-SOURCE.did [NAME METHOD PLACES]
 
 This is a second reading of document 01 and of the Rust functions that it names, for the tests; tools/layout.py reads the
 bytes. It prints, one line each, what the program answer_batch prints of the book after its name:
@@ -31,7 +31,8 @@ given, it is asked again with one place fewer than they take:
 
     QUESTION-short needs N refused 16 -
 
-QUESTIONS below is the table of them all; a new question is a row there.
+QUESTIONS below is the table of them all; a new question is a row there. With the numbers of a NAME and of a METHOD and the PLACES lent, in
+numbers, it prints what c/questions.c has to: each question once, uses of NAME and a projection to METHOD, names by number.
 """
 
 import functools
@@ -537,6 +538,31 @@ class Tally:
         return [f"tally {line}\n" for line in [*found, "complete" if is_complete else "incomplete"]]
 
 
+def numbered(data, name, method, places):
+    """What c/questions.c prints of a book. How many uses are needed it knows up to MOST_USES alone."""
+    about = {"uses": name, "project": method}
+    rows = [row for row in QUESTIONS if row.word == row.counted and row.said not in (whole, texts)]
+    try:
+        lines = Lines(Book(data))
+    except Refused:
+        return [f"{row.word} refused 1 -" for row in rows]
+    found = []
+    for row in rows:
+        lines.answers[row.word] = None
+        try:
+            answer = lines.answers[row.word] = row.function(lines.book, *row.asked(lines, about.get(row.word)))
+            if row.said is passed:
+                outcome = passed(lines, answer)
+            else:
+                handed(answer, places // 3 if row.said is entries_of_uses else places)
+                outcome = (entries_of_uses if row.said is entries_of_uses else numbers)(lines, answer)
+        except Refused as refused:
+            told = "-" if refused.name is None else refused.name
+            outcome = f"refused {refused.number} {told if refused.needed is None else f'needs {refused.needed}'}"
+        found.append(f"{row.word} {outcome}")
+    return found
+
+
 def listing(data):
     """What the program `list` prints of a book."""
     try:
@@ -552,12 +578,15 @@ def listing(data):
 
 
 def main():
-    if len(sys.argv) != 2:
-        sys.exit("usage: python3 tools/answers.py BOOK-OR-SOURCE.did")
+    if len(sys.argv) not in (2, 5):
+        sys.exit("usage: python3 tools/answers.py BOOK-OR-SOURCE.did [NAME METHOD PLACES]")
     with open(sys.argv[1], "rb") as file:
         data = file.read()
     if sys.argv[1].endswith(".did"):
-        data = mkbook.book(data.decode())
+        data = bytes(mkbook.book(data.decode()))
+    if len(sys.argv) == 5:
+        print("\n".join(numbered(data, *map(int, sys.argv[2:]))))
+        return
     for question, outcome in outcomes(data).items():
         print(question, outcome)
 

@@ -312,11 +312,37 @@ class Answers(unittest.TestCase):
             self.assertLessEqual(set(answers.chase_def_use(book)), set(listed))
         self.assertGreater(passed, 150)
 
-    def test_emptiness(self):
+    def test_numbered(self):
+        """By hand, what c/build.sh tries. Names: "" fork leaf pair put spare tree; a b c d init m main; "" r s t; "" a b c d m; "" a f m."""
+        p1 = {"check": "passed", "init-check": "passed", "list": "given 2 3 6", "marks": "given 1 6", "init": "given 0",
+              "draft": "given 2 3 6", "empty": "given 0", "uses": "given 1 0.0.0", "project": "given 1 0"}
+        short, circle = "refused 16 needs", "refused 7 1"
+        for (name, *asked), right in {
+            ("p01", 6, 4, 4096): p1,
+            ("p01", 5, 6, 4096): p1 | {"uses": "given 0", "project": "refused 15 6"},
+            ("p01", 6, 4, 3): p1,
+            ("p01", 6, 4, 2): p1 | {"uses": f"{short} 1"},
+            ("p01", 6, 4, 0): p1 | {"list": f"{short} 2", "draft": f"{short} 2",
+                                    "marks": f"{short} 1", "uses": f"{short} 1", "project": f"{short} 1"},
+            ("init-own", 0, 5, 4096): {"init": "given 3 3 2 1", "draft": "given 1 0", "marks": "given 0", "empty": "given 0",
+                                       "uses": "given 1 0.0.0", "project": "given 1 0"},
+            ("p11-empty", 1, 1, 4096): {"init": "given 0", "draft": "refused 17 -", "marks": "given 0", "empty": "given 3 1 2 3",
+                                        "uses": "refused 17 -", "project": "refused 17 -"},
+            ("class-arguments", 2, 5, 4096): {"init": "given 0", "draft": "given 4 4 2 3 1", "marks": "given 0", "empty": "given 0",
+                                              "uses": "given 1 65535.0.1", "project": "given 1 0"},
+            ("large-uses-most", 1, 3, 4096): {"init": "given 0", "draft": "given 2 1 2", "marks": "given 0", "empty": "given 0",
+                                              "uses": f"{short} 4097", "project": "given 1 0"},
+            ("p03", 2, 1, 4096): dict.fromkeys(p1, circle) | {"draft": "refused 17 -"},
+        }.items():
+            found = dict(line.split(" ", 1) for line in answers.numbered(LIST_BOOKS[name], *asked))
+            self.assertEqual({word: found.get(word) for word in right}, right, (name, *asked))
+        self.assertEqual(answers.numbered(b"", 0, 0, 4096), [f"{word} refused 1 -" for word in found])
+
+    def test_empty(self):
         """By `is_empty` of type_env.rs, arm by arm."""
         for data in [*CHECK_BOOKS.values(), *LIST_BOOKS.values()]:
             book = None if layout.faults(data) else answers.Book(data)
-            found = book and asked(answers.emptiness, book)
+            found = book and asked(answers.ROWS["empty"].function, book)
             if not isinstance(found, list):
                 continue
             env, judged = answers.check(book)[0], {}

@@ -486,6 +486,32 @@ fn verdict<T>(book: &Book, outcome: &Found<T>, unvalidated: &[&Option<String>]) 
     }
 }
 
+/// The Rust's own functions for a question on a book that passed, for measuring: what they make is dropped.
+#[cfg(counted)]
+fn own_call(word: &str, checked: Checked) -> Option<()> {
+    let Checked { mut env, actor } = checked;
+    match word {
+        "list" => chase_actor(&env, actor.as_ref()?).ok().map(drop),
+        "marks" => {
+            let list = actor.as_ref().and_then(|actor| chase_actor(&env, actor).ok());
+            infer_rec(&env, &list.unwrap_or_default()).ok().map(drop)
+        }
+        "empty" => env.replace_empty().ok(),
+        "uses" => chase_def_use(&env, actor.as_ref()?).ok().map(drop),
+        "project" => {
+            let names = env.as_service(actor.as_ref()?).ok()?.iter().map(|method| method.0.clone()).collect();
+            project_methods(&env, &actor, names).ok().map(drop)
+        }
+        _ => None,
+    }
+}
+
+/// The same for one on the init file's definitions and arguments.
+#[cfg(counted)]
+fn own_init_call(word: &str, (env, args): (TypeEnv, Vec<Type>)) -> Option<()> {
+    if word == "init" { chase_types(&env, &args).ok().map(drop) } else { None }
+}
+
 /// Of what a line is asked: of every book, of each name of a whole one, and then of a whole one once.
 #[derive(Clone, Copy, PartialEq)]
 enum Of {
@@ -493,6 +519,9 @@ enum Of {
     Name,
     Whole,
 }
+
+/// The question that is asked of an unchecked book.
+const DRAFT: &str = "draft";
 
 /// The questions that the Rust is asked, in the order of their lines, and whether each is asked again, with one place fewer than the entries
 /// that were given.
@@ -504,7 +533,7 @@ const QUESTIONS: [(&str, Of, bool); 17] = [
     ("marks-back", Of::Book, false),
     ("marks-outside", Of::Book, false),
     ("init", Of::Book, true),
-    ("draft", Of::Book, true),
+    (DRAFT, Of::Book, true),
     ("empty", Of::Book, true),
     ("uses", Of::Name, true),
     ("project", Of::Name, false),
@@ -613,7 +642,7 @@ fn lines_of(texts: &Texts) -> Vec<Line> {
         Ok(texts.entries(&chase_types(env, args).map_err(|e| texts.row(e))?))
     });
     say("init", None, init_list);
-    say("draft", None, guarded(STEPS, || texts.draft()));
+    say(DRAFT, None, guarded(STEPS, || texts.draft()));
     say("empty", None, guarded(STEPS, || texts.emptiness(known.clone()?)));
 
     let uses = guarded(STEPS, || texts.uses(known.clone()?));

@@ -172,13 +172,17 @@ impl Said<'_> {
 
     /// Answers whether any name is listed.
     fn of_book(&mut self) -> bool {
-        self.verdict("check", ours::check(self.bytes));
-        self.verdict("init-check", ours::init_check(self.bytes));
-        let (_, list) = self.say("list", "", Question::List, true);
+        for (word, check) in ours::VERDICTS {
+            self.verdict(word, check(self.bytes));
+        }
+        let mut list = Vec::new();
+        for (word, question) in ours::OF_BOOK {
+            let (_, entries) = self.say(word, "", question, true);
+            if word == "list" {
+                list = entries;
+            }
+        }
         self.marks(&list);
-        self.say("init", "", Question::InitList, true);
-        self.say("draft", "", Question::DraftList, true);
-        self.say("empty", "", Question::Emptiness, true);
         !list.is_empty()
     }
 
@@ -214,10 +218,10 @@ impl Said<'_> {
         self.say("project-every", "", Question::Project(&every), true);
     }
 
-    /// The questions about names have no lines in a broken book, so the line of emptiness is made wrong.
+    /// The questions about names have no lines in a broken book, so the line of the list is made wrong.
     fn of_broken(&mut self) {
         for question in [Question::Uses(0), Question::Uses(NAMES as u16), Question::Project(&[0]), Question::Project(&[])] {
-            self.hold("empty", question, Answer::Refused(1, NO_NAME));
+            self.hold("list", question, Answer::Refused(1, NO_NAME));
         }
     }
 

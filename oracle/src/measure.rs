@@ -78,8 +78,16 @@ impl Stack {
 
 // Questions
 
-const QUESTIONS: [&str; 9] =
-    ["check", "init check", "list", "init list", "draft list", "marks", "uses", "project", "emptiness"];
+/// Those that are asked with something, by their words; the others are in tables of ours.rs.
+const MARKS: &str = "marks";
+const USES: &str = "uses";
+const PROJECT: &str = "project";
+
+/// The words of all questions.
+fn words() -> impl Iterator<Item = &'static str> {
+    let verdicts = ours::VERDICTS.iter().map(|question| question.0);
+    verdicts.chain(ours::OF_BOOK.iter().map(|question| question.0)).chain([MARKS, USES, PROJECT])
+}
 
 /// The names that uses and projection are asked of: so many, the last one, and a number outside the table.
 const ASKED: usize = 32;
@@ -98,21 +106,19 @@ fn ask_ours(stack: &Stack, word: &str, bytes: &[u8], names: usize, out: &mut [u1
     };
     let each = (0..names).filter(|number| *number < ASKED || number + 1 == names).chain([ours::NAMES]).map(|number| number as u16);
     match word {
-        "check" => verdict(ours::check),
-        "init check" => verdict(ours::init_check),
-        "list" => ask(Question::List),
-        "init list" => ask(Question::InitList),
-        "draft list" => ask(Question::DraftList),
-        "emptiness" => ask(Question::Emptiness),
-        "marks" => {
+        MARKS => {
             let mut list = [0; DEFINITIONS];
             let count = if let Answer::Given(count) = ours::list(bytes, &mut list) { count } else { 0 };
             ask(Question::Marks(&list[..count]));
         }
-        "uses" => each.for_each(|name| ask(Question::Uses(name))),
-        _ => {
+        USES => each.for_each(|name| ask(Question::Uses(name))),
+        PROJECT => {
             ask(Question::Project(&offered(bytes)));
             each.for_each(|name| ask(Question::Project(&[name])));
+        }
+        _ => {
+            ours::VERDICTS.iter().filter(|question| question.0 == word).for_each(|question| verdict(question.1));
+            ours::OF_BOOK.iter().filter(|question| question.0 == word).for_each(|question| ask(question.1));
         }
     }
 }
@@ -129,30 +135,14 @@ fn offered(bytes: &[u8]) -> Vec<u16> {
 /// Asks the Rust, as far as it comes. What it makes is dropped within.
 fn ask_rust(word: &str, merged: &IDLMergedProg, init: &Option<IDLInitArgs>) -> Option<()> {
     if word.starts_with("init") && init.is_some() {
-        let (env, args) = init_check(merged, init).ok()?;
-        return if word == "init list" { chase_types(&env, &args).ok().map(drop) } else { None };
+        return own_init_call(word, init_check(merged, init).ok()?);
     }
-    let checked = check(merged).ok()?;
-    match word {
-        "list" => list(&checked).map(drop),
-        "marks" => infer_rec(&checked.env, &list(&checked).unwrap_or_default()).ok().map(drop),
-        "uses" => uses(&checked).map(drop),
-        "emptiness" => {
-            let mut env = checked.env;
-            env.replace_empty().ok()
-        }
-        "project" => {
-            let methods = checked.env.as_service(checked.actor.as_ref()?).ok()?;
-            let names = methods.iter().map(|method| method.0.clone()).collect();
-            project_methods(&checked.env, &checked.actor, names).ok().map(drop)
-        }
-        _ => None,
-    }
+    own_call(word, check(merged).ok()?)
 }
 
 /// With what it is asked of built within, as in a benchmark.
 fn ask_built(word: &str, own: &Texts) -> Option<()> {
-    if word == "draft list" {
+    if word == DRAFT {
         return own.draft().ok().map(drop);
     }
     ask_rust(word, &own.merged().ok()?, &own.init())
@@ -176,7 +166,7 @@ fn measure(name: &str, bytes: &[u8], stack: &Stack, out: &mut [u16]) {
     // A book with a method ring is not asked: its answers come from other functions.
     let own = own.filter(|own| !has_ring(own.book, false) && !has_ring(own.book, true));
     let nodes = bytes.get(12..16).map_or(0, |count| u32::from_le_bytes(count.try_into().expect("four bytes")));
-    for word in QUESTIONS {
+    for word in words() {
         let ours = stack.taken(&mut |stack| ask_ours(stack, word, bytes, names, out));
         let mut told = ["-", "-", "-"].map(String::from);
         if let Some(own) = &own {
@@ -185,7 +175,7 @@ fn measure(name: &str, bytes: &[u8], stack: &Stack, out: &mut [u16]) {
             if ended {
                 let built = heap_of(|| _ = ends(stack, &mut || ask_built(word, own)));
                 told = [rust.to_string(), built.to_string(), "-".into()];
-                if let (Ok(merged), true) = (own.merged(), word != "draft list") {
+                if let (Ok(merged), true) = (own.merged(), word != DRAFT) {
                     let init = own.init();
                     let alone = heap_of(|| _ = ends(stack, &mut || ask_rust(word, &merged, &init)));
                     told[2] = alone.to_string();

@@ -60,56 +60,47 @@ pub fn init_check(book: &[u8]) -> Answer {
 }
 
 pub fn list(book: &[u8], out: &mut [u16]) -> Answer {
-    of_half(unsafe { ludzepin_list(book.as_ptr(), book.len(), at_mut(out), out.len()) })
-}
-
-pub fn init_list(book: &[u8], out: &mut [u16]) -> Answer {
-    of_half(unsafe { ludzepin_init_list(book.as_ptr(), book.len(), at_mut(out), out.len()) })
-}
-
-pub fn draft_list(book: &[u8], out: &mut [u16]) -> Answer {
-    of_half(unsafe { ludzepin_draft_list(book.as_ptr(), book.len(), at_mut(out), out.len()) })
-}
-
-pub fn emptiness(book: &[u8], out: &mut [u16]) -> Answer {
-    of_half(unsafe { ludzepin_emptiness(book.as_ptr(), book.len(), at_mut(out), out.len()) })
-}
-
-pub fn marks(book: &[u8], list: &[u16], out: &mut [u16]) -> Answer {
-    of_half(unsafe { ludzepin_marks(book.as_ptr(), book.len(), at(list), list.len(), at_mut(out), out.len()) })
-}
-
-pub fn project(book: &[u8], asked: &[u16], out: &mut [u16]) -> Answer {
-    of_half(unsafe { ludzepin_project(book.as_ptr(), book.len(), at(asked), asked.len(), at_mut(out), out.len()) })
+    LIST.ask(book, out)
 }
 
 /// Three numbers for an entry.
 pub fn uses(book: &[u8], name: u16, out: &mut [u16]) -> Answer {
-    of_whole(unsafe { ludzepin_uses(book.as_ptr(), book.len(), name, at_mut(out), out.len()) })
+    Question::Uses(name).ask(book, out)
 }
 
 /// A question with a lent list.
 #[derive(Clone, Copy)]
 pub enum Question<'a> {
-    List,
-    InitList,
-    DraftList,
-    Emptiness,
+    /// Of a book and nothing else, and answered with names.
+    OfBook(unsafe extern "C" fn(*const u8, usize, *mut u16, usize) -> u32),
     Marks(&'a [u16]),
     Uses(u16),
     Project(&'a [u16]),
 }
 
+// The questions by their words in a line of answer_batch.
+
+pub const VERDICTS: [(&str, fn(&[u8]) -> Answer); 2] = [("check", check), ("init-check", init_check)];
+
+const LIST: Question = Question::OfBook(ludzepin_list);
+
+pub const OF_BOOK: [(&str, Question); 4] = [
+    ("list", LIST),
+    ("init", Question::OfBook(ludzepin_init_list)),
+    ("draft", Question::OfBook(ludzepin_draft_list)),
+    ("empty", Question::OfBook(ludzepin_emptiness)),
+];
+
 impl Question<'_> {
     pub fn ask(&self, book: &[u8], out: &mut [u16]) -> Answer {
-        match *self {
-            Question::List => list(book, out),
-            Question::InitList => init_list(book, out),
-            Question::DraftList => draft_list(book, out),
-            Question::Emptiness => emptiness(book, out),
-            Question::Marks(list) => marks(book, list, out),
-            Question::Uses(name) => uses(book, name, out),
-            Question::Project(asked) => project(book, asked, out),
+        let (at_book, bytes, at_out, places) = (book.as_ptr(), book.len(), at_mut(out), out.len());
+        unsafe {
+            match *self {
+                Question::OfBook(ask) => of_half(ask(at_book, bytes, at_out, places)),
+                Question::Marks(list) => of_half(ludzepin_marks(at_book, bytes, at(list), list.len(), at_out, places)),
+                Question::Uses(name) => of_whole(ludzepin_uses(at_book, bytes, name, at_out, places)),
+                Question::Project(asked) => of_half(ludzepin_project(at_book, bytes, at(asked), asked.len(), at_out, places)),
+            }
         }
     }
 

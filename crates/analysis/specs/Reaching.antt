@@ -7,7 +7,7 @@ use lib.Dec.{T}
 use lib.ListN.{length, getD, replicate}
 use Rattle.format.specs.Book.{Definition}
 use Rattle.format.specs.Layout.{rowAt, entryAt}
-use Rattle.environment.specs.Tables.{Nodes, Entries}
+use Rattle.environment.specs.Tables.{Nodes, Entries, definitionsIn}
 use Rattle.book.specs.Tables.{isSet}
 use Rattle.listing.specs.References.{Reaches}
 
@@ -39,6 +39,10 @@ pub record NearAs (ns flags : List ℕ) (nodes : ℕ) (near : List ℕ) : Type 0
   pub long : length near ≡ 4097
   pub first : (i : ℕ) → i ≤ nodes → FirstHit ns flags i nodes (getD near i 0)
 
+-- A table has from place n on what it had.
+pub record KeptFrom (n : ℕ) (old new : List ℕ) : Type 0 where
+  pub kept : (i : ℕ) → n ≤ i → getD new i 0 ≡ getD old i 0
+
 -- What is asked for it: rows of a book, whatever its number of names is.
 pub record BookRows (ns : List ℕ) (nodes : ℕ) : Type 0 where
   pub names : ℕ
@@ -69,7 +73,7 @@ pub record OwnersAs (ns es : List ℕ) (definitions : ℕ) (owners : List ℕ) :
   pub long : length owners ≡ 4096
   pub exact : (i n : ℕ) → OwnedBy ns es definitions i n ↔ (getD owners i 0 ≡ suc n)
 
--- A table of rows that has nothing, and one that is one entry longer.
+-- A table of rows that has nothing, and one that is one entry longer, as that of first rows is.
 unfoldable pub noRows : List ℕ
 noRows = replicate 4096 0
 
@@ -84,9 +88,32 @@ pub record LastName (ns : List ℕ) (v j x : ℕ) : Type 0 where
   pub none : (i : ℕ) → x ≤ i → i < j → IsName ns i v → ⊥
   pub some : (i : ℕ) → x ≡ suc i → IsName ns i v
 
--- `head` links the last row that is a name, and `next` from a row that is a name the row before it that is the same name.
+-- `head` links the last row that is a name, and `next` from a row that is a name the row before it that is the same name. `next` is kept where
+-- the table of first rows is made after it.
 pub record LinksAs (ns : List ℕ) (nodes : ℕ) (head next : List ℕ) : Type 0 where
   pub heads : length head ≡ 1024
-  pub nexts : length next ≡ 4096
+  pub nexts : length next ≡ 4097
   pub last : (v : ℕ) → v < 1024 → LastName ns v nodes (getD head v 0)
   pub before : (i v : ℕ) → i < nodes → IsName ns i v → LastName ns v i (getD next i 0)
+
+-- A table has what it had, but for rows that are names.
+pub record KeptElse (ns : List ℕ) (nodes : ℕ) (old new : List ℕ) : Type 0 where
+  pub kept : (i : ℕ) → ((v : ℕ) → i < nodes → IsName ns i v → ⊥) → getD new i 0 ≡ getD old i 0
+
+-- The tables by which names that reach one are found are those of a book, whichever it is.
+pub record Linked (owners head next : List ℕ) : Type 0 where
+  pub rows : List ℕ
+  pub entries : List ℕ
+  pub names : ℕ
+  pub nodes : ℕ
+  pub definitions : ℕ
+  pub book : Defining rows entries names nodes definitions
+  pub owned : OwnersAs rows entries definitions owners
+  pub links : LinksAs rows nodes head next
+
+-- For each row the first one from it on that is a name which is the wanted one or reaches it; nothing for what is no row.
+pub record NearestAs (ns es : List ℕ) (nodes definitions wanted : ℕ) (near : List ℕ) : Type 0 where
+  pub flags : List ℕ
+  pub reach : ReachAs (definitionsIn ns es 0 definitions) wanted flags
+  pub first : NearAs ns flags nodes near
+  pub rest : (i : ℕ) → nodes < i → getD near i 0 ≡ 0

@@ -16,17 +16,17 @@ use refusals::Answer;
 use refusals::Refusal;
 
 // How often each of the 1,024 names is asked for.
-pub type Counts = [usize; 1024];
+type Counts = [usize; 1024];
 
 // The asked numbers: how often each below 1,024, and the lowest other one, which is no name of any book; NONE where there is none.
-pub struct Asked {
+struct Asked {
     pub left: [usize; 1024],
     pub far: u32,
 }
 
 impl Asked {
     // No number that is asked for: one more than the highest.
-    pub const NONE: u32 = 65536;
+    const NONE: u32 = 65536;
 }
 
 fn no_counts() -> Counts
@@ -62,7 +62,7 @@ fn lower_far(far: u32, n: u16) -> u32
 }
 
 // The asked numbers of a list.
-pub fn count_asked(list: &[u16]) -> Asked
+fn count_asked(list: &[u16]) -> Asked
     ensures { λ r. ⌜ (length (r .left) ≡ 1024) × Asking (r .left) (r .far) (now (list .entry)) ⌝ }
 {
     let mut left = no_counts();
@@ -78,7 +78,7 @@ pub fn count_asked(list: &[u16]) -> Asked
 }
 
 // The lowest number still asked for, or NONE.
-pub fn lowest_left(left: &[usize], far: u32) -> u32
+fn lowest_left(left: &[usize], far: u32) -> u32
     requires { ⌜ length (now left) ≡ 1024 ⌝ }
     ensures { λ r. ⌜ LowestAs (now (left .entry)) far r ⌝ }
 {
@@ -155,7 +155,7 @@ fn take_methods(
 
 // All methods of the first `count` services: what is left of the asked names, how many positions are taken, and those written that have
 // one of the first `places` places. With no places it only counts.
-pub fn project_methods(
+fn project_methods(
     rows: &[u8],
     services: &[u16],
     count: usize,

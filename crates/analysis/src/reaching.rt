@@ -1,11 +1,13 @@
 // Which names reach a name by references, and which rows tell one that does. The rows that are a name are linked once, each to the one
 // before it, so that the definitions that refer to a name are found without going through all rows again.
-// Functions ask of their caller what an admitted book gives (specs/Reaching.antt).
+// Functions ask of their caller what an admitted book gives (specs/Reaching.antt). Tables of rows are lent, since a copy of one costs more
+// than all else does on a small book.
 ghost use mathlib.Core.Path.{_≡_};
 ghost use Prim.Native.Nat.{_+_, _<_};
 ghost use lib.ListN.{length};
 ghost use Rattle.environment.specs.Tables.{definitionsIn};
-ghost use Rattle.analysis.specs.Reaching.{BookRows, ReachAs, FirstHit, NearAs, Defining, OwnersAs, noRows, noPlaces, LinksAs};
+ghost use Rattle.book.specs.Tables.{zeroTable, noFlags};
+ghost use Rattle.analysis.specs.Reaching.{BookRows, ReachAs, FirstHit, NearAs, Defining, OwnersAs, noRows, noPlaces, LinksAs, KeptFrom, KeptElse, Linked, NearestAs};
 use book::kinds::Kind;
 use book::read::Entry;
 use book::read::Node;
@@ -13,7 +15,8 @@ use book::read::Node;
 // For each row the first row from it on that tells; the number of rows where there is none.
 pub type Near = [u16; 4097];
 
-fn no_places() -> Near
+// A table that has nothing.
+pub fn no_places() -> Near
     ensures { λ r. ⌜ r ≡ noPlaces ⌝ }
 {
     [0u16; 4097]
@@ -34,12 +37,12 @@ fn nearer(rows: &[u8], nodes: usize, flags: &[u8], i: usize, last: usize) -> usi
     i
 }
 
-// For each row the first row from it on, before row `nodes`, that is a name with its flag set; `nodes` where there is none.
-pub fn nearest(rows: &[u8], nodes: usize, flags: &[u8]) -> Near
-    requires { ⌜ BookRows (now rows) nodes × (length (now flags) ≡ 1024) ⌝ }
-    ensures { λ r. ⌜ NearAs (now (rows .entry)) (now (flags .entry)) nodes r ⌝ }
+// Writes for each row the first row from it on, before row `nodes`, that is a name with its flag set; `nodes` where there is none.
+fn nearest(rows: &[u8], nodes: usize, flags: &[u8], near: &mut [u16])
+    requires { ⌜ BookRows (now rows) nodes × (length (now flags) ≡ 1024) × (length (now near) ≡ 4097) ⌝ }
+    ensures { λ r. ⌜ NearAs (now (rows .entry)) (now (flags .entry)) nodes (now (near .exit)) ×
+        KeptFrom (nodes + 1) (now (near .entry)) (now (near .exit)) ⌝ }
 {
-    let mut near = no_places();
     let mut last = nodes;
     let mut i = nodes;
     near[nodes] = nodes as u16;
@@ -48,7 +51,6 @@ pub fn nearest(rows: &[u8], nodes: usize, flags: &[u8]) -> Near
         last = nearer(rows, nodes, flags, i, last);
         near[i] = last as u16;
     }
-    near
 }
 
 // A number for each row.
@@ -60,12 +62,18 @@ fn no_rows() -> ByRow
     [0u16; 4096]
 }
 
-// For each row one more than the name whose definition it lies in; 0 where it lies in none.
-fn owners(entries: &[u8], rows: &[u8], names: usize, nodes: usize, definitions: usize) -> ByRow
-    requires { ⌜ Defining (now rows) (now entries) names nodes definitions ⌝ }
-    ensures { λ r. ⌜ OwnersAs (now (rows .entry)) (now (entries .entry)) definitions r ⌝ }
+// Writes for each row one more than the name whose definition it lies in, in a table that has nothing; 0 where it lies in none.
+fn owners(
+    entries: &[u8],
+    rows: &[u8],
+    names: usize,
+    nodes: usize,
+    definitions: usize,
+    owner: &mut [u16],
+)
+    requires { ⌜ Defining (now rows) (now entries) names nodes definitions × (now owner ≡ noRows) ⌝ }
+    ensures { λ r. ⌜ OwnersAs (now (rows .entry)) (now (entries .entry)) definitions (now (owner .exit)) ⌝ }
 {
-    let mut owner = no_rows();
     let mut d = 0;
     while d < definitions {
         let e = Entry::at(entries, d);
@@ -79,22 +87,15 @@ fn owners(entries: &[u8], rows: &[u8], names: usize, nodes: usize, definitions: 
         }
         d += 1;
     }
-    owner
 }
 
-// Rows that are the same name, linked from the last one to the first. A link is one more than a row, or 0 for none.
-struct Links {
-    pub head: [u16; 1024],
-    pub next: [u16; 4096],
-}
-
-// The links of all rows that are names, in one pass.
-fn link(rows: &[u8], nodes: usize) -> Links
-    requires { ⌜ BookRows (now rows) nodes ⌝ }
-    ensures { λ r. ⌜ LinksAs (now (rows .entry)) nodes (r .head) (r .next) ⌝ }
+// Links rows that are the same name in one pass, from the last one to the first. A link is one more than a row, or 0 for none: `head` has
+// nothing before, and what `next` has is not read.
+fn link(rows: &[u8], nodes: usize, head: &mut [u16], next: &mut [u16])
+    requires { ⌜ BookRows (now rows) nodes × (now head ≡ zeroTable) × (length (now next) ≡ 4097) ⌝ }
+    ensures { λ r. ⌜ LinksAs (now (rows .entry)) nodes (now (head .exit)) (now (next .exit)) ×
+        KeptElse (now (rows .entry)) nodes (now (next .entry)) (now (next .exit)) ⌝ }
 {
-    let mut head = book::tables::no_links();
-    let mut next = no_rows();
     let mut j = 0;
     while j < nodes {
         let t = Node::at(rows, j);
@@ -107,30 +108,15 @@ fn link(rows: &[u8], nodes: usize) -> Links
         next[row] = head[v];
         head[v] = j as u16;
     }
-    Links { head, next }
 }
 
-// A flag for each name.
-pub type Reach = [u8; 1024];
-
-// For each name whether the wanted name is it or is reached from it by references. The names that are flagged wait in a queue until the
-// definitions that refer to them are flagged too.
-pub fn reaching(
-    entries: &[u8],
-    rows: &[u8],
-    names: usize,
-    nodes: usize,
-    definitions: usize,
-    wanted: usize,
-) -> Reach
-    requires { ⌜ Defining (now rows) (now entries) names nodes definitions × (wanted < 1024) ⌝ }
-    ensures { λ r. ⌜ ReachAs (definitionsIn (now (rows .entry)) (now (entries .entry)) 0 definitions) wanted r ⌝ }
+// Sets the flag of each name that is the wanted one or from which it is reached by references; none is set before. The names that are
+// flagged wait in a queue until the definitions that refer to them are flagged too.
+fn reaching(owner: &[u16], head: &[u16], next: &[u16], wanted: usize, flags: &mut [u8])
+    requires { ⌜ Linked (now owner) (now head) (now next) × (wanted < 1024) × (now flags ≡ noFlags) ⌝ }
+    ensures { λ r. ⌜ ((x : Linked (now (owner .entry)) (now (head .entry)) (now (next .entry))) →
+        ReachAs (definitionsIn (x .rows) (x .entries) 0 (x .definitions)) wanted (now (flags .exit))) ⌝ }
 {
-    let owner = owners(entries, rows, names, nodes, definitions);
-    let linked = link(rows, nodes);
-    let head = linked.head;
-    let next = linked.next;
-    let mut flags = book::tables::no_flags();
     let mut queue = book::tables::no_links();
     flags[wanted] = 1;
     queue[0] = wanted as u16;
@@ -156,5 +142,27 @@ pub fn reaching(
         }
         q += 1;
     }
-    flags
+}
+
+// Finds for each row the first row from it on that is a name which is the wanted one or reaches it by references; `nodes` where there is
+// none. The table is lent with nothing in it, and has the links of the rows before.
+pub fn find_nearest(
+    entries: &[u8],
+    rows: &[u8],
+    names: usize,
+    nodes: usize,
+    definitions: usize,
+    wanted: usize,
+    near: &mut [u16],
+)
+    requires { ⌜ Defining (now rows) (now entries) names nodes definitions × (wanted < 1024) × (now near ≡ noPlaces) ⌝ }
+    ensures { λ r. ⌜ NearestAs (now (rows .entry)) (now (entries .entry)) nodes definitions wanted (now (near .exit)) ⌝ }
+{
+    let mut owner = no_rows();
+    owners(entries, rows, names, nodes, definitions, &mut owner);
+    let mut head = book::tables::no_links();
+    link(rows, nodes, &mut head, near);
+    let mut flags = book::tables::no_flags();
+    reaching(&owner, &head, near, wanted, &mut flags);
+    nearest(rows, nodes, &flags, near);
 }

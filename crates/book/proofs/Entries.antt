@@ -1,24 +1,23 @@
 -- The tests of entries, one by one as code makes them. Assumes nothing.
-use mathlib.Core.Path.{_≡_, sym, ap, subst, _∙_}
+use mathlib.Core.Path.{_≡_, refl, sym, ap, subst, _∙_}
 use mathlib.Core.Bool.{Bool, true, false, not, Bool·beq, false≢true}
-use mathlib.Core.Logic.{_⊎_, inl, inr}
 use mathlib.Core.List.{List, [], _∷_}
 use Prim.Native.Nat.{ℕ, suc, _+_, _-_, _≤_, _<_}
 use native.Mathlib.Nat.{sub-zero}
 use native.Mathlib.Decide.{ℕ-discrete}
 use native.Mathlib.Omega.{arith}
-use borrow.Author.Tests.{lt-ltb, le-leb, eq-eqb, ne-eqb}
-use lib.Dec.{T, T-not, eqb}
+use borrow.Author.Tests.{lt-ltb, le-leb, eq-eqb, ne-eqb, not-false}
+use lib.Dec.{T, T-not, eqb, eqb→eq}
 use Rattle.format.specs.Forest.{Forest, end, tree, count}
 use Rattle.format.specs.Encode.{Row, Entry}
 use Rattle.format.specs.Layout.{run, rowAt, entryAt, rowTrees}
 use Rattle.format.specs.Rules.{goodRole, goodFiles, goodEntries, noEntries, noTrees}
 use Rattle.format.specs.Whole.{Within, Whole}
-use Rattle.format.proofs.Logic.{is-true, is-false, says}
+use Rattle.format.proofs.Logic.{is-true, is-false, of-true, says}
 use Rattle.format.proofs.Rows.{Opened, opens, none, node-within, count-rowTrees}
 use Rattle.format.proofs.Lists.{run-none, run-cons}
 use Rattle.book.specs.declared.rules.Next.the-variants.{Broken as Stop, At}
-use Rattle.book.specs.Steps.{DefinitionAs, DefinitionsAs, FileAs}
+use Rattle.book.specs.Steps.{Tells, DefinitionAs, DefinitionsAs, FileTests, FileAs}
 
 -- a tree is left: its row is there, and what is after it is whole
 module _ {ns : List ℕ} {next nodes : ℕ} (w : Whole ns next nodes) (h : next < nodes) where
@@ -88,15 +87,21 @@ module _ (names files file next : ℕ) (e : Entry) (es fs : List Entry) where
           ∙ ap (λ (n : ℕ). goodEntries names files (e .owner) (next + n) es fs (rowTrees ns (next + rowAt ns next .size) nodes)) (root-size w h))
 
 -- ---- files
-pub record FileTests (names : ℕ) (main last : Bool) (e : Entry) : Type 0 where
-  pub name : e .name < names
-  pub role : T (goodRole main last (e .owner))
-  pub reserved : e .reserved ≡ 0
-  pub rootless : e .root ≡ 65535 → e .owner ≡ 3 → ⊥
-
 -- a role that is not 3
 not-three : (n : ℕ) → T (not (eqb n 3)) → n ≡ 3 → ⊥
 not-three n h e = T-not (eqb n 3) h (rw e tt)
+
+pub tells-not-three : {P : Type 0} (n : ℕ) → ((n ≡ 3 → ⊥) → P) → (P → n ≡ 3 → ⊥) → Tells (not (eqb n 3)) P
+tells-not-three n p q = record { holds = λ e. p (not-three n (of-true _ e)); fails = λ e x. q x (eqb→eq n 3 (of-true _ (not-false (eqb n 3) e))) }
+
+-- kind 26 and another kind, beside a role
+pub with-init : (role : Bool) → role ≡ Bool·beq true role
+with-init true = refl
+with-init false = refl
+
+pub without-init : (role : Bool) → not role ≡ Bool·beq false role
+without-init true = refl
+without-init false = refl
 
 module _ (names next : ℕ) (main : Bool) (e : Entry) (es : List Entry) where
   pub file-tests : (f : Forest Row) → T (goodFiles names main next (e ∷ es) f) → FileTests names main (noEntries es) e
@@ -114,13 +119,13 @@ module _ (names next : ℕ) (main : Bool) (e : Entry) (es : List Entry) where
       }
 
   -- a file without a tree
-  pub file-rootless : (f : Forest Row) → FileTests names main (noEntries es) e → e .root ≡ 65535 → (e .owner ≡ 3 → ⊥) →
+  pub file-rootless : (f : Forest Row) → FileTests names main (noEntries es) e → e .root ≡ 65535 →
       goodFiles names main next (e ∷ es) f ≡ goodFiles names false next es f
   unfolding goodFiles
-  file-rootless end t x k =
-      rw (lt-ltb _ _ (t .name), is-true (goodRole main (noEntries es) (e .owner)) (t .role), eq-eqb _ _ (t .reserved), x, ne-eqb _ _ k)
-  file-rootless (tree r kids after) t x k =
-      rw (lt-ltb _ _ (t .name), is-true (goodRole main (noEntries es) (e .owner)) (t .role), eq-eqb _ _ (t .reserved), x, ne-eqb _ _ k)
+  file-rootless end t x =
+      rw (lt-ltb _ _ (t .name), is-true (goodRole main (noEntries es) (e .owner)) (t .role), eq-eqb _ _ (t .reserved), x, ne-eqb _ _ (t .rootless x))
+  file-rootless (tree r kids after) t x =
+      rw (lt-ltb _ _ (t .name), is-true (goodRole main (noEntries es) (e .owner)) (t .role), eq-eqb _ _ (t .reserved), x, ne-eqb _ _ (t .rootless x))
 
   -- one with a tree: its root, and both or neither of kind 26 and role 3
   pub record Rooted (r : Row) : Type 0 where
@@ -148,6 +153,10 @@ module _ (names next : ℕ) (main : Bool) (e : Entry) (es : List Entry) where
       pub file-root : T (goodFiles names main next (e ∷ es) (rowTrees ns next nodes)) → Rooted (rowAt ns next)
       file-root y = file-rooted _ _ _ (rw (opens w h .opened) at y) x
 
+      pub file-init : (r : Row) → r ≡ rowAt ns next → Bool·beq (eqb (r .kind) 26) (eqb (e .owner) 3) ≡ false →
+          T (goodFiles names main next (e ∷ es) (rowTrees ns next nodes)) → ⊥
+      file-init r is f y = false≢true (sym f ∙ ap (λ (q : Row). Bool·beq (eqb (q .kind) 26) (eqb (e .owner) 3)) is ∙ file-root y .init)
+
       pub file-next : (r : Row) → r ≡ rowAt ns next → FileTests names main (noEntries es) e → Rooted r →
           goodFiles names main next (e ∷ es) (rowTrees ns next nodes) ≡ goodFiles names false (next + r .size) es (rowTrees ns (next + r .size) nodes)
       file-next r is t k =
@@ -156,15 +165,6 @@ module _ (names next : ℕ) (main : Bool) (e : Entry) (es : List Entry) where
           rw (o .opened, ap (λ (q : Row). q .size) is)
           (file-on (rowAt ns next) _ _ t x k′
           ∙ ap (λ (n : ℕ). goodFiles names false (next + n) es (rowTrees ns (next + rowAt ns next .size) nodes)) (root-size w h))
-
-pub tests-of : (names : ℕ) (main last : Bool) (e : Entry) (es : List Entry) → e .name < names → goodRole main last (e .owner) ≡ true → e .reserved ≡ 0 →
-    (e .root ≡ 65535 → e .owner ≡ 3 → ⊥) → noEntries es ≡ last → FileTests names main (noEntries es) e
-tests-of names main last e es n r z x l = record { name = n; role = rw (l, r) tt; reserved = z; rootless = x }
-
--- kind 26 without role 3, or the other way round
-pub init-role : (k o : ℕ) → (k ≡ 26 → o ≡ 3 → ⊥) → (k ≡ 26) ⊎ (o ≡ 3) → Bool·beq (eqb k 26) (eqb o 3) ≡ true → ⊥
-init-role k o n (inl a) e = let z : _≡_ {A = Bool} false true = rw (a, ne-eqb o 3 (n a)) at e in absurd (false≢true z)
-init-role k o n (inr b) e = let z : _≡_ {A = Bool} false true = rw (b, ne-eqb k 26 (λ a. n a b)) at e in absurd (false≢true z)
 
 -- ---- the loops over entries: what is left is judged as all of it
 -- an entry is left: it, and those after it

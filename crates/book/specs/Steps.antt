@@ -2,7 +2,7 @@
 use mathlib.Core.Path.{_≡_}
 use mathlib.Core.Bool.{Bool, true, false}
 use mathlib.Core.List.{List, _∷_}
-use Prim.Native.Nat.{ℕ, zero, suc}
+use Prim.Native.Nat.{ℕ, zero, suc, _<_}
 use lib.Dec.{T}
 use Rattle.format.specs.declared.Place.{Place}
 use Rattle.format.specs.Forest.{breadth}
@@ -10,7 +10,7 @@ use Rattle.format.specs.Encode.{Entry}
 use Rattle.format.specs.Fits.{before}
 use Rattle.format.specs.Layout.{le32, run, entryAt, rowTrees}
 use Rattle.format.specs.Rules
-use Rattle.format.specs.Rules.{Sized, goodForest, goodEntries, goodFiles, noEntries}
+use Rattle.format.specs.Rules.{Sized, goodForest, goodEntries, goodRole, goodFiles, noEntries}
 use Rattle.format.specs.Whole.{Whole}
 use Rattle.book.specs.declared.kinds.Contents.{Contents}
 use Rattle.book.specs.declared.Reading.{Reading}
@@ -68,7 +68,14 @@ DefinitionsAs names files ds count ns nodes (At after) =
     Whole ns after nodes
     × ((fs : List Entry) → goodEntries names files 0 0 (run (entryAt ds) 0 count) fs (rowTrees ns 0 nodes) ≡ goodFiles names true after fs (rowTrees ns after nodes))
 
--- An entry of a file, before any others; `last` says that there are none.
+-- What an entry of a file keeps apart from its tree; `last` says that no entries follow.
+pub record FileTests (names : ℕ) (main last : Bool) (e : Entry) : Type 0 where
+  pub name : e .name < names
+  pub role : T (goodRole main last (e .owner))
+  pub reserved : e .reserved ≡ 0
+  pub rootless : e .root ≡ 65535 → e .owner ≡ 3 → ⊥
+
+-- An entry of a file, before any others.
 abbrev pub FileAs : ℕ → List ℕ → ℕ → Bool → Bool → ℕ → Entry → Next → Type 0
 FileAs names ns nodes main last next e Stop =
     (es : List Entry) → noEntries es ≡ last → T (goodFiles names main next (e ∷ es) (rowTrees ns next nodes)) → ⊥

@@ -1,5 +1,5 @@
-// Readers of numbers, rows and entries. They are public for the crates above, which walk books that were admitted: each asks that what is
-// read lies within the bytes, as it does there (format, specs/Whole.antt).
+// Readers of numbers, rows, entries and names. Those of rows and entries are public for the crates above, which walk books that were
+// admitted: each asks that what is read lies within the bytes, as it does there (format, specs/Whole.antt).
 ghost use mathlib.Core.Path.{_≡_};
 ghost use Prim.Native.Nat.{_+_, _*_, _≤_, _<_};
 ghost use mathlib.Core.List.{[]};
@@ -16,7 +16,7 @@ fn wide(b: u8) -> u32
 }
 
 // The number in the two bytes from place `at` on.
-pub fn half(bytes: &[u8], at: usize) -> u16
+fn half(bytes: &[u8], at: usize) -> u16
     requires { ⌜ at + 2 ≤ length (now bytes) ⌝ }
     ensures { λ r. ⌜ r ≡ le16 (now (bytes .entry)) at ⌝ }
 {
@@ -24,7 +24,7 @@ pub fn half(bytes: &[u8], at: usize) -> u16
 }
 
 // The number in the four bytes from place `at` on.
-pub fn word(bytes: &[u8], at: usize) -> u32
+pub(crate) fn word(bytes: &[u8], at: usize) -> u32
     requires { ⌜ at + 4 ≤ length (now bytes) ⌝ }
     ensures { λ r. ⌜ r ≡ le32 (now (bytes .entry)) at ⌝ }
 {
@@ -97,7 +97,7 @@ impl Entry {
 }
 
 // Name `number` of the names' bytes.
-pub fn name_at(names: &[u8], number: usize) -> &[u8]
+pub(crate) fn name_at(names: &[u8], number: usize) -> &[u8]
     requires { ⌜ HasName (now names) number ⌝ }
     ensures { λ r. ⌜ now r ≡ getD (namesOf (length (now (names .entry))) (now (names .entry))) number [] ⌝ }
 {

@@ -1,14 +1,15 @@
 // The tests that `layout` is made of: the rules of format, specs/Rules.antt, on rows, entries and names. Private to the crate.
 ghost use mathlib.Core.Path.{_≡_};
-ghost use mathlib.Core.Bool.{true};
+ghost use mathlib.Core.Bool.{true, Bool·beq};
 ghost use Prim.Native.Nat.{_+_, _≤_, _<_};
 ghost use lib.ListN.{length};
+ghost use lib.Dec.{eqb};
 ghost use Rattle.format.specs.Fits.{before};
 ghost use Rattle.format.specs.Rules.{goodModes, goodKind, goodPlace, goodLabel, goodRow, goodRole, goodFiles, Names};
 ghost use Rattle.format.specs.Layout.{part, run, entryAt, rowTrees};
 ghost use Rattle.format.specs.Whole.{Within, Whole};
 ghost use Rattle.book.specs.Reading.{asRow, asEntry, EntryWithin};
-ghost use Rattle.book.specs.Steps.{Tells, risesTo, TreesAs, DefinitionAs, DefinitionsAs, FileAs};
+ghost use Rattle.book.specs.Steps.{Tells, risesTo, TreesAs, DefinitionAs, DefinitionsAs, FileTests, FileAs};
 use crate::kinds::Kind;
 use crate::kinds::Role;
 use crate::read::Entry;
@@ -313,6 +314,35 @@ pub fn role_fine(main: bool, last: bool, role: u16) -> bool
     false
 }
 
+// Whether an entry may be a file's, apart from its tree.
+pub fn file_fine(names: usize, main: bool, last: bool, e: Entry) -> bool
+    ensures { λ r. ⌜ Tells r (FileTests names main last (asEntry e)) ⌝ }
+{
+    if names <= e.name as usize {
+        return false;
+    }
+    if !role_fine(main, last, e.owner) {
+        return false;
+    }
+    if e.reserved != 0 {
+        return false;
+    }
+    if e.root != Entry::NO_ROOT {
+        return true;
+    }
+    e.owner != Role::INIT
+}
+
+// Whether a tree whose root has this kind may be that of a file in this role: init arguments have both, or neither.
+pub fn init_fine(kind: u8, role: u16) -> bool
+    ensures { λ r. ⌜ r ≡ Bool·beq (eqb kind 26) (eqb role 3) ⌝ }
+{
+    if kind == Kind::INIT {
+        return role == Role::INIT;
+    }
+    role != Role::INIT
+}
+
 // The entry of a file, where the trees from node `next` up to node `nodes` are left.
 pub fn file(
     rows: &[u8],
@@ -326,19 +356,10 @@ pub fn file(
     requires { ⌜ Whole (now rows) next nodes ⌝ }
     ensures { λ r. ⌜ FileAs names (now (rows .entry)) nodes main last next (asEntry e) r ⌝ }
 {
-    if names <= e.name as usize {
-        return Next::Broken;
-    }
-    if !role_fine(main, last, e.owner) {
-        return Next::Broken;
-    }
-    if e.reserved != 0 {
+    if !file_fine(names, main, last, e) {
         return Next::Broken;
     }
     if e.root == Entry::NO_ROOT {
-        if e.owner == Role::INIT {
-            return Next::Broken;
-        }
         return Next::At(next);
     }
     if nodes <= next {
@@ -348,13 +369,7 @@ pub fn file(
         return Next::Broken;
     }
     let node = Node::at(rows, next);
-    if node.kind == Kind::INIT {
-        if e.owner != Role::INIT {
-            return Next::Broken;
-        }
-        return Next::At(next + node.size);
-    }
-    if e.owner == Role::INIT {
+    if !init_fine(node.kind, e.owner) {
         return Next::Broken;
     }
     Next::At(next + node.size)

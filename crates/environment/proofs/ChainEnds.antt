@@ -16,7 +16,7 @@ use Rattle.format.specs.Whole.{Within, WholeAt, treeAt}
 use Rattle.format.proofs.Rows.{node-within}
 use Rattle.judgement.specs.Environment.{findType, End, ends, aliasEnd}
 use Rattle.environment.specs.Tables.{nameEnd, EndAt, Chains, Ended, endNode}
-use Rattle.environment.proofs.AsFunc.{node-ends, name-ends}
+use Rattle.environment.proofs.FuncEnds.{node-ends, name-ends}
 
 pub end-other : (ns ends′ : List ℕ) (node : ℕ) (r : Row) → r ≡ rowAt ns node → (r .kind ≡ 18 → ⊥) → node ≡ endNode ns ends′ node
 unfolding endNode

@@ -1,13 +1,11 @@
--- Laws that the proofs of the functions cite.
+-- Laws that the proofs of the functions cite; those that are public are for callers too.
 pub mod Links
-pub mod Names
-pub mod Defines
-pub mod Ends
-pub mod EndKinds
-pub mod Laws
-pub mod AsFunc
+mod Names
+mod BlankTable
+mod RootTable
+mod Ends
+mod EndKinds
+pub mod Definitions
+pub mod FuncEnds
 pub mod ChainEnds
-pub mod Hashes
-pub mod Same
-pub mod Merges
 pub mod Trees

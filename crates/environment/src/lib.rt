@@ -14,6 +14,7 @@ ghost use Rattle.environment.specs.Tables.{Nodes, Entries, Roots, Binds,
 pub mod merge;
 
 use book::kinds::Kind;
+use book::kinds::Limits;
 use book::read::Entry;
 use book::read::Node;
 
@@ -28,6 +29,18 @@ impl Table {
 
     // An end that is not known yet, in a table that is being made; and that of a chain that never ends.
     const OPEN: u16 = 65534;
+}
+
+// Takes all that a table has out of it.
+pub fn clear(table: &mut [u16])
+    requires { ⌜ length (now table) ≡ 1024 ⌝ }
+    ensures { λ r. ⌜ now (table .exit) ≡ blankTable ⌝ }
+{
+    let mut n = 0;
+    while n < Limits::NAMES {
+        table[n] = Table::NONE;
+        n += 1;
+    }
 }
 
 // Enters the definitions of entries `from` up to `to` in a table that has nothing: the first name defined twice, or NONE.

@@ -35,7 +35,7 @@ fn label_id(hashes: &[u32], kind: u8, label: u32) -> u32
 }
 
 // Whether two labels at a place are the same: fields by number, methods by name.
-pub fn same_label(
+fn same_label(
     hashes: &[u32],
     place: Place,
     a_kind: u8,
@@ -69,7 +69,7 @@ fn same_node(hashes: &[u32], place: Place, a: Node, b: Node) -> bool
 }
 
 // Whether the trees from node a up to node `a_until` are the same as those from node b up to node `b_until`, where all stand at `place`.
-pub fn same_trees(
+fn same_trees(
     rows: &[u8],
     hashes: &[u32],
     place: Place,

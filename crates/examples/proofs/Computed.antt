@@ -10,13 +10,12 @@ use Rattle.judgement.specs.Environment.{methodsAt, sameKind, sameForest}
 use Rattle.format.specs.Labels.{labelId, sameLabel}
 use Rattle.judgement.specs.Actor.{methodsOf, importedMethods, mergedActor}
 use Rattle.judgement.specs.Check.{serviceVerdict, importedVerdict, hashesVerdict, mainVerdict, checkBytes, initCheckBytes}
-use Rattle.listing.specs.Empty.{visitField, visitFields, visitType, visitFound, store, visitMarked, isEmpty, keysFrom, visitAll, isEmptyMark, emptyFrom, replaceEmpty}
-use Rattle.listing.specs.Emptiness.{emptyNames, emptiness}
 use Rattle.listing.specs.Recursive.{note, noteName, markArm, go, see, listed, inferFrom, inferRec, sorted}
 use Rattle.listing.specs.Project.{without, take′, projectFrom, lowest, leftOver, projected, project}
 use Rattle.refusals.specs.Outcome.{Outcome, asked, judged}
 use Rattle.listing.specs.Marks.{marked, marksOver}
 use Rattle.format.specs.Admission.{admittedBy, admitted}
+use Rattle.listing.proofs.Empty.{empty-computed}
 use Rattle.listing.proofs.Examples.{init-listed}
 use Rattle.samples.proofs.Computed.{layout-computed, samples-computed}
 use Rattle.examples.specs.Answer.{Question, Answer, refusedAs, ofVerdict, ofOutcome, spelt, listMarks, answer}
@@ -34,8 +33,7 @@ unfolding
     methodsAt sameKind labelId sameLabel sameForest
     methodsOf importedMethods mergedActor
     serviceVerdict importedVerdict hashesVerdict mainVerdict checkBytes initCheckBytes
-    visitField visitFields visitType visitFound store visitMarked isEmpty keysFrom visitAll isEmptyMark emptyFrom replaceEmpty emptyNames
-    without take′ projectFrom lowest leftOver projected project emptiness admittedBy admitted asked judged
+    empty-computed without take′ projectFrom lowest leftOver projected project admittedBy admitted asked judged
     refusedAs ofVerdict ofOutcome spelt listMarks answer
 answer-computed = answer
 

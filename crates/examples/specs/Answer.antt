@@ -16,7 +16,7 @@ use Rattle.listing.specs.Marks.{marksOver}
 use Rattle.format.specs.Admission.{onBytes}
 use Rattle.listing.specs.List as lists
 use Rattle.listing.specs.Project as projection
-use Rattle.listing.specs.Emptiness as empties
+use Rattle.listing.specs.Empty as empties
 
 -- The hash is asked of a name's bytes, all others of a book's. Marks are those of the book's own list; names are asked for by number.
 pub data Question : Type 0 where

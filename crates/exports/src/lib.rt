@@ -10,7 +10,7 @@ ghost use Rattle.listing.specs.DraftList.{draftList};
 ghost use Rattle.listing.specs.Marks.{marksOver};
 ghost use Rattle.listing.specs.Uses.{uses};
 ghost use Rattle.listing.specs.Project.{project};
-ghost use Rattle.listing.specs.Emptiness.{emptiness};
+ghost use Rattle.listing.specs.Empty.{emptiness};
 ghost use Rattle.refusals.specs.Handed.{answerOf, leftIn, usesLeft};
 ghost use Rattle.exports.specs.Coded.{coded, lowOf, codedAnswer, codedUses, Below, small, wide, inPlaces};
 use refusals::Answer;
@@ -82,7 +82,8 @@ pub extern "C" fn ludzepin_list(book: &[u8], out: &mut [u16]) -> u32
     ensures answer { λ r. ⌜ r ≡ codedAnswer (answerOf (inPlaces list (now (book .entry)) (length (now (out .entry))))) ⌝ }
     ensures left { λ _. ⌜ now (out .exit) ≡ leftIn (inPlaces list (now (book .entry)) (length (now (out .entry)))) (now (out .entry)) ⌝ }
 {
-    answer_code(questions::list(book, out))
+    let listed = questions::list(book, out);
+    answer_code(listed)
 }
 
 // The definition list of its init arguments; 512 places are always enough.
@@ -91,7 +92,8 @@ pub extern "C" fn ludzepin_init_list(book: &[u8], out: &mut [u16]) -> u32
     ensures answer { λ r. ⌜ r ≡ codedAnswer (answerOf (inPlaces initList (now (book .entry)) (length (now (out .entry))))) ⌝ }
     ensures left { λ _. ⌜ now (out .exit) ≡ leftIn (inPlaces initList (now (book .entry)) (length (now (out .entry)))) (now (out .entry)) ⌝ }
 {
-    answer_code(questions::init_list(book, out))
+    let of_init = questions::init_list(book, out);
+    answer_code(of_init)
 }
 
 // The definition list of a draft; 512 places are always enough.
@@ -100,7 +102,8 @@ pub extern "C" fn ludzepin_draft_list(book: &[u8], out: &mut [u16]) -> u32
     ensures answer { λ r. ⌜ r ≡ codedAnswer (answerOf (inPlaces draftList (now (book .entry)) (length (now (out .entry))))) ⌝ }
     ensures left { λ _. ⌜ now (out .exit) ≡ leftIn (inPlaces draftList (now (book .entry)) (length (now (out .entry)))) (now (out .entry)) ⌝ }
 {
-    answer_code(questions::draft_list(book, out))
+    let of_draft = questions::draft_list(book, out);
+    answer_code(of_draft)
 }
 
 // The names to be marked where these definitions are laid out in this order; 512 places are always enough.
@@ -111,7 +114,8 @@ pub extern "C" fn ludzepin_marks(book: &[u8], list: &[u16], out: &mut [u16]) -> 
     ensures left { λ _. ⌜ now (out .exit) ≡
         leftIn (inPlaces (λ b. marksOver b (now (list .entry))) (now (book .entry)) (length (now (out .entry)))) (now (out .entry)) ⌝ }
 {
-    answer_code(questions::marks(book, list, out))
+    let marked = questions::marks(book, list, out);
+    answer_code(marked)
 }
 
 // The names that become empty; 512 places are always enough.
@@ -120,7 +124,8 @@ pub extern "C" fn ludzepin_emptiness(book: &[u8], out: &mut [u16]) -> u32
     ensures answer { λ r. ⌜ r ≡ codedAnswer (answerOf (inPlaces emptiness (now (book .entry)) (length (now (out .entry))))) ⌝ }
     ensures left { λ _. ⌜ now (out .exit) ≡ leftIn (inPlaces emptiness (now (book .entry)) (length (now (out .entry)))) (now (out .entry)) ⌝ }
 {
-    answer_code(questions::emptiness(book, out))
+    let empty = questions::emptiness(book, out);
+    answer_code(empty)
 }
 
 // The positions of the asked methods; 4,096 places are always enough.
@@ -131,7 +136,8 @@ pub extern "C" fn ludzepin_project(book: &[u8], asked: &[u16], out: &mut [u16]) 
     ensures left { λ _. ⌜ now (out .exit) ≡
         leftIn (inPlaces (λ b. project b (now (asked .entry))) (now (book .entry)) (length (now (out .entry)))) (now (out .entry)) ⌝ }
 {
-    answer_code(questions::project(book, asked, out))
+    let taken = questions::project(book, asked, out);
+    answer_code(taken)
 }
 
 // The uses of a name, three numbers for each entry; the answer counts entries.
@@ -141,5 +147,6 @@ pub extern "C" fn ludzepin_uses(book: &[u8], name: u16, out: &mut [u16]) -> u64
     ensures left { λ _. ⌜ now (out .exit) ≡
         usesLeft (inPlaces (λ b. uses b name) (now (book .entry)) (length (now (out .entry)) / 3)) (now (out .entry)) ⌝ }
 {
-    uses_code(questions::uses(book, name, out))
+    let used = questions::uses(book, name, out);
+    uses_code(used)
 }

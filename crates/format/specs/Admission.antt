@@ -38,6 +38,6 @@ pub record BookIn (bs : Source) (P : Book → Type 0) : Type 0 where
   pub laidOut : admitted bs ≡ given book
   pub holds : P book
 
--- Source are refused by admission, or are a book, and the refusal lies in its row.
+-- Bytes are refused by admission, or are a book, and the refusal lies in its row.
 abbrev pub InRow : Source → (Book → Refusal → Type 0) → Refusal → Type 0
 InRow bs Row r = AdmissionRow bs r ⊎ BookIn bs (λ b. Row b r)

@@ -5,7 +5,7 @@
 --     decs-says, decs-refused     all of it
 use mathlib.Core.Path.{_≡_, refl, sym, ap, subst, _∙_}
 use mathlib.Core.Logic.{_↔_, _⊎_, inl, inr, ⊎-elim}
-use mathlib.Core.Bool.{Bool, true, false, _&&_, not}
+use mathlib.Core.Bool.{true, false, not}
 use mathlib.Core.List.{List, [], _∷_, _++_, map, map-append, append-assoc, List·Memᴰ, List·Memᴰ·head, List·Memᴰ·tail, List·Memᴰ·not-nil, Memᴰ·append-right}
 use Prim.Native.Nat.{ℕ, _<_}
 use native.Mathlib.Omega.{arith}
@@ -26,7 +26,7 @@ use Rattle.judgement.specs.Check.{checkForest, onceVerdict, bodiesVerdic
 use Rattle.format.specs.Distinct.{Distinct}
 use Rattle.judgement.specs.WellFormed.{definedName, Defined, StandsFor, MethodsAreFunctions, WellFormedTrees, OneMode, WellFormedDefinitions, OneModeDefinitions}
 use Rattle.judgement.specs.Rows.{Repeated, NeverEnds, DefinitionsRow, twice, circle, noFunction}
-use Rattle.refusals.proofs.Verdicts.{passed-refused, both-pass, pass-both, which-refused, unless-passed, passed-unless, unless-refused, not-says}
+use Rattle.refusals.proofs.Verdicts.{passed-refused, both-pass, pass-both, which-refused, unless-passed, passed-unless, unless-refused, unless-both, not-says}
 use Rattle.judgement.proofs.Lookup.{found-cases, not-both-found, find-body, found-defined, find-defined, find-listed}
 use Rattle.judgement.proofs.Chains.{is-circle, circle-never, leads-no-circle, func-says, bound-stands}
 use Rattle.judgement.proofs.Walks.{TreesPass, trees-well-formed, body-walk, walk-definitions-row, methods-fit, methods-unfit}
@@ -102,10 +102,6 @@ passed-circle ds n missing h = refl
 passed-circle ds n (body t) h = passed-unless (not (isCircle (aliasEnd ds t))) (Circle n) (h t refl)
 
 -- ---- 8: methods
-unless-both : (a b : Bool) (r : Refusal) → unless (a && b) r ≡ andThen (unless a r) (unless b r)
-unless-both true b r = refl
-unless-both false b r = refl
-
 methods-each : (all ds : List Definition) → unless (bodiesFit all ds) NoFunction ≡ each (λ d. unless (methodsFit all false (d .body)) NoFunction) ds
 unfolding bodiesFit each
 methods-each all [] = refl

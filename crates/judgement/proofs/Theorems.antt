@@ -24,14 +24,13 @@ use Rattle.refusals.specs.declared.Refusal.{Refusal}
 use Rattle.refusals.specs.declared.Verdict.{Verdict}
 use Rattle.refusals.specs.declared.Verdict.the-variants.{Passed, Refused}
 use Rattle.refusals.specs.Refusal.{numberOf}
-use Rattle.refusals.specs.Verdict.{andThen}
 use Rattle.judgement.specs.Environment.{roleAt, mainDefinitions, initDefinitions, findType, mergeDefinitions, kidsOf}
 use Rattle.judgement.specs.Actor.{serviceImports, mainActor, resolveActor}
 use Rattle.judgement.specs.Check.{checkForest, member, onceVerdict, bodiesVerdict, eachName, circleVerdict, bodiesFit, decsVerdict, importsVerdict, resolveVerdict, actorVerdict, check, sameVerdict, mergeVerdict, initTree, initVerdict, initCheck, checkBytes, initCheckBytes}
 use Rattle.format.specs.Distinct.{Distinct}
 use Rattle.judgement.specs.WellFormed.{definedName, WellFormed, Rust, WellFormedInit, RustInit}
 use Rattle.judgement.specs.Rows.{DefinitionsRow, TreesRow, ActorRow, CheckRow, checkRows, MergeRow, InitRow, twice, unbound, class, modes, oneway, circle, noFunction, methodNoFunction, noService, importWithoutActor, importNoService, sameHash, differs}
-use Rattle.refusals.proofs.Verdicts.{both-pass, pass-both, which-refused}
+use Rattle.refusals.proofs.Verdicts.{both-pass, pass-both, which-refused, and-passed}
 use Rattle.judgement.proofs.Lookup.{member-says, keep-none, merge-distinct}
 use Rattle.judgement.proofs.Each.{passed-names}
 use Rattle.judgement.proofs.Decs.{once-says, decs-says, decs-refused}
@@ -212,10 +211,6 @@ pub init-verdict : (b : Book) → NoInit (b .files) → initVerdict b ≡ Passed
 unfolding initVerdict mergeVerdict sameVerdict findType kidsOf checkForest
 init-verdict b h =
     rw (no-init-definitions b h, no-init-tree (b .files) h, no-decs (names b)) (pass-both (eachName (λ k. Passed) 0 (names b)) Passed (passed-names (λ k. Passed) 0 (names b) (λ i l u. refl)) refl)
-
-and-passed : (v : Verdict) → andThen v Passed ≡ v
-and-passed Passed = refl
-and-passed (Refused r) = refl
 
 pub without-init : (b : Book) → NoInit (b .files) → initCheck b ≡ check b
 unfolding initCheck

@@ -15,9 +15,9 @@ use Rattle.format.proofs.Encoded.{fit-parts}
 use Rattle.format.proofs.Logic.{says}
 use Rattle.format.proofs.Theorems.{found}
 use Rattle.refusals.specs.declared.Refusal.{Refusal}
-use Rattle.refusals.specs.declared.Refusal.the-variants.{Broken, Twice, Unbound, Class, Modes, Oneway, Circle, NoFunction, MethodNoFunction, NoService, Differs, ImportWithoutActor, ImportNoService, SameHash, Absent, Short, NoActor}
 use Rattle.refusals.specs.Refusal.{numberOf, nameOf}
 use Rattle.refusals.specs.Outcome.{Outcome, refused, given, fit}
+use Rattle.refusals.proofs.Refusals.{number-few}
 use Rattle.listing.specs.List.{list}
 use Rattle.listing.specs.Marks.{marksOver}
 use Rattle.format.specs.Admission.{onBytes}
@@ -62,25 +62,6 @@ lines-length bs marked p (n ∷ l) h =
       name-length bs n,
       lines-length bs marked (suc p) l (omega arith),
     )
-
-number-few : (why : Refusal) → numberOf why < 100
-number-few Broken = omega arith
-number-few (Twice n) = omega arith
-number-few (Unbound n) = omega arith
-number-few Class = omega arith
-number-few Modes = omega arith
-number-few Oneway = omega arith
-number-few (Circle n) = omega arith
-number-few NoFunction = omega arith
-number-few (MethodNoFunction n) = omega arith
-number-few NoService = omega arith
-number-few (Differs n) = omega arith
-number-few (ImportWithoutActor n) = omega arith
-number-few (ImportNoService n) = omega arith
-number-few (SameHash n) = omega arith
-number-few (Absent n) = omega arith
-number-few (Short n) = omega arith
-number-few NoActor = omega arith
 
 dash-length : (named : Bool) (name : List ℕ) → length name ≤ 255 → length (nameOrDash named name) ≤ 767
 unfolding nameOrDash

@@ -34,11 +34,11 @@ use Rattle.listing.proofs.Chase.{Answered, bound-answered, keep-few, li
 use Rattle.format.proofs.Admission.{admitted-fits, asked-row, row-numbers, asked-is}
 use Rattle.refusals.specs.Refusal.{numberOf}
 use Rattle.format.specs.Admission.{admitted, onBytes, admissionRows, InRow, Source}
-use Rattle.refusals.proofs.Outcomes.{given-refused, after-given, after-passed, after-refused}
+use Rattle.refusals.proofs.Outcomes.{given-refused, after-given, after-passed, after-refused, after-stops}
 use Rattle.listing.proofs.Room.{fit-row, init-short, Most, fit-most, bytes-most}
 use Rattle.listing.proofs.List.{main-bodies}
 use Rattle.listing.proofs.Demand3.{Gives, Lists, gives, lists-all}
-use Rattle.listing.specs.Room.{ShortRow, EachOnce}
+use Rattle.listing.specs.Room.{ShortRow, EachOnce, AfterCheck}
 use Rattle.refusals.specs.declared.Refusal.the-variants.{Short}
 use Rattle.listing.specs.References.{Reachable}
 
@@ -161,3 +161,8 @@ init-answers-bytes bs b read passed =
 pub init-list-none : (b : Book) → NoInit (b .files) → check b ≡ Passed → initList b ≡ given []
 unfolding initList after walked chaseTypes chase kidsOf
 init-list-none b none passed = rw (without-init b none, passed, no-init-tree (b .files) none)
+
+-- ---- The check comes first
+pub init-list-after : AfterCheck initList
+unfolding initList initCheck
+init-list-after b r e = after-stops (initCheck b) _ (rw e)

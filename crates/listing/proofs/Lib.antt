@@ -17,6 +17,5 @@ pub mod Marks
 pub mod Uses
 pub mod DefUse
 pub mod Project
-pub mod Emptiness
 pub mod Examples
 pub mod Demand3

@@ -32,7 +32,7 @@ use Rattle.judgement.specs.WellFormed.{Bound, belowTop}
 use Rattle.judgement.proofs.Theorems.{check-says, check-numbers}
 use Rattle.listing.specs.Chase.{chaseTypes, walked}
 use Rattle.refusals.specs.Outcome.{refused, given, after, fit}
-use Rattle.listing.specs.Room.{needsActor, ShortRow, EachOnce}
+use Rattle.listing.specs.Room.{needsActor, ShortRow, EachOnce, AfterCheck}
 use Rattle.listing.specs.List.{list, ListRow, listRows, checked, noActor, short}
 use Rattle.listing.proofs.Leaves.{LeafyBodies, kept-leafy, resolved-leafy}
 use Rattle.listing.proofs.Chases.{Listed}
@@ -41,7 +41,7 @@ use Rattle.format.proofs.Admission.{asked-row, row-numbers}
 use Rattle.refusals.specs.Refusal.{numberOf}
 use Rattle.format.specs.Admission.{onBytes, admissionRows, InRow, Source}
 use Rattle.refusals.proofs.Outcomes.{given-refused, after-given}
-use Rattle.listing.proofs.Room.{answered, actor-given, after-actor, fit-row, check-short, Most, fit-most, bytes-most}
+use Rattle.listing.proofs.Room.{answered, actor-given, after-actor, fit-row, check-short, Most, fit-most, bytes-most, check-stops}
 use Rattle.listing.specs.References.{Reachable}
 
 -- ---- The definitions of a book
@@ -161,3 +161,8 @@ module _ (bs : Source) (places : ℕ) {r : Refusal} (e : fit places (onBytes lis
 
 pub list-bytes-most : (bs : Source) (places : ℕ) → Most 512 (fit places (onBytes list bs))
 list-bytes-most bs places = bytes-most 512 places list (λ b fits. list-most b fits places) bs
+
+-- ---- The check comes first
+pub list-after : AfterCheck list
+unfolding list
+list-after b r e = check-stops b _ e

@@ -41,8 +41,8 @@ use Rattle.format.proofs.Admission.{asked-row, row-numbers}
 use Rattle.refusals.specs.Refusal.{numberOf}
 use Rattle.format.specs.Admission.{onBytes, admissionRows, InRow, Source}
 use Rattle.listing.specs.Chase.{walked}
-use Rattle.listing.specs.Room.{EachOnce, ShortRow}
-use Rattle.refusals.proofs.Outcomes.{given-refused, after-given, same-given, same-refusal}
+use Rattle.listing.specs.Room.{EachOnce, ShortRow, AfterCheck}
+use Rattle.refusals.proofs.Outcomes.{given-refused, after-given, same-given, same-refusal, after-stops}
 use Rattle.listing.proofs.Room.{after-check, fit-row, check-short, Most, fit-most, bytes-most}
 use Rattle.listing.proofs.Recursive.{defined-or-first, infer-marks, neither, infer-unbound, place-first, place-later, place-map, sorted-ascends, sorted-says}
 use Rattle.listing.specs.Marks as rows
@@ -278,6 +278,11 @@ module _ (b : Book) (fits : Fits b) (passed : check b ≡ Passed) where
   marks-listed {out = out} walked =
       let g = marks-given out (λ n i. walked .defined n (walked .sound n i)) in
       (g .0, g .1, marks-in walked (g .0) (g .2), omega (arith, few-marks out (g .0) (g .2), main-few b fits))
+
+-- ---- The check comes first
+pub marks-after : (l : List ℕ) → AfterCheck (λ b. marksOver b l)
+unfolding marksOver
+marks-after l b r e = after-stops (check b) _ e
 
 -- ---- What is refused
 module _ (b : Book) (fits : Fits b) (l : List ℕ) (places : ℕ) where

@@ -41,10 +41,10 @@ use Rattle.judgement.proofs.Lookup.{member-says}
 use Rattle.format.proofs.Distinct.{ascends-unique}
 use Rattle.listing.specs.Project.{without, Projection, take′, projectFrom, lowest, leftOver, projected, project, one, times, SameNames, Enough, LowestAbsent, nameAt, Positions, PositionsOf, ProjectRow, projectRows, checked, noActor, absent, short}
 use Rattle.refusals.specs.Outcome.{refused, given, after, fit}
-use Rattle.listing.specs.Room.{needsActor, ShortRow}
+use Rattle.listing.specs.Room.{needsActor, ShortRow, AfterCheck}
 use Rattle.listing.specs.Offers.{Interface}
 use Rattle.listing.proofs.Interface.{interface-methods, passed-once, passed-interface}
-use Rattle.listing.proofs.Room.{answered, actor-given, after-actor, fit-row, check-short, Most, fit-most, bytes-most}
+use Rattle.listing.proofs.Room.{answered, actor-given, after-actor, fit-row, check-short, Most, fit-most, bytes-most, check-stops}
 use Rattle.format.proofs.Logic.{same-test}
 use Rattle.format.proofs.Admission.{asked-row, row-numbers}
 use Rattle.refusals.specs.Refusal.{numberOf}
@@ -441,6 +441,11 @@ module _ (b : Book) (fits : Fits b) (passed : check b ≡ Passed) (some : resolv
 
   pub project-order : (xs ys : List ℕ) → SameNames xs ys → project b xs ≡ project b ys
   project-order xs ys s = project-answered xs ∙ projection-order methods xs ys s ∙ sym (project-answered ys)
+
+-- ---- The check comes first
+pub project-after : (l : List ℕ) → AfterCheck (λ b. project b l)
+unfolding project
+project-after l b r e = check-stops b _ e
 
 -- ---- What is refused
 module _ (b : Book) (fits : Fits b) (asked : List ℕ) (places : ℕ) where

@@ -1,6 +1,6 @@
 -- Laws of every question: of one that follows the check, of one that needs an actor, and of one whose list has to fit. Assumes nothing.
 --     actor-passed, actor-refused, ..    17
---     answered, actor-given              a question that needs an actor
+--     check-stops, actor-lacks, ..       a question that needs an actor
 --     after-check, after-actor           a refusal lies in a row of the check, or is of what follows
 --     fit-row                            .. or the list does not fit
 --     check-short, init-short            no check refuses with 16
@@ -51,7 +51,17 @@ unfolding needsActor noTrees
 actor-refused end e = (refl, cc)
 actor-refused (tree n kids next) e = passed-refused e
 
--- ---- A question that needs an actor, of a book that passes
+-- ---- A question that needs an actor
+module _ {A : Type 0} (b : Book) (o : Outcome A) where
+  -- the check refuses first
+  pub check-stops : {r : Refusal} → check b ≡ Refused r → after (andThen (check b) (needsActor (resolveActor b))) o ≡ refused r
+  unfolding after
+  check-stops e = rw e
+
+  pub actor-lacks : check b ≡ Passed → resolveActor b ≡ end → after (andThen (check b) (needsActor (resolveActor b))) o ≡ refused NoActor
+  unfolding after needsActor noTrees
+  actor-lacks e f = rw (e, f)
+
 pub answered : {A : Type 0} (b : Book) → check b ≡ Passed → (resolveActor b ≡ end → ⊥) → (o : Outcome A) →
     after (andThen (check b) (needsActor (resolveActor b))) o ≡ o
 answered b passed some o =

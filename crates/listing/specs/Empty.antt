@@ -1,15 +1,21 @@
--- `is_empty` and `replace_empty` of type_env.rs, and document 01's sentence on the names that become empty, which knows nothing of the walk
--- (proofs/Empty.antt joins the two). Definitions; assumes nothing.
+-- Emptiness: `is_empty` and `replace_empty` of type_env.rs, document 01's sentence on the names that become empty, which knows nothing of the
+-- walk (proofs/Empty.antt joins the two), the question, and what it refuses. Definitions; assumes nothing.
 use mathlib.Core.Path.{_≡_}
 use mathlib.Core.Bool.{Bool, true, false, cond}
 use mathlib.Core.List.{List, [], _∷_, List·Memᴰ}
 use Prim.Native.Nat.{ℕ, zero, suc}
-use lib.ListN.{getD, set, replicate}
+use lib.ListN.{getD, set, replicate, length}
 use Rattle.format.specs.Forest.{Forest, end, tree}
 use Rattle.format.specs.Node.{Kind, PrimT, VarT, OptT, VecT, RecordT, VariantT, FuncT, ServT, ClassT, InitT, Node}
-use Rattle.format.specs.Book.{Definition}
+use Rattle.format.specs.Book.{Definition, Book}
 use Rattle.format.specs.Occurs.{Beside}
-use Rattle.judgement.specs.Environment.{Found, missing, body, findType, isMissing, Head, named, other, headKind, head}
+use Rattle.judgement.specs.Environment.{Found, missing, body, findType, isMissing, Head, named, other, headKind, head, mainDefinitions}
+use Rattle.refusals.specs.declared.Refusal.{Refusal}
+use Rattle.refusals.specs.declared.Refusal.the-variants.{Short}
+use Rattle.refusals.specs.Outcome.{Outcome, given, after}
+use Rattle.judgement.specs.Check.{check}
+use Rattle.judgement.specs.Rows.{CheckRow, checkRows}
+use Rattle.listing.specs.Room.{ShortRow, EachOnce}
 
 -- ---- `is_empty`
 
@@ -117,3 +123,20 @@ pub record BecomesEmpty (ds : List Definition) (n : ℕ) : Type 0 where
   pub name : ℕ
   pub reached : StepsOn ds n name
   pub circle : OnCircle ds name
+
+-- ---- The question
+
+-- The question's answer for a book that passes the check.
+unfoldable pub emptyNames : Book → List ℕ
+emptyNames b = replaceEmpty (mainDefinitions b) (length (b .names))
+
+unfoldable pub emptiness : Book → Outcome (List ℕ)
+emptiness b = after (check b) (given (emptyNames b))
+
+-- Its rows: those of the check, then 16.
+pub data EmptinessRow (b : Book) (places : ℕ) : Refusal → Type 0 where
+  checked : {r : Refusal} → CheckRow b r → EmptinessRow b places r
+  short : {k : ℕ} → ShortRow places (emptiness b) (EachOnce (BecomesEmpty (mainDefinitions b))) k → EmptinessRow b places (Short k)
+
+abbrev pub emptinessRows : List ℕ
+emptinessRows = 16 ∷ checkRows

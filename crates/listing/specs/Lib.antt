@@ -14,4 +14,3 @@ pub mod DraftList
 pub mod Marks
 pub mod Uses
 pub mod Project
-pub mod Emptiness

@@ -1,15 +1,16 @@
--- What the questions' rooms share: 17, 16, and a result of names. Definitions; assumes nothing.
+-- What the questions' rooms share: the check before them, 17, 16, and a result of names. Definitions; assumes nothing.
 use mathlib.Core.Path.{_≡_}
 use mathlib.Core.Logic.{_↔_}
 use mathlib.Core.Bool.{true, false, cond}
 use mathlib.Core.List.{List, List·Memᴰ}
 use Prim.Native.Nat.{ℕ, _<_}
 use lib.ListN.{length}
+use Rattle.refusals.specs.declared.Refusal.{Refusal}
 use Rattle.refusals.specs.declared.Refusal.the-variants.{NoActor}
 use Rattle.refusals.specs.declared.Verdict.{Verdict}
-use Rattle.refusals.specs.declared.Verdict.the-variants.{Passed}
+use Rattle.refusals.specs.declared.Verdict.the-variants.{Passed, Refused}
 use Rattle.refusals.specs.Verdict.{unless}
-use Rattle.refusals.specs.Outcome.{Outcome, given}
+use Rattle.refusals.specs.Outcome.{Outcome, refused, given}
 use Rattle.format.specs.Forest.{Forest, end}
 use Rattle.format.specs.Node.{Node}
 use Rattle.format.specs.Book.{Book}
@@ -17,6 +18,10 @@ use Rattle.format.specs.Distinct.{Distinct}
 use Rattle.format.specs.Rules.{noTrees}
 use Rattle.judgement.specs.Actor.{resolveActor}
 use Rattle.judgement.specs.Check.{check}
+
+-- The check comes before the question.
+abbrev pub AfterCheck : {A : Type 0} → (Book → Outcome A) → Type 0
+AfterCheck question = (b : Book) (r : Refusal) → check b ≡ Refused r → question b ≡ refused r
 
 -- 17: the question needs an actor.
 unfoldable pub needsActor : Forest Node → Verdict

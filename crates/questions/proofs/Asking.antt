@@ -1,12 +1,11 @@
 -- From the bytes of a book to what a question answers: what holds for every question. Assumes nothing.
 --     pass-refused, pass-goes        what `pass` finds
---     after-refused, after-passed    the check refuses, or the question goes on
 --     lacks-actor, has-actor         17
---     stopped, answered              a question on bytes: refused before it, or that on the book
+--     stops, answered                a question on bytes: refused before it, or that on the book
 --     handed-refused, handed-as, ..  what is handed over then
 --     init-stops, init-goes          the init check
 use mathlib.Core.Path.{_≡_, refl, sym, ap, subst, _∙_}
-use mathlib.Core.Bool.{Bool, true, false, not, _||_, false≢true}
+use mathlib.Core.Bool.{Bool, true, false, not, _||_}
 use mathlib.Core.List.{List}
 use Prim.Native.Nat.{ℕ}
 use lib.Dec.{eqb}
@@ -38,9 +37,10 @@ use Rattle.typing.specs.declared.prog.Found.{Found}
 use Rattle.typing.specs.Passing.{PassedAs, foundNone, FoundAs}
 use Rattle.typing.specs.declared.init.InitFound.{InitFound}
 use Rattle.typing.specs.Init.{InitFoundAs}
-use Rattle.typing.proofs.Passed.{no-actor, some-actor}
-use Rattle.listing.specs.Room.{needsActor}
-use Rattle.questions.specs.Stages.{BookPassed, PassAs, AfterCheck}
+use Rattle.typing.proofs.prog.Book.{no-actor, some-actor}
+use Rattle.listing.specs.Room.{AfterCheck, needsActor}
+use Rattle.listing.proofs.Room as rooms
+use Rattle.questions.specs.Stages.{BookPassed, PassAs}
 
 -- ---- What `pass` finds
 module _ (bs roots ends′ : List ℕ) where
@@ -67,39 +67,14 @@ module _ (bs roots ends′ : List ℕ) where
         refused = λ h. let z = x .refused h in z ∙ ap (λ (d : Contents). foundNone d (r .verdict)) (sym (ap (λ (y : Found). y .passed .contents) z));
       }
 
--- ---- The check first, and then 17
-module _ {A : Type 0} (o : Outcome A) where
-  pub after-refused : (v w : Verdict) {r : Refusal} → v ≡ Refused r → after (andThen v w) o ≡ refused r
-  unfolding after
-  after-refused v w e = rw e
-
-  pub after-alone : (v : Verdict) {r : Refusal} → v ≡ Refused r → after v o ≡ refused r
-  unfolding after
-  after-alone v e = rw e
-
-  pub after-passed : (v : Verdict) → v ≡ passes → after v o ≡ o
-  unfolding after
-  after-passed v e = rw e
-
-  actor-lacks : (v : Verdict) (t : Forest Node) → v ≡ passes → t ≡ end → after (andThen v (needsActor t)) o ≡ refused NoActor
-  unfolding after needsActor noTrees
-  actor-lacks v t e f = rw (e, f)
-
-  actor-has : (v : Verdict) (t : Forest Node) → v ≡ passes → (t ≡ end → ⊥) → after (andThen v (needsActor t)) o ≡ o
-  unfolding after needsActor noTrees
-  actor-has v t e some = rw e (go t some)
-    where
-      go : (t : Forest Node) → (t ≡ end → ⊥) → after (needsActor t) o ≡ o
-      go end h = absurd (h refl)
-      go (tree n kids next) h = refl
-
+-- ---- 17
 module _ {bs : List ℕ} {c : Contents} {a : Admitted bs c} {roots ends′ : List ℕ} {p : Passed} (x : PassedAs a roots ends′ p) {has : Bool}
     (is : has ≡ (p .interface .merged || not (eqb (p .interface .root) 65535))) {A : Type 0} (o : Outcome A) where
   pub lacks-actor : has ≡ false → after (andThen (check (a .book)) (needsActor (resolveActor (a .book)))) o ≡ refused NoActor
-  lacks-actor f = actor-lacks o (check (a .book)) (resolveActor (a .book)) (x .passed) (no-actor x is f)
+  lacks-actor f = rooms.actor-lacks (a .book) o (x .passed) (no-actor x is f)
 
   pub has-actor : has ≡ true → after (andThen (check (a .book)) (needsActor (resolveActor (a .book)))) o ≡ o
-  has-actor f = actor-has o (check (a .book)) (resolveActor (a .book)) (x .passed) (some-actor x is f)
+  has-actor f = rooms.answered (a .book) (x .passed) (some-actor x is f) o
 
 -- ---- A question on bytes
 module _ {A : Type 0} (question : Book → Outcome A) (bs : List ℕ) where
@@ -107,9 +82,9 @@ module _ {A : Type 0} (question : Book → Outcome A) (bs : List ℕ) where
   unfolding asked
   unadmitted e = rw (admission-refuses bs e)
 
-  pub stopped : AfterCheck question → {r : Refusal} → checkBytes bs ≡ Refused r → onBytes question bs ≡ refused r
+  pub stops : AfterCheck question → {r : Refusal} → checkBytes bs ≡ Refused r → onBytes question bs ≡ refused r
   unfolding checkBytes judged asked
-  stopped first {r} = go (admitted bs)
+  stops first {r} = go (admitted bs)
     where
       go : (o : Outcome Book) → judged check o ≡ Refused r → asked question o ≡ refused r
       go (refused q) e = ap refused cc
@@ -134,10 +109,6 @@ pub uses-as : {o p : Outcome (List Use)} {old new : List ℕ} {r : Answer} → o
 uses-as {old = old} {new = new} {r = r} e x = subst (λ q. UsesAs q old new r) (sym e) x
 
 -- ---- The init check, which is no question but starts in the same way
-pub is-passed : (v : Verdict) → isPassed v ≡ true → v ≡ passes
-is-passed passes e = refl
-is-passed (Refused r) e = absurd (false≢true e)
-
 module _ {bs roots ends′ : List ℕ} where
   pub init-stops : {r : Found} → PassAs bs roots ends′ r → isPassed (r .verdict) ≡ false → r .verdict ≡ initCheckBytes bs
   unfolding checkBytes initCheckBytes judged initCheck

@@ -12,7 +12,7 @@ use Rattle.environment.specs.Tables.{Tabled}
 use Rattle.listing.specs.Chase.{chaseTypes, walked}
 use Rattle.analysis.specs.declared.chase.Walk.{Walk}
 use Rattle.analysis.specs.Walking.{Counted, WalkedAs}
-use Rattle.analysis.proofs.Handing.{hand-stopped, hand-given, hand-short}
+use Rattle.analysis.proofs.hand.Laws.{hand-stopped, hand-given, hand-short}
 use Rattle.questions.specs.Answers.{WalkSays}
 
 -- The walk over these definitions, which the table of roots is of.

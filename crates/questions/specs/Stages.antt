@@ -3,14 +3,12 @@ use mathlib.Core.Path.{_≡_}
 use mathlib.Core.Bool.{false}
 use mathlib.Core.List.{List}
 use Prim.Native.Nat.{ℕ}
-use Rattle.refusals.specs.declared.Refusal.{Refusal}
-use Rattle.refusals.specs.declared.Verdict.the-variants.{Passed as passes, Refused}
+use Rattle.refusals.specs.declared.Verdict.the-variants.{Passed as passes}
 use Rattle.refusals.specs.Verdict.{isPassed}
-use Rattle.refusals.specs.Outcome.{Outcome, refused, given}
-use Rattle.format.specs.Book.{Book}
+use Rattle.refusals.specs.Outcome.{given}
 use Rattle.format.specs.Admission.{admitted}
 use Rattle.book.specs.declared.kinds.Contents.{Contents}
-use Rattle.judgement.specs.Check.{check, checkBytes}
+use Rattle.judgement.specs.Check.{checkBytes}
 use Rattle.typing.specs.declared.prog.Passed.{Passed}
 use Rattle.typing.specs.declared.prog.Found.{Found}
 use Rattle.typing.specs.Passing.{foundNone, PassedBook}
@@ -30,7 +28,3 @@ pub record PassAs (bs roots ends′ : List ℕ) (r : Found) : Type 0 where
   pub verdict : r .verdict ≡ checkBytes bs
   pub passed : r .verdict ≡ passes → BookPassed bs roots ends′ (r .passed)
   pub refused : isPassed (r .verdict) ≡ false → r ≡ foundNone (r .passed .contents) (r .verdict)
-
--- A question that the check comes before.
-abbrev pub AfterCheck : {A : Type 0} → (Book → Outcome A) → Type 0
-AfterCheck question = (b : Book) (r : Refusal) → check b ≡ Refused r → question b ≡ refused r

@@ -11,9 +11,9 @@ ghost use Rattle.listing.specs.DraftList.{draftList};
 ghost use Rattle.listing.specs.Marks.{marksOver};
 ghost use Rattle.listing.specs.Uses.{uses};
 ghost use Rattle.listing.specs.Project.{project};
-ghost use Rattle.listing.specs.Emptiness.{emptiness};
+ghost use Rattle.listing.specs.Empty.{emptiness};
 
-pub mod passed;
+mod passed;
 mod stages;
 
 use admission::Admission;
@@ -147,6 +147,6 @@ pub fn emptiness(book: &[u8], out: &mut [u16]) -> Answer
     let p = found.passed;
     match v {
         Verdict::Refused(why) => Answer::Refused(why),
-        Verdict::Passed => passed::emptiness::emptiness_passed(book, p, &roots, &ends, out),
+        Verdict::Passed => passed::empty::emptiness_passed(book, p, &roots, &ends, out),
     }
 }

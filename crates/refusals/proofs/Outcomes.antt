@@ -1,7 +1,7 @@
 -- Laws of outcomes. Assumes nothing.
 --     given-refused, same-given, same-refusal    what equal outcomes tell
 --     fit-said, fit-given                        an outcome in so many places
---     after-given, after-passed, after-refused   an outcome that follows a verdict
+--     after-passed, after-stops, ..              an outcome that follows a verdict
 use mathlib.Core.Path.{_≡_, refl}
 use mathlib.Core.Logic.{_⊎_, inl, inr}
 use mathlib.Core.Bool.{Bool, true, false, cond}
@@ -29,6 +29,10 @@ same-refusal e = cc
 pub after-passed : {A : Type 0} (v : Verdict) (o : Outcome A) → v ≡ Passed → after v o ≡ o
 unfolding after
 after-passed v o e = rw e
+
+pub after-stops : {A : Type 0} (v : Verdict) (o : Outcome A) {r : Refusal} → v ≡ Refused r → after v o ≡ refused r
+unfolding after
+after-stops v o e = rw e
 
 pub after-given : {A : Type 0} (v : Verdict) (o : Outcome A) {l : A} → after v o ≡ given l → (v ≡ Passed) × (o ≡ given l)
 unfolding after

@@ -1,5 +1,4 @@
 -- Laws that the proofs of the functions cite.
-pub mod Verdicts
 pub mod Book
 pub mod Lists
 pub mod Stored

@@ -17,7 +17,7 @@ use Rattle.format.proofs.References.{kind-alone}
 use Rattle.format.proofs.Stored.{tree-opens}
 use Rattle.judgement.specs.Environment.{isServKind, kidsOf}
 use Rattle.judgement.specs.Actor.{isClassKind, isClass}
-use Rattle.environment.proofs.AsFunc.{as-test}
+use Rattle.environment.proofs.FuncEnds.{as-test}
 
 -- ---- a kind by its number
 pub class-kind : (k v : ℕ) → isClassKind (kindOf k v) ≡ eqb k 25

@@ -1,6 +1,6 @@
 -- What resolving the actor of a book asks and says. Definitions; assumes nothing.
 use mathlib.Core.Path.{_≡_}
-use mathlib.Core.Bool.{true, cond}
+use mathlib.Core.Bool.{true, false, cond}
 use mathlib.Core.List.{List, [], _∷_}
 use Prim.Native.Nat.{ℕ, _≤_, _<_}
 use lib.Dec.{eqb}
@@ -22,7 +22,7 @@ use Rattle.environment.specs.Tables.{Tabled}
 use Rattle.syntax.specs.declared.actor.Service.{Service}
 use Rattle.syntax.specs.declared.actor.Services.{Services}
 use Rattle.syntax.specs.declared.actor.Resolved.{Resolved}
-use Rattle.syntax.specs.Interfaces.{IsService, methodsIn, ActorAs}
+use Rattle.syntax.specs.Interfaces.{IsService, methodsIn, noInterface, ActorAs}
 
 -- ---- One service
 
@@ -69,6 +69,10 @@ pub record ServicesAs (ns roots : List ℕ) (count definitions root : ℕ) (impo
 
 -- ---- The actor
 
+-- A refusal has no interface.
+abbrev pub resolvedNone : Verdict → Resolved
+resolvedNone v = record { verdict = v; interface = noInterface }
+
 -- With service imports: main and each import have a verdict, and their services make the actor.
 pub record MergedActorAs {bs : List ℕ} {c : Contents} (a : Admitted bs c) (roots : List ℕ) (main : ℕ) (r : Resolved) : Type 0 where
   pub verdict : (ds : List Definition) → Tabled (nodesPart bs) roots main ds →
@@ -76,6 +80,7 @@ pub record MergedActorAs {bs : List ℕ} {c : Contents} (a : Admitted bs c) (roo
   pub merged : isPassed (r .verdict) ≡ true → r .interface .merged ≡ true
   pub actor : isPassed (r .verdict) ≡ true → (ds : List Definition) → Tabled (nodesPart bs) roots main ds →
       ActorAs (nodesPart bs) (c .nodes) ds (mergedActor ds (mainActor (a .book)) (serviceImports (a .book .files))) (r .interface)
+  pub refused : isPassed (r .verdict) ≡ false → r ≡ resolvedNone (r .verdict)
 
 -- The actor that is resolved under these definitions.
 pub record ResolvedAs {bs : List ℕ} {c : Contents} (a : Admitted bs c) (ds : List Definition) (r : Resolved) : Type 0 where
@@ -83,3 +88,4 @@ pub record ResolvedAs {bs : List ℕ} {c : Contents} (a : Admitted bs c) (ds : L
       resolveVerdict (a .book .names) ds (mainActor (a .book)) (serviceImports (a .book .files)) (resolveWith ds (mainActor (a .book)) (serviceImports (a .book .files)))
   pub actor : isPassed (r .verdict) ≡ true →
       ActorAs (nodesPart bs) (c .nodes) ds (resolveWith ds (mainActor (a .book)) (serviceImports (a .book .files))) (r .interface)
+  pub refused : isPassed (r .verdict) ≡ false → r ≡ resolvedNone (r .verdict)

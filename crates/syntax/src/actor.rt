@@ -16,7 +16,7 @@ ghost use Rattle.environment.specs.Trees.{AllTrees};
 ghost use Rattle.syntax.specs.Files.{Listed, listedFiles, FilesPassed};
 ghost use Rattle.syntax.specs.Classes.{BelowAs, TopAs};
 ghost use Rattle.syntax.specs.Interfaces.{methodsIn, InterfaceNodes, ActorAs};
-ghost use Rattle.syntax.specs.Resolving.{serviceAt, ServiceAs, MainAs, MainService, serviceCount, ServicesAs, MergedActorAs, ResolvedAs};
+ghost use Rattle.syntax.specs.Resolving.{serviceAt, ServiceAs, MainAs, MainService, serviceCount, ServicesAs, resolvedNone, MergedActorAs, ResolvedAs};
 use crate::class::Top;
 use crate::files::Files;
 use crate::files::Imports;
@@ -157,7 +157,7 @@ fn written(rows: &[u8], ends: &[u16], root: u16, top: Top) -> Interface
 
 // A refusal, without an interface.
 fn refused(verdict: Verdict) -> Resolved
-    ensures { λ r. ⌜ r .verdict ≡ verdict ⌝ }
+    ensures { λ r. ⌜ r ≡ resolvedNone verdict ⌝ }
 {
     let interface = crate::interface::no_interface();
     Resolved { verdict, interface }
@@ -234,10 +234,13 @@ fn merge(book: &[u8], c: Contents, files: Files, main: usize, roots: &[u16], top
     }
     let imports = files.imports;
     let s = import_services(book, c, imports, main, roots, m);
-    let verdict = s.verdict;
+    let w = s.verdict;
+    if !w.passed() {
+        return refused(w);
+    }
     let services = s.nodes;
     Resolved {
-        verdict,
+        verdict: w,
         interface: Interface {
             merged: true,
             root: files.root,
@@ -291,6 +294,9 @@ pub fn resolve_actor(
     }
     let interface = merged.interface;
     let hashed = check_hashes(book, c, interface);
+    if !hashed.passed() {
+        return refused(hashed);
+    }
     Resolved {
         verdict: hashed,
         interface,

@@ -1,8 +1,10 @@
--- The verdict of a node by its stored kind. Assumes nothing.
-use mathlib.Core.Path.{_≡_, refl, _∙_}
+-- A type by its row: what stands below it, and its verdict by its kind. Assumes nothing.
+--     RowRead, row-name, row-kids, ..     a tree of the book whose row is read
+--     at-prim, at-var, at-func, ..        the verdict
+use mathlib.Core.Path.{_≡_, refl, sym, ap, _∙_}
 use mathlib.Core.Bool.{Bool, false, not, _&&_, and-true, and-false}
 use mathlib.Core.List.{List, [], _∷_}
-use Prim.Native.Nat.{ℕ, zero, suc, _+_, _/_, _%_, _≤_, _<_}
+use Prim.Native.Nat.{ℕ, zero, suc, _+_, _-_, _*_, _/_, _%_, _≤_, _<_}
 use native.Mathlib.Decide.{ℕ-discrete}
 use native.Mathlib.Omega.{arith}
 use borrow.Author.Tests.{ne-eqb}
@@ -19,7 +21,39 @@ use Rattle.refusals.specs.Verdict.{unless}
 use Rattle.judgement.specs.Environment.{isServKind}
 use Rattle.judgement.specs.Check.{nameVerdict, kindVerdict, checkForest}
 use Rattle.environment.specs.Tables.{foundAt, Binds}
+use Rattle.environment.specs.Trees.{Trees, Methods}
+use Rattle.environment.proofs.Trees.{kids-trees, row-fits, kids-methods}
 use Rattle.typing.specs.Walk.{boundVerdict, valueVerdict, typeVerdict, funcVerdict}
+
+-- ---- a tree of the book whose row is read
+pub record RowRead (ns roots ends′ : List ℕ) (n : ℕ) (r : Row) : Type 0 where
+  pub tree : Trees ns roots ends′ n (n + rowAt ns n .size)
+  pub some : n < n + rowAt ns n .size
+  pub is : r ≡ rowAt ns n
+
+module _ {ns roots ends′ : List ℕ} {n : ℕ} {r : Row} (x : RowRead ns roots ends′ n r) where
+  pub row-kind : r .kind < 27
+  row-kind = rw (x .is) (row-fits (x .tree) (x .some) .kind)
+
+  pub row-name : r .kind ≡ 18 → (length roots ≡ 1024) × (r .value < 1024)
+  row-name k =
+      let v = row-fits (x .tree) (x .some) .name (sym (ap (λ (q : Row). q .kind) (x .is)) ∙ k) in
+      (x .tree .walk .bound .long, omega (arith, v, x .tree .walk .nodes .fewNames, ap (λ (q : Row). q .value) (x .is)))
+
+  pub row-few : (n + 1 ≤ 4096) × (n + r .size ≤ 4096)
+  row-few =
+      let inside = x .tree .inside in
+      let few = x .tree .walk .nodes .fewNodes in
+      (omega (arith, x .some, inside, few), omega (arith, inside, few, ap (λ (q : Row). q .size) (x .is)))
+
+  pub row-kids : Trees ns roots ends′ (n + 1) (n + r .size)
+  row-kids = rw (x .is) (kids-trees (x .tree) (x .some))
+
+  pub row-methods : r .kind ≡ 24 → Methods ns roots ends′ (n + 1) (n + r .size)
+  row-methods k = rw (x .is) (kids-methods (x .tree) (x .some) (sym (ap (λ (q : Row). q .kind) (x .is)) ∙ k))
+
+  pub row-weight : (t : ℕ) → 2 * rowAt ns n .size ≡ t → 2 * (n + r .size - (n + 1)) + 1 < t
+  row-weight t e = omega (arith, e, x .some, ap (λ (q : Row). q .size) (x .is))
 
 -- ---- kinds 0 to 17
 abbrev prims : List Kind
@@ -82,7 +116,7 @@ other-kind k a b c d e f P p q r s t = go (ℕ-discrete k 19) (ℕ-discrete k 20
 -- ---- a node by its kind
 module _ (pre : Bool) (ds : List Definition) (ns : List ℕ) (n : ℕ) (r : Row) (is : r ≡ rowAt ns n) where
   abbrev kids : Forest Node
-  kids = siblings ns (n + 1) (n + rowAt ns n .size)
+  kids = siblings ns (n + 1) (n + r .size)
 
   pub at-prim : r .kind < 18 → Passed ≡ typeVerdict pre ds ns n
   unfolding typeVerdict kindVerdict nodeOf
@@ -110,5 +144,5 @@ module _ (pre : Bool) (ds : List Definition) (ns : List ℕ) (n : ℕ) (r : Row)
   at-fields a b c d e f =
       rw (← is)
       (other-kind (r .kind) a b c d e f
-      (λ (k : ℕ). checkForest pre false ds (siblings ns (n + 1) (n + r .size)) ≡ kindVerdict ds (kindOf k (r .value)) (breadth (siblings ns (n + 1) (n + r .size))) (checkForest pre (not pre && isServKind (kindOf k (r .value))) ds (siblings ns (n + 1) (n + r .size))))
+      (λ (k : ℕ). checkForest pre false ds kids ≡ kindVerdict ds (kindOf k (r .value)) (breadth kids) (checkForest pre (not pre && isServKind (kindOf k (r .value))) ds kids))
       (rw (and-false (not pre))) (rw (and-false (not pre))) (rw (and-false (not pre))) (rw (and-false (not pre))) (rw (and-false (not pre))))

@@ -20,7 +20,7 @@ use Rattle.judgement.specs.Environment.{asFunc}
 use Rattle.judgement.specs.Check.{methodVerdict, checkForest}
 use Rattle.environment.specs.Tables.{endIs}
 use Rattle.environment.proofs.Trees.{opened, rest-trees, one-at-least, row-within}
-use Rattle.syntax.proofs.Verdicts.{and-on, and-stops}
+use Rattle.refusals.proofs.Verdicts.{and-on, and-stops}
 use Rattle.environment.specs.Trees.{Trees, Methods}
 use Rattle.typing.specs.Walk.{Env, valueVerdict, typeVerdict, funcVerdict}
 

@@ -1,2 +1,2 @@
 -- Laws of the actor.
-pub mod Laws
+mod Laws

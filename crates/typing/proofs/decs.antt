@@ -1,2 +1,2 @@
 -- Laws of definitions.
-pub mod Laws
+mod Laws

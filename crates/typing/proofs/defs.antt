@@ -1,3 +1,3 @@
 -- Laws of the bodies of definitions.
 pub mod Entries
-pub mod Fits
+mod Fits

@@ -1,2 +1,2 @@
 -- Laws of init arguments.
-pub mod Laws
+mod Laws

@@ -1,2 +1,3 @@
 -- Laws of the check of a book.
 pub mod Laws
+pub mod Book

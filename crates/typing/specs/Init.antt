@@ -20,6 +20,7 @@ use Rattle.environment.specs.Merging.{MergedAs}
 use Rattle.typing.specs.declared.init.InitFound.{InitFound}
 use Rattle.environment.specs.Trees.{AllTrees}
 use Rattle.book.specs.Reading.{Admitted}
+use Rattle.book.specs.Tables.{blankTable}
 use Rattle.syntax.specs.Files.{initAt, SplitAs}
 
 -- The definitions whose names a table of roots lacks.
@@ -56,9 +57,13 @@ pub record OwnPassed {bs : List ℕ} {c : Contents} (a : Admitted bs c) (own : L
   pub split : SplitAs (definitionsPart bs) (c .definitions) init main
   pub own-as : OwnDecsAs bs c main own Passed
 
--- Two tables are merged, and have a verdict.
-pub record MergeAs {bs : List ℕ} {c : Contents} (a : Admitted bs c) (own roots both : List ℕ) (v : Verdict) : Type 0 where
+-- The verdict of the definitions that two tables are of.
+pub record MergeAs {bs : List ℕ} {c : Contents} (a : Admitted bs c) (own roots : List ℕ) (v : Verdict) : Type 0 where
   pub verdict : (ids ds : List Definition) → Binds (nodesPart bs) own ids → Binds (nodesPart bs) roots ds → v ≡ mergeVerdict (a .book .names) ids ds
+
+-- They passed, and are merged into one table.
+pub record Merged {bs : List ℕ} {c : Contents} (a : Admitted bs c) (own roots both : List ℕ) : Type 0 where
+  pub passed : MergeAs a own roots Passed
   pub table : MergedAs own roots both
 
 -- The definitions that a table is of, where every chain ends.
@@ -91,7 +96,14 @@ pub record InitPassedAs (rows : List ℕ) (b : Book) (both : List ℕ) (r : Init
   pub whole : Whole rows (r .from) (r .until)
   pub within : r .until ≤ count (trees b)
 
+pub record InitSeenAs {bs : List ℕ} {c : Contents} (a : Admitted bs c) (both : List ℕ) (r : InitFound) : Type 0 where
+  pub verdict : r .verdict ≡ initVerdict (a .book)
+  pub passed : r .verdict ≡ Passed → InitPassedAs (nodesPart bs) (a .book) both r
+  pub refused : isPassed (r .verdict) ≡ false → r ≡ initNone (r .verdict)
+
+-- The same, and where they are refused, the table has nothing, as it was lent.
 pub record InitFoundAs {bs : List ℕ} {c : Contents} (a : Admitted bs c) (both : List ℕ) (r : InitFound) : Type 0 where
   pub verdict : r .verdict ≡ initVerdict (a .book)
   pub passed : r .verdict ≡ Passed → InitPassedAs (nodesPart bs) (a .book) both r
   pub refused : isPassed (r .verdict) ≡ false → r ≡ initNone (r .verdict)
+  pub left : isPassed (r .verdict) ≡ false → both ≡ blankTable

@@ -40,7 +40,7 @@ pub fn check_defs(
 }
 
 // Whether each method of each service in the trees from node `from` up to node `until` is a function. `tested`: these trees are methods.
-pub fn validate_type(rows: &[u8], ends: &[u16], tested: bool, from: usize, until: usize) -> bool
+fn validate_type(rows: &[u8], ends: &[u16], tested: bool, from: usize, until: usize) -> bool
     requires { ⌜ ((roots : List ℕ) × Trees (now rows) roots (now ends) from until) ⌝ }
     ensures { λ r. ⌜ FitAs (now (rows .entry)) (now (ends .entry)) tested from until r ⌝ }
 {

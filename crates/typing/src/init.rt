@@ -8,7 +8,7 @@ ghost use Rattle.format.specs.Book.{Definition};
 ghost use Rattle.book.specs.Tables.{blankTable};
 ghost use Rattle.environment.specs.Tables.{Entries, Roots, definitionsIn};
 ghost use Rattle.book.specs.Reading.{Admitted};
-ghost use Rattle.typing.specs.Init.{lacked, InitFile, NoInitFile, OwnDecsAs, OwnPassed, MergeAs, Seen, initNone, ArgumentsFound, InitFoundAs};
+ghost use Rattle.typing.specs.Init.{lacked, InitFile, NoInitFile, OwnDecsAs, OwnPassed, MergeAs, Merged, Seen, initNone, ArgumentsFound, InitSeenAs, InitFoundAs};
 ghost use Rattle.typing.specs.Passing.{PassedBook};
 use crate::prog::Passed;
 use book::kinds::Contents;
@@ -27,7 +27,7 @@ pub struct InitFound {
 }
 
 // Refused arguments have nothing to go on with.
-fn stopped(verdict: Verdict) -> InitFound
+fn refused(verdict: Verdict) -> InitFound
     ensures { λ r. ⌜ r ≡ initNone verdict ⌝ }
 {
     InitFound {
@@ -47,12 +47,11 @@ fn check_own(book: &[u8], c: Contents, main: usize, own: &mut [u16]) -> Verdict
     crate::decs::check_decs(book, c, main, c.definitions, own, &mut ends)
 }
 
-// 11, and the table of both into `both`.
-fn merge(book: &[u8], c: Contents, own: &[u16], roots: &[u16], both: &mut [u16]) -> Verdict
-    requires { ⌜ Admitted (now book) c × Roots (now own) (c .nodes) × Roots (now roots) (c .nodes) × (length (now both) ≡ 1024) ⌝ }
-    ensures { λ r. ⌜ ((a : Admitted (now (book .entry)) c) → MergeAs a (now (own .entry)) (now (roots .entry)) (now (both .exit)) r) ⌝ }
+// 11: the init file's definitions against main's.
+fn merge(book: &[u8], c: Contents, own: &[u16], roots: &[u16]) -> Verdict
+    requires { ⌜ Admitted (now book) c × Roots (now own) (c .nodes) × Roots (now roots) (c .nodes) ⌝ }
+    ensures { λ r. ⌜ ((a : Admitted (now (book .entry)) c) → MergeAs a (now (own .entry)) (now (roots .entry)) r) ⌝ }
 {
-    environment::merge::merged(own, roots, both);
     let hashes = book::tables::name_hashes(c.names(book), c.names);
     let rows = c.nodes(book);
     environment::merge::merge(rows, &hashes, own, roots, c.names)
@@ -95,7 +94,7 @@ fn check_arguments(book: &[u8], c: Contents, both: &[u16], count: usize, root: u
     let until = root + n.size;
     let verdict = crate::check_fields(rows, both, &ends, false, from, until);
     if !verdict.passed() {
-        return stopped(verdict);
+        return refused(verdict);
     }
     InitFound {
         verdict,
@@ -105,7 +104,27 @@ fn check_arguments(book: &[u8], c: Contents, both: &[u16], count: usize, root: u
     }
 }
 
-// The merge with main's definitions, and the arguments under both.
+// The arguments of file `init` under the definitions of both, whose table is `both`.
+fn check_seen(
+    book: &[u8],
+    p: Passed,
+    own: &[u16],
+    init: usize,
+    main: usize,
+    both: &[u16],
+) -> InitFound
+    requires { ⌜ ((roots ends : List ℕ) × (x : PassedBook (now book) roots ends p) × OwnPassed (x .admitted) (now own) init main × Merged (x .admitted) (now own) roots (now both)) ⌝ }
+    ensures { λ r. ⌜ ((roots ends : List ℕ) (x : PassedBook (now (book .entry)) roots ends p) → OwnPassed (x .admitted) (now (own .entry)) init main →
+        Merged (x .admitted) (now (own .entry)) roots (now (both .entry)) → InitSeenAs (x .admitted) (now (both .entry)) r) ⌝ }
+{
+    let c = p.contents;
+    let entries = c.definitions(book);
+    let count = merged_count(entries, own, c.names, c.nodes, c.definitions - main, main);
+    let e = Entry::at(c.files(book), init);
+    check_arguments(book, c, both, count, e.root as usize)
+}
+
+// The merge with main's definitions, and the arguments under both. Refused arguments leave a table that has nothing, as it was lent.
 fn check_both(
     book: &[u8],
     p: Passed,
@@ -115,24 +134,27 @@ fn check_both(
     main: usize,
     both: &mut [u16],
 ) -> InitFound
-    requires { ⌜ ((ends : List ℕ) × (x : PassedBook (now book) (now roots) ends p) × OwnPassed (x .admitted) (now own) init main) × (length (now both) ≡ 1024) ⌝ }
+    requires { ⌜ ((ends : List ℕ) × (x : PassedBook (now book) (now roots) ends p) × OwnPassed (x .admitted) (now own) init main) × (now both ≡ blankTable) ⌝ }
     ensures { λ r. ⌜ ((ends : List ℕ) (x : PassedBook (now (book .entry)) (now (roots .entry)) ends p) → OwnPassed (x .admitted) (now (own .entry)) init main →
         InitFoundAs (x .admitted) (now (both .exit)) r) ⌝ }
 {
-    let c = p.contents;
-    let w = merge(book, c, own, roots, both);
+    let w = merge(book, p.contents, own, roots);
     if !w.passed() {
-        return stopped(w);
+        return refused(w);
     }
-    let entries = c.definitions(book);
-    let count = merged_count(entries, own, c.names, c.nodes, c.definitions - main, main);
-    let e = Entry::at(c.files(book), init);
-    check_arguments(book, c, both, count, e.root as usize)
+    environment::merge::merged(own, roots, both);
+    let found = check_seen(book, p, own, init, main, both);
+    let v = found.verdict;
+    if !v.passed() {
+        environment::clear(both);
+        return found;
+    }
+    found
 }
 
 // The init file, of number `init`: its own definitions first.
 fn check_file(book: &[u8], p: Passed, roots: &[u16], init: usize, both: &mut [u16]) -> InitFound
-    requires { ⌜ ((ends : List ℕ) × (x : PassedBook (now book) (now roots) ends p) × InitFile (x .admitted) init) × (length (now both) ≡ 1024) ⌝ }
+    requires { ⌜ ((ends : List ℕ) × (x : PassedBook (now book) (now roots) ends p) × InitFile (x .admitted) init) × (now both ≡ blankTable) ⌝ }
     ensures { λ r. ⌜ ((ends : List ℕ) (x : PassedBook (now (book .entry)) (now (roots .entry)) ends p) → InitFile (x .admitted) init → InitFoundAs (x .admitted) (now (both .exit)) r) ⌝ }
 {
     let c = p.contents;
@@ -140,7 +162,7 @@ fn check_file(book: &[u8], p: Passed, roots: &[u16], init: usize, both: &mut [u1
     let mut own = book::tables::blank();
     let v = check_own(book, c, main, &mut own);
     if !v.passed() {
-        return stopped(v);
+        return refused(v);
     }
     check_both(book, p, roots, &own, init, main, both)
 }
@@ -161,7 +183,8 @@ fn no_file(book: &[u8], p: Passed, roots: &[u16], both: &mut [u16]) -> InitFound
     }
 }
 
-// The init arguments of a book that passed: refusals 2 to 9 and 11. The table of the definitions that they see goes into `both`.
+// The init arguments of a book that passed: refusals 2 to 9 and 11. The table of the definitions that they see goes into `both`, which has
+// nothing before, and nothing where they are refused.
 pub fn check_init_args(book: &[u8], p: Passed, roots: &[u16], both: &mut [u16]) -> InitFound
     requires { ⌜ ((ends : List ℕ) × PassedBook (now book) (now roots) ends p) × (now both ≡ blankTable) ⌝ }
     ensures { λ r. ⌜ ((ends : List ℕ) (x : PassedBook (now (book .entry)) (now (roots .entry)) ends p) → InitFoundAs (x .admitted) (now (both .exit)) r) ⌝ }

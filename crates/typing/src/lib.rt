@@ -58,7 +58,7 @@ fn check_modes(value: u32, kids: usize) -> Verdict
 }
 
 // The type at node n. While bodies are walked (`pre`) methods are not tested for being functions.
-pub fn check_type(rows: &[u8], roots: &[u16], ends: &[u16], pre: bool, n: usize) -> Verdict
+fn check_type(rows: &[u8], roots: &[u16], ends: &[u16], pre: bool, n: usize) -> Verdict
     requires { ⌜ Trees (now rows) (now roots) (now ends) n (n + rowAt (now rows) n .size) × (n < n + rowAt (now rows) n .size) ⌝ }
     ensures { λ r. ⌜ ((ds : List Definition) → Env (now (rows .entry)) (now (roots .entry)) (now (ends .entry)) pre ds → r ≡ typeVerdict pre ds (now (rows .entry)) n) ⌝ }
 {
@@ -84,7 +84,7 @@ pub fn check_type(rows: &[u8], roots: &[u16], ends: &[u16], pre: bool, n: usize)
 }
 
 // The types from node `from` up to node `until`.
-pub fn check_fields(
+fn check_fields(
     rows: &[u8],
     roots: &[u16],
     ends: &[u16],
@@ -146,7 +146,7 @@ fn method_fits(rows: &[u8], ends: &[u16], pre: bool, n: usize) -> bool
 }
 
 // The methods from node `from` up to node `until`.
-pub fn check_meths(
+fn check_meths(
     rows: &[u8],
     roots: &[u16],
     ends: &[u16],

@@ -4,7 +4,7 @@ use mathlib.Core.Path.{_≡_, sym, ap, _∙_}
 use native.Mathlib.Omega.{arith}
 use lib.ListN.{length, getD}
 use Rattle.environment.proofs.Links.{getD-within}
-use Rattle.environment.proofs.Defines.{TableLeft, table-start, table-end, name-fits, table-twice, table-on}
+use Rattle.environment.proofs.RootTable.{TableLeft, table-start, table-end, name-fits, table-twice, table-on}
 use Rattle.book.proofs.Blank.{blank-length}
 use Rattle.environment.proofs.enter.Statement.{statement}
 use Rattle.environment.proofs.enter.Tie as tie

@@ -4,7 +4,7 @@ use native.Mathlib.Omega.{arith}
 use lib.ListN.{length}
 use Rattle.exports.specs.Coded.{codedAnswer, Below, small}
 use Rattle.exports.proofs.Small.{most-below}
-use Rattle.listing.proofs.Emptiness.{emptiness-bytes-most}
+use Rattle.listing.proofs.Empty.{emptiness-bytes-most}
 use borrow.Author.Needs.{needs}
 use Rattle.exports.proofs.ludzepin_emptiness.Statement.{statement}
 use Rattle.exports.proofs.ludzepin_emptiness.Tie as tie

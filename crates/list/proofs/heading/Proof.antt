@@ -31,7 +31,10 @@ same-length c = search needs
 
 returns : tie.Need-returns
 unfolding heading
-returns c = then (then (then (then (c .before .before .before .before .before .before .before .before .before .before .before .before .before .before .before .before .before .before .before .bytes .ensures) (c .before .before .before .before .before .before .before .before .before .before .before .before .before .before .before .decimal .ensures)) (c .before .before .before .before .before .before .before .before .before .before .bytes2 .ensures)) (c .before .before .before .before .before .before .decimal2 .ensures)) (c .before .before .byte .ensures)
+returns c =
+    let marked : tie.After-decimal2 = c .before .before .before .before .before .before in
+    let listed : tie.After-decimal = marked .before .before .before .before .before .before .before .before .before in
+    then (then (then (then (listed .before .before .before .before .bytes .ensures) (listed .decimal .ensures)) (marked .before .before .before .before .bytes2 .ensures)) (marked .decimal2 .ensures)) (c .before .before .byte .ensures)
 
 pub heading-spec : {M : Type 1} → statement M
 heading-spec =

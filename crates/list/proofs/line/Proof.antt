@@ -28,7 +28,10 @@ same-length c = search needs
 
 returns : tie.Need-returns
 unfolding line
-returns c = then (then (then (then (then (c .before .before .before .before .before .before .before .before .before .before .before .before .before .before .before .before .before .before .before .before .before .before .decimal .ensures) (c .before .before .before .before .before .before .before .before .before .before .before .before .before .before .before .before .before .before .byte .ensures)) (c .before .before .before .before .before .before .before .before .before .before .before .before .before .before .byte2 .ensures)) (c .before .before .before .before .before .before .before .before .before .before .byte3 .ensures)) (c .before .before .before .before .before .before .quoted .ensures)) (c .before .before .byte4 .ensures)
+returns c =
+    let named : tie.After-quoted = c .before .before .before .before .before .before in
+    let marked : tie.After-byte2 = named .before .before .before .before .before .before .before .before in
+    then (then (then (then (then (marked .before .before .before .before .before .before .before .before .decimal .ensures) (marked .before .before .before .before .byte .ensures)) (marked .byte2 .ensures)) (named .before .before .before .before .byte3 .ensures)) (named .quoted .ensures)) (c .before .before .byte4 .ensures)
 
 pub line-spec : {M : Type 1} → statement M
 line-spec =

@@ -37,7 +37,7 @@ line-requires : tie.Need-line-requires Inv-loop μ-loop
 line-requires c κs = tt
 
 add-i : tie.Need-add-i Inv-loop μ-loop
-add-i c = omega (arith, c .before .before .before .before .before .before .before .loop-test .taken, c .before .before .before .before .before .before .before .before .before .before .before .before .before .good)
+add-i c = let turn : tie.In-loop Inv-loop μ-loop = c .before .before .before .before .before .before .before in omega (arith, turn .loop-test .taken, turn .before .before .before .before .before .before .good)
 
 loop-less : tie.Need-loop-less Inv-loop μ-loop
 loop-less c = omega (arith, c .before .before .before .before .before .before .before .loop-test .taken)

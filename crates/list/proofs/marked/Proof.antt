@@ -39,13 +39,17 @@ same-length : tie.Need-same-length
 same-length c = search needs
 
 returns : tie.Need-returns
-returns c = alias (marks-refused _ _ (c .before .before .before .before .before .before .before .before .marks .ensures) (c .before .before .before .before .before .before .before .before .before .before .room-for-marks .ensures) (c .before .before .before .before .before .why .given .1)) (c .before .before .refusal .ensures)
+returns c =
+    let asked : tie.After-marks = c .before .before .before .before .before .before .before .before in
+    alias (marks-refused _ _ (asked .marks .ensures) (asked .before .before .room-for-marks .ensures) (c .before .before .before .before .before .why .given .1)) (c .before .before .refusal .ensures)
 
 same-length-2 : tie.Need-same-length-2
 same-length-2 c = search needs
 
 returns-2 : tie.Need-returns-2
-returns-2 c = alias (marks-given _ _ (c .before .before .before .before .before .before .before .before .before .marks .ensures) (c .before .before .before .before .before .before .before .before .before .before .before .room-for-marks .ensures) (c .before .before .before .before .before .before .count .given .1)) (c .before .before .table .ensures)
+returns-2 c =
+    let asked : tie.After-marks = c .before .before .before .before .before .before .before .before .before in
+    alias (marks-given _ _ (asked .marks .ensures) (asked .before .before .room-for-marks .ensures) (c .before .before .before .before .before .before .count .given .1)) (c .before .before .table .ensures)
 
 pub marked-spec : {M : Type 1} → statement M
 marked-spec =

@@ -39,13 +39,17 @@ same-length : tie.Need-same-length
 same-length c = search needs
 
 returns : tie.Need-returns
-returns c = printed-laid _ (c .before .before .before .before .before .before .before .before .before .before .before .before .before .pre) (list-refused _ (c .before .before .before .before .before .before .before .before .list .ensures) (c .before .before .before .before .before .before .before .before .before .before .room-for-list .ensures) (c .before .before .before .before .before .why .given .1)) (c .before .before .refusal .ensures)
+returns c =
+    let asked : tie.After-list = c .before .before .before .before .before .before .before .before in
+    printed-laid _ (asked .before .before .before .before .before .pre) (list-refused _ (asked .list .ensures) (asked .before .before .room-for-list .ensures) (c .before .before .before .before .before .why .given .1)) (c .before .before .refusal .ensures)
 
 same-length-2 : tie.Need-same-length-2
 same-length-2 c = search needs
 
 returns-2 : tie.Need-returns-2
-returns-2 c = printed-laid _ (c .before .before .before .before .before .before .before .before .before .before .before .before .before .before .pre) (list-given _ (c .before .before .before .before .before .before .before .before .before .list .ensures) (c .before .before .before .before .before .before .before .before .before .before .before .room-for-list .ensures) (c .before .before .before .before .before .before .count .given .1)) (c .before .before .marked .ensures)
+returns-2 c =
+    let asked : tie.After-list = c .before .before .before .before .before .before .before .before .before in
+    printed-laid _ (asked .before .before .before .before .before .pre) (list-given _ (asked .list .ensures) (asked .before .before .room-for-list .ensures) (c .before .before .before .before .before .before .count .given .1)) (c .before .before .marked .ensures)
 
 pub print-spec : {M : Type 1} → statement M
 print-spec =

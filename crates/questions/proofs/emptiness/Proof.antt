@@ -1,15 +1,15 @@
 -- `emptiness` meets its contract: admission, the check, and the question. Assumes nothing.
 use mathlib.Core.Path.{sym, _∙_}
-use Rattle.listing.specs.Emptiness.{emptiness}
-use Rattle.questions.proofs.Asking.{stopped, answered, handed-refused, handed-as}
-use Rattle.questions.proofs.passed.emptiness.Laws.{emptiness-after}
+use Rattle.listing.specs.Empty.{emptiness}
+use Rattle.questions.proofs.Asking.{stops, answered, handed-refused, handed-as}
+use Rattle.listing.proofs.Empty.{emptiness-after}
 use borrow.Author.Needs.{needs}
 use Rattle.questions.proofs.emptiness.Statement.{statement}
 use Rattle.questions.proofs.emptiness.Tie as tie
 use Rattle.questions.proofs.emptiness.Reads as reads
 use Rattle.questions.proofs.emptiness.Lts as lts
 use Rattle.book.proofs.tables.blank.Reads as blank-reads
-use Rattle.questions.proofs.passed.emptiness.emptiness_passed.Reads as emptiness-passed-reads
+use Rattle.questions.proofs.passed.empty.emptiness_passed.Reads as emptiness-passed-reads
 use Rattle.questions.proofs.stages.pass.Reads as pass-reads
 
 blank-requires : tie.Need-blank-requires
@@ -43,13 +43,15 @@ emptiness-passed-requires : tie.Need-emptiness-passed-requires
 emptiness-passed-requires c κs = c .before .before .before .before .before .before .before .before .pass .ensures .passed (c .before .before .before .enum-told .given .1) .book
 
 returns : tie.Need-returns
-returns c = handed-refused _ (stopped emptiness _ emptiness-after (sym (c .before .before .before .before .before .before .pass .ensures .verdict) ∙ c .before .v .given .1))
+returns c = handed-refused _ (stops emptiness _ emptiness-after (sym (c .before .before .before .before .before .before .pass .ensures .verdict) ∙ c .before .v .given .1))
 
 same-length : tie.Need-same-length
 same-length c = search needs
 
 returns-2 : tie.Need-returns-2
-returns-2 c = let x = c .before .before .before .before .before .before .before .before .before .before .before .pass .ensures .passed (c .before .before .before .before .before .before .enum-told .given .1) in handed-as (answered emptiness _ (x .is)) (c .before .before .emptiness-passed .ensures (x .book))
+returns-2 c =
+    let at-emptiness-passed = c .before .before in
+    let x = at-emptiness-passed .before .before .before .before .before .before .before .before .before .pass .ensures .passed (at-emptiness-passed .before .before .before .before .enum-told .given .1) in handed-as (answered emptiness _ (x .is)) (at-emptiness-passed .emptiness-passed .ensures (x .book))
 
 pub emptiness-spec : {M : Type 1} → statement M
 emptiness-spec =

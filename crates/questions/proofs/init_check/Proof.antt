@@ -1,7 +1,8 @@
 -- `init_check` meets its contract: admission, the check, and the init arguments. Assumes nothing.
 use mathlib.Core.Path.{sym, _∙_}
 use borrow.Author.Tests.{not-true, not-false}
-use Rattle.questions.proofs.Asking.{init-stops, init-goes, is-passed}
+use Rattle.refusals.proofs.Verdicts.{passed-is as is-passed}
+use Rattle.questions.proofs.Asking.{init-stops, init-goes}
 use borrow.Author.Needs.{needs}
 use Rattle.questions.proofs.init_check.Statement.{statement}
 use Rattle.questions.proofs.init_check.Tie as tie
@@ -46,7 +47,9 @@ check-init-args-requires : tie.Need-check-init-args-requires
 check-init-args-requires c κs = ((_, c .before .before .before .before .before .before .before .before .pass .ensures .passed (is-passed _ (sym (c .before .before .before .before .before .passed .ensures) ∙ not-false _ (c .before .before .before .before .if1 .left))) .book), c .before .before .blank3 .ensures)
 
 returns-2 : tie.Need-returns-2
-returns-2 c = let x = c .before .before .before .before .before .before .before .before .before .before .pass .ensures .passed (is-passed _ (sym (c .before .before .before .before .before .before .before .passed .ensures) ∙ not-false _ (c .before .before .before .before .before .before .if1 .left))) in init-goes x (c .before .check-init-args .ensures _ (x .book))
+returns-2 c =
+    let at-check-init-args = c .before in
+    let x = at-check-init-args .before .before .before .before .before .before .before .before .before .pass .ensures .passed (is-passed _ (sym (at-check-init-args .before .before .before .before .before .before .passed .ensures) ∙ not-false _ (at-check-init-args .before .before .before .before .before .if1 .left))) in init-goes x (at-check-init-args .check-init-args .ensures _ (x .book))
 
 pub init-check-spec : {M : Type 1} → statement M
 init-check-spec =

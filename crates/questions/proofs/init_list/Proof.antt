@@ -1,8 +1,8 @@
 -- `init_list` meets its contract: admission, the check, and the question. Assumes nothing.
 use mathlib.Core.Path.{sym, _∙_}
 use Rattle.listing.specs.InitList.{initList}
-use Rattle.questions.proofs.Asking.{stopped, answered, handed-refused, handed-as}
-use Rattle.questions.proofs.passed.init_list.Laws.{init-list-after}
+use Rattle.questions.proofs.Asking.{stops, answered, handed-refused, handed-as}
+use Rattle.listing.proofs.InitList.{init-list-after}
 use borrow.Author.Needs.{needs}
 use Rattle.questions.proofs.init_list.Statement.{statement}
 use Rattle.questions.proofs.init_list.Tie as tie
@@ -43,13 +43,15 @@ init-list-passed-requires : tie.Need-init-list-passed-requires
 init-list-passed-requires c κs = c .before .before .before .before .before .before .before .before .pass .ensures .passed (c .before .before .before .enum-told .given .1) .book
 
 returns : tie.Need-returns
-returns c = handed-refused _ (stopped initList _ init-list-after (sym (c .before .before .before .before .before .before .pass .ensures .verdict) ∙ c .before .v .given .1))
+returns c = handed-refused _ (stops initList _ init-list-after (sym (c .before .before .before .before .before .before .pass .ensures .verdict) ∙ c .before .v .given .1))
 
 same-length : tie.Need-same-length
 same-length c = search needs
 
 returns-2 : tie.Need-returns-2
-returns-2 c = let x = c .before .before .before .before .before .before .before .before .before .before .before .pass .ensures .passed (c .before .before .before .before .before .before .enum-told .given .1) in handed-as (answered initList _ (x .is)) (c .before .before .init-list-passed .ensures (x .book))
+returns-2 c =
+    let at-init-list-passed = c .before .before in
+    let x = at-init-list-passed .before .before .before .before .before .before .before .before .before .pass .ensures .passed (at-init-list-passed .before .before .before .before .enum-told .given .1) in handed-as (answered initList _ (x .is)) (at-init-list-passed .init-list-passed .ensures (x .book))
 
 pub init-list-spec : {M : Type 1} → statement M
 init-list-spec =

@@ -1,8 +1,8 @@
 -- `list` meets its contract: admission, the check, and the question. Assumes nothing.
 use mathlib.Core.Path.{sym, _∙_}
 use Rattle.listing.specs.List.{list}
-use Rattle.questions.proofs.Asking.{stopped, answered, handed-refused, handed-as}
-use Rattle.questions.proofs.passed.list.Laws.{list-after}
+use Rattle.questions.proofs.Asking.{stops, answered, handed-refused, handed-as}
+use Rattle.listing.proofs.List.{list-after}
 use borrow.Author.Needs.{needs}
 use Rattle.questions.proofs.list.Statement.{statement}
 use Rattle.questions.proofs.list.Tie as tie
@@ -43,13 +43,15 @@ list-passed-requires : tie.Need-list-passed-requires
 list-passed-requires c κs = c .before .before .before .before .before .before .before .before .pass .ensures .passed (c .before .before .before .enum-told .given .1) .book
 
 returns : tie.Need-returns
-returns c = handed-refused _ (stopped list _ list-after (sym (c .before .before .before .before .before .before .pass .ensures .verdict) ∙ c .before .v .given .1))
+returns c = handed-refused _ (stops list _ list-after (sym (c .before .before .before .before .before .before .pass .ensures .verdict) ∙ c .before .v .given .1))
 
 same-length : tie.Need-same-length
 same-length c = search needs
 
 returns-2 : tie.Need-returns-2
-returns-2 c = let x = c .before .before .before .before .before .before .before .before .before .before .before .pass .ensures .passed (c .before .before .before .before .before .before .enum-told .given .1) in handed-as (answered list _ (x .is)) (c .before .before .list-passed .ensures (x .book))
+returns-2 c =
+    let at-list-passed = c .before .before in
+    let x = at-list-passed .before .before .before .before .before .before .before .before .before .pass .ensures .passed (at-list-passed .before .before .before .before .enum-told .given .1) in handed-as (answered list _ (x .is)) (at-list-passed .list-passed .ensures (x .book))
 
 pub list-spec : {M : Type 1} → statement M
 list-spec =

@@ -1,7 +1,7 @@
 -- `marks` meets its contract: admission, the check, and the question. Assumes nothing.
 use mathlib.Core.Path.{sym, _∙_}
-use Rattle.questions.proofs.Asking.{stopped, answered, handed-refused, handed-as}
-use Rattle.questions.proofs.passed.marks.Laws.{marks-after}
+use Rattle.questions.proofs.Asking.{stops, answered, handed-refused, handed-as}
+use Rattle.listing.proofs.Marks.{marks-after}
 use borrow.Author.Needs.{needs}
 use Rattle.questions.proofs.marks.Statement.{statement}
 use Rattle.questions.proofs.marks.Tie as tie
@@ -42,13 +42,15 @@ marks-passed-requires : tie.Need-marks-passed-requires
 marks-passed-requires c κs = c .before .before .before .before .before .before .before .before .pass .ensures .passed (c .before .before .before .enum-told .given .1) .book
 
 returns : tie.Need-returns
-returns c = handed-refused _ (stopped _ _ (marks-after _) (sym (c .before .before .before .before .before .before .pass .ensures .verdict) ∙ c .before .v .given .1))
+returns c = handed-refused _ (stops _ _ (marks-after _) (sym (c .before .before .before .before .before .before .pass .ensures .verdict) ∙ c .before .v .given .1))
 
 same-length : tie.Need-same-length
 same-length c = search needs
 
 returns-2 : tie.Need-returns-2
-returns-2 c = let x = c .before .before .before .before .before .before .before .before .before .before .before .pass .ensures .passed (c .before .before .before .before .before .before .enum-told .given .1) in handed-as (answered _ _ (x .is)) (c .before .before .marks-passed .ensures (x .book))
+returns-2 c =
+    let at-marks-passed = c .before .before in
+    let x = at-marks-passed .before .before .before .before .before .before .before .before .before .pass .ensures .passed (at-marks-passed .before .before .before .before .enum-told .given .1) in handed-as (answered _ _ (x .is)) (at-marks-passed .marks-passed .ensures (x .book))
 
 pub marks-spec : {M : Type 1} → statement M
 marks-spec =

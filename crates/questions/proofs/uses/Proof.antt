@@ -1,7 +1,7 @@
 -- `uses` meets its contract: admission, the check, and the question. Assumes nothing.
 use mathlib.Core.Path.{sym, _∙_}
-use Rattle.questions.proofs.Asking.{stopped, answered, uses-refused, uses-as}
-use Rattle.questions.proofs.passed.uses.Laws.{uses-after}
+use Rattle.questions.proofs.Asking.{stops, answered, uses-refused, uses-as}
+use Rattle.listing.proofs.Uses.{uses-after}
 use borrow.Author.Needs.{needs}
 use Rattle.questions.proofs.uses.Statement.{statement}
 use Rattle.questions.proofs.uses.Tie as tie
@@ -42,13 +42,15 @@ uses-passed-requires : tie.Need-uses-passed-requires
 uses-passed-requires c κs = c .before .before .before .before .before .before .before .before .pass .ensures .passed (c .before .before .before .enum-told .given .1) .book
 
 returns : tie.Need-returns
-returns c = uses-refused _ (stopped _ _ (uses-after _) (sym (c .before .before .before .before .before .before .pass .ensures .verdict) ∙ c .before .v .given .1))
+returns c = uses-refused _ (stops _ _ (uses-after _) (sym (c .before .before .before .before .before .before .pass .ensures .verdict) ∙ c .before .v .given .1))
 
 same-length : tie.Need-same-length
 same-length c = search needs
 
 returns-2 : tie.Need-returns-2
-returns-2 c = let x = c .before .before .before .before .before .before .before .before .before .before .before .pass .ensures .passed (c .before .before .before .before .before .before .enum-told .given .1) in uses-as (answered _ _ (x .is)) (c .before .before .uses-passed .ensures (x .book))
+returns-2 c =
+    let at-uses-passed = c .before .before in
+    let x = at-uses-passed .before .before .before .before .before .before .before .before .before .pass .ensures .passed (at-uses-passed .before .before .before .before .enum-told .given .1) in uses-as (answered _ _ (x .is)) (at-uses-passed .uses-passed .ensures (x .book))
 
 pub uses-spec : {M : Type 1} → statement M
 uses-spec =

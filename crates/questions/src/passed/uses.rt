@@ -72,7 +72,7 @@ pub fn uses_passed(
     let c = p.contents;
     let rows = c.nodes(book);
     let entries = c.definitions(book);
-    let flags = analysis::reaching::reaching(entries, rows, c.names, c.nodes, p.main, wanted);
-    let near = analysis::reaching::nearest(rows, c.nodes, &flags);
+    let mut near = analysis::reaching::no_places();
+    analysis::reaching::find_nearest(entries, rows, c.names, c.nodes, p.main, wanted, &mut near);
     hand_uses(rows, ends, &near, i, out)
 }

@@ -20,7 +20,7 @@ use Rattle.judgement.specs.Environment.{head, End, unbound, circle, ends, alias
 use Rattle.judgement.specs.Actor.{isClass, belowClass}
 use Rattle.environment.specs.Tables.{EndNodes, EndAt, Chains, Ended, endNode}
 use Rattle.environment.specs.Trees.{AllTrees}
-use Rattle.environment.proofs.AsFunc.{stays}
+use Rattle.environment.proofs.FuncEnds.{stays}
 use Rattle.environment.proofs.ChainEnds.{end-at, end-inside, end-whole}
 use Rattle.syntax.specs.declared.class.Top.{Top}
 use Rattle.syntax.specs.declared.interface.Interface.{Interface}

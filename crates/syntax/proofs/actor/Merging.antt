@@ -36,8 +36,8 @@ use Rattle.syntax.specs.declared.interface.Interface.{Interface}
 use Rattle.syntax.specs.Files.{Listed, listedFiles, FilesPassed}
 use Rattle.syntax.specs.Classes.{TopAs}
 use Rattle.syntax.specs.Interfaces.{IsService, methodsIn, noServices, interfaceTree, ActorAs}
-use Rattle.syntax.specs.Resolving.{ServiceAs, MainAs, MainService, Gathered, ServicesAs, MergedActorAs, ResolvedAs}
-use Rattle.syntax.proofs.Verdicts.{and-on, and-stops, and-assoc}
+use Rattle.syntax.specs.Resolving.{ServiceAs, MainAs, MainService, Gathered, ServicesAs, resolvedNone, MergedActorAs, ResolvedAs}
+use Rattle.refusals.proofs.Verdicts.{and-on, and-stops, and-assoc}
 use Rattle.syntax.proofs.Lists.{take-none, take-push, push-each, no-long, left-cons, left-none}
 use Rattle.syntax.proofs.Book.{main-actor-is, file-table, files-in}
 use Rattle.syntax.proofs.interface.Laws.{merged-arguments, merged-below, merged-methods}
@@ -205,20 +205,35 @@ module _ {bs : List ℕ} {c : Contents} (a : Admitted bs c) {r : Files} (x : Fil
       v ≡ andThen (mainVerdict ds (mainActor (a .book))) (importedVerdict ds (imports a))
   verdict-as ds q = q ∙ ap₂ (λ (u : Forest Node) (l : List File). andThen (mainVerdict ds u) (importedVerdict ds l)) (files-main a x) (sym (files-imports a x))
 
-  pub main-refused : {roots : List ℕ} {main : ℕ} {m : Service} → MainAs (ns a) roots (c .nodes) main (r .root) m → isPassed (m .verdict) ≡ false → {z : Resolved} → z .verdict ≡ m .verdict → MergedActorAs a roots main z
-  main-refused {m = m} s p e =
+  pub main-refused : {roots : List ℕ} {main : ℕ} {m : Service} → MainAs (ns a) roots (c .nodes) main (r .root) m → isPassed (m .verdict) ≡ false → {z : Resolved} → z ≡ resolvedNone (m .verdict) → MergedActorAs a roots main z
+  main-refused {m = m} s p q =
+      let e = ap (λ (w : Resolved). w .verdict) q in
       let never : isPassed (m .verdict) ≡ true → ⊥ = λ h. true≢false (sym h ∙ p) in
       let is = listedFiles (ns a) (filesPart bs) (take (r .imports .count) (r .imports .files)) in
       record {
         verdict = λ ds t. e ∙ verdict-as ds (sym (ap (λ (v : Verdict). andThen v (importedVerdict ds is)) (sym (s .verdict ds t)) ∙ and-stops (m .verdict) _ p));
         merged = λ h. absurd (never (ap isPassed (sym e) ∙ h));
         actor = λ h. absurd (never (ap isPassed (sym e) ∙ h));
+        refused = λ h. q ∙ ap resolvedNone (sym e);
+      }
+
+  pub imports-refused : {roots : List ℕ} {main : ℕ} {s : Services} →
+      ServicesAs (ns a) roots (c .nodes) main (r .root) (listedFiles (ns a) (filesPart bs) (take (r .imports .count) (r .imports .files))) s →
+      isPassed (s .verdict) ≡ false → {z : Resolved} → z ≡ resolvedNone (s .verdict) → MergedActorAs a roots main z
+  imports-refused {s = s} k p q =
+      let e = ap (λ (w : Resolved). w .verdict) q in
+      let never : isPassed (s .verdict) ≡ true → ⊥ = λ h. true≢false (sym h ∙ p) in
+      record {
+        verdict = λ ds t. e ∙ verdict-as ds (k .verdict ds t);
+        merged = λ h. absurd (never (ap isPassed (sym e) ∙ h));
+        actor = λ h. absurd (never (ap isPassed (sym e) ∙ h));
+        refused = λ h. q ∙ ap resolvedNone (sym e);
       }
 
   pub merge-as : {roots : List ℕ} {main : ℕ} {top : Top} → TopAs (ns a) (c .nodes) (r .root) top → {z : Services} →
-      ServicesAs (ns a) roots (c .nodes) main (r .root) (listedFiles (ns a) (filesPart bs) (take (r .imports .count) (r .imports .files))) z →
+      ServicesAs (ns a) roots (c .nodes) main (r .root) (listedFiles (ns a) (filesPart bs) (take (r .imports .count) (r .imports .files))) z → isPassed (z .verdict) ≡ true →
       MergedActorAs a roots main (record { verdict = z .verdict; interface = record { merged = true; root = r .root; from = top .from; until = top .until; count = z .count; services = z .nodes } })
-  merge-as {top = top} t {z} s =
+  merge-as {top = top} t {z} s p =
       let i : Interface = record { merged = true; root = r .root; from = top .from; until = top .until; count = z .count; services = z .nodes } in
       record {
         verdict = λ ds y. verdict-as ds (s .verdict ds y);
@@ -226,6 +241,7 @@ module _ {bs : List ℕ} {c : Contents} (a : Admitted bs c) {r : Files} (x : Fil
         actor = λ e ds y.
             subst (λ (u : Forest Node). ActorAs (ns a) (c .nodes) ds u i) (ap₂ (mergedActor ds) (files-main a x) (sym (files-imports a x)))
             (gathered-actor (s .gathered e) (root-inside a x) t ds y);
+        refused = λ h. absurd (true≢false (sym p ∙ h));
       }
 
   -- ---- without service imports
@@ -239,6 +255,7 @@ module _ {bs : List ℕ} {c : Contents} (a : Admitted bs c) {r : Files} (x : Fil
         record {
           verdict = sym (ap (λ (l : List File). resolveVerdict (a .book .names) ds (mainActor (a .book)) l (resolveWith ds (mainActor (a .book)) l)) no-imports);
           actor = λ e. subst (λ (u : Forest Node). ActorAs (ns a) (c .nodes) ds u i) (files-main a x ∙ sym (ap (resolveWith ds (mainActor (a .book))) no-imports)) y;
+          refused = λ h. absurd (true≢false h);
         }
 
   -- ---- with some
@@ -275,6 +292,7 @@ module _ {bs : List ℕ} {c : Contents} (a : Admitted bs c) {r : Files} (x : Fil
             record {
               verdict = sym (whole-is ∙ and-stops (z .verdict) hashed p);
               actor = λ e. absurd (true≢false (sym e ∙ p));
+              refused = y .refused;
             }
 
         module _ (p : isPassed (z .verdict) ≡ true) where
@@ -287,7 +305,18 @@ module _ {bs : List ℕ} {c : Contents} (a : Admitted bs c) {r : Files} (x : Fil
               ap (λ (u : Forest Node). kidsOf (belowClass u)) (sym (merged-actor .tree))
               ∙ rw (y .merged p) (ap kidsOf (merged-below (actorAt (ns a) (z .interface .root)) (methodsIn (ns a) (take (z .interface .count) (z .interface .services)))))
 
-          pub resolved-merged : {w : Verdict} → w ≡ hashesVerdict (a .book .names) [] (methodsIn (ns a) (take (z .interface .count) (z .interface .services))) →
-              ResolvedAs a ds (record { verdict = w; interface = z .interface })
-          resolved-merged q =
-              record { verdict = q ∙ ap (hashesVerdict (a .book .names) []) (sym methods-are) ∙ sym (whole-is ∙ and-on (z .verdict) hashed p); actor = λ e. merged-actor }
+          module _ {w : Verdict} (q : w ≡ hashesVerdict (a .book .names) [] (methodsIn (ns a) (take (z .interface .count) (z .interface .services)))) where
+            hashes-are : w ≡ resolveVerdict (a .book .names) ds (mainActor (a .book)) (imports a) (resolveWith ds (mainActor (a .book)) (imports a))
+            hashes-are = q ∙ ap (hashesVerdict (a .book .names) []) (sym methods-are) ∙ sym (whole-is ∙ and-on (z .verdict) hashed p)
+
+            pub hashes-refused : isPassed w ≡ false → {u : Resolved} → u ≡ resolvedNone w → ResolvedAs a ds u
+            hashes-refused f e =
+                let v = ap (λ (y : Resolved). y .verdict) e in
+                record {
+                  verdict = v ∙ hashes-are;
+                  actor = λ h. absurd (true≢false (sym h ∙ ap isPassed v ∙ f));
+                  refused = λ h. e ∙ ap resolvedNone (sym v);
+                }
+
+            pub resolved-merged : isPassed w ≡ true → ResolvedAs a ds (record { verdict = w; interface = z .interface })
+            resolved-merged h = record { verdict = hashes-are; actor = λ e. merged-actor; refused = λ f. absurd (true≢false (sym h ∙ f)) }

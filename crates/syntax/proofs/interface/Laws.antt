@@ -15,7 +15,7 @@ use Rattle.format.proofs.Stored.{tree-opens, actor-none, actor-some}
 use Rattle.judgement.specs.Environment.{headKind, head, ends, aliasEnd, asService, kidsOf, methodsAt}
 use Rattle.judgement.specs.Actor.{isClassKind, isClass, allButLast, classArguments, belowClass, serviceOf, classOf, mergedOf}
 use Rattle.judgement.proofs.Classes.{last-beside, others-beside}
-use Rattle.environment.proofs.AsFunc.{stays}
+use Rattle.environment.proofs.FuncEnds.{stays}
 use Rattle.syntax.specs.declared.interface.Interface.{Interface}
 use Rattle.syntax.specs.Interfaces.{interfaceTree, ActorAs, InterfaceAs}
 

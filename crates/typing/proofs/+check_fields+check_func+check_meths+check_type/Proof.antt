@@ -1,20 +1,19 @@
 -- The proof of the cycle of calls {check_fields, check_func, check_meths, check_type}. A walk over types weighs two for each node and one
 -- more, a type two for each node: so every call weighs less. Assumes nothing.
 use mathlib.Core.Path.{refl, sym, ap, _∙_}
-use mathlib.Core.Bool.{false, not}
+use mathlib.Core.Bool.{false}
 use Prim.Native.Nat.{ℕ, _+_, _-_, _*_, _<_}
 use native.Mathlib.Omega.{arith}
 use borrow.Author.Tests.{not-true, not-false}
 use borrow.Fn.Kinds.{In}
 use borrow.Fn.PlainCycle.{Measures, is, falls, and}
 use Rattle.format.specs.Encode.{Row}
-use Rattle.format.specs.Layout.{rowAt, siblings}
+use Rattle.book.specs.Reading.{asRow}
+use Rattle.format.specs.Layout.{rowAt}
 use Rattle.refusals.specs.declared.Refusal as refusal
 use Rattle.refusals.specs.declared.Verdict.the-variants.{Refused}
-use Rattle.judgement.specs.Check.{checkForest}
-use Rattle.typing.specs.Walk.{funcVerdict}
-use Rattle.typing.proofs.Nodes.{at-prim, at-var, at-func, at-service, at-class, at-fields}
-use Rattle.environment.proofs.Trees.{ends-inside, one-at-least, kids-trees, this-tree, row-within, row-fits, ended, method-label, kids-methods}
+use Rattle.typing.proofs.Nodes.{RowRead, row-kind, row-name, row-few, row-kids, row-methods, row-weight, at-prim, at-var, at-func, at-service, at-class, at-fields}
+use Rattle.environment.proofs.Trees.{ends-inside, one-at-least, this-tree, row-within, ended, method-label}
 use Rattle.typing.proofs.Walk.{WalkLeft, walk-start, walk-end, walk-stop, walk-method, walk-on, untested, method-refused, MethodsLeft, methods-start, methods-on, FuncLeft, func-start, func-end, func-stop, func-on}
 use Rattle.typing.proofs.check_fields.Reads as check-fields
 use Rattle.typing.proofs.check_fields.Kinds as check-fields-kinds
@@ -110,7 +109,7 @@ fields-at-requires : (t : ℕ) → check-fields-lts.Need-at-requires (fields-cal
 fields-at-requires t c κs = row-within (c .before .before .before .before .loop .inv .trees) (c .before .before .before .loop-test .taken)
 
 fields-add-i : (t : ℕ) → check-fields-lts.Need-add-i (fields-calls t) (check-fields-at t) check-fields.Post fields-Inv-loop fields-μ-loop
-fields-add-i t c = omega (arith, ends-inside (c .before .before .before .before .before .before .loop .inv .trees) (c .before .before .before .before .before .loop-test .taken), ap (λ (q : Row). q .size) (c .before .at .ensures), c .before .before .before .before .before .before .before .before .before .before .fits .until)
+fields-add-i t c = let r = c .before .before .before .before .before .before .loop .inv .trees in omega (arith, ends-inside r (c .before .before .before .before .before .loop-test .taken), ap (λ (q : Row). q .size) (c .before .at .ensures), r .inside, r .walk .nodes .fewNodes)
 
 fields-loop-less : (t : ℕ) → check-fields-lts.Need-loop-less (fields-calls t) (check-fields-at t) check-fields.Post fields-Inv-loop fields-μ-loop
 fields-loop-less t c = omega (arith, one-at-least (c .before .before .before .before .before .before .loop .inv .trees) (c .before .before .before .before .before .loop-test .taken), ends-inside (c .before .before .before .before .before .before .loop .inv .trees) (c .before .before .before .before .before .loop-test .taken), ap (λ (q : Row). q .size) (c .before .at .ensures), c .before .before .before .before .before .loop-test .taken)
@@ -149,7 +148,7 @@ func-add-kids : (t : ℕ) → check-func-lts.Need-add-kids (func-calls t) (check
 func-add-kids t c = omega (arith, c .before .before .before .before .before .loop .inv .few, c .before .before .before .before .loop-test .taken, c .before .before .before .before .before .before .before .before .before .fits .until)
 
 func-add-i : (t : ℕ) → check-func-lts.Need-add-i (func-calls t) (check-func-at t) check-func.Post func-Inv-loop func-μ-loop
-func-add-i t c = omega (arith, ends-inside (c .before .before .before .before .before .before .loop .inv .walk .trees) (c .before .before .before .before .before .loop-test .taken), ap (λ (q : Row). q .size) (c .before .at .ensures), c .before .before .before .before .before .before .before .before .before .before .fits .until)
+func-add-i t c = let r = c .before .before .before .before .before .before .loop .inv .walk .trees in omega (arith, ends-inside r (c .before .before .before .before .before .loop-test .taken), ap (λ (q : Row). q .size) (c .before .at .ensures), r .inside, r .walk .nodes .fewNodes)
 
 func-loop-less : (t : ℕ) → check-func-lts.Need-loop-less (func-calls t) (check-func-at t) check-func.Post func-Inv-loop func-μ-loop
 func-loop-less t c = omega (arith, one-at-least (c .before .before .before .before .before .before .loop .inv .walk .trees) (c .before .before .before .before .before .loop-test .taken), ends-inside (c .before .before .before .before .before .before .loop .inv .walk .trees) (c .before .before .before .before .before .loop-test .taken), ap (λ (q : Row). q .size) (c .before .at .ensures), c .before .before .before .before .before .loop-test .taken)
@@ -199,10 +198,10 @@ meths-returns-2 t c =
     let h = c .before .before .before .before .before .before .before .loop-test .taken in
     let s = method-label (c .before .before .before .before .before .before .before .before .loop .inv .walk .trees) (c .before .before .before .before .before .before .before .loop-test .taken) (c .before .before .before .before .before .before .before .before .loop .inv .place) .1 ∙ sym (ap (λ (q : Row). q .label) (c .before .before .before .at .ensures)) in
     walk-method l h (c .before .before .before .before .before .before .check-type .result) (c .before .before .before .before .before .before .check-type .ensures) (sym (c .before .before .before .before .before .passed .ensures) ∙ not-false _ (c .before .before .before .before .if1 .left)) _ refl
-    (λ ds e. ap (λ (n : ℕ). Refused (refusal.Refusal.MethodNoFunction n)) (sym s) ∙ method-refused (c .before .before .before .before .before .before .before .before .before .before .before .before .args .pre) (l .trees) h _ (c .before .before .method-fits .ensures) (not-true _ (c .before .if2 .taken)) ds e)
+    (λ ds e. ap (λ (n : ℕ). Refused (refusal.Refusal.MethodNoFunction n)) (sym s) ∙ method-refused _ (l .trees) h _ (c .before .before .method-fits .ensures) (not-true _ (c .before .if2 .taken)) ds e)
 
 meths-add-i : (t : ℕ) → check-meths-lts.Need-add-i (meths-calls t) (check-meths-at t) check-meths.Post meths-Inv-loop meths-μ-loop
-meths-add-i t c = omega (arith, ends-inside (c .before .before .before .before .before .before .before .before .loop .inv .walk .trees) (c .before .before .before .before .before .before .before .loop-test .taken), ap (λ (q : Row). q .size) (c .before .before .before .at .ensures), c .before .before .before .before .before .before .before .before .before .before .before .before .fits .until)
+meths-add-i t c = let r = c .before .before .before .before .before .before .before .before .loop .inv .walk .trees in omega (arith, ends-inside r (c .before .before .before .before .before .before .before .loop-test .taken), ap (λ (q : Row). q .size) (c .before .before .before .at .ensures), r .inside, r .walk .nodes .fewNodes)
 
 meths-loop-less : (t : ℕ) → check-meths-lts.Need-loop-less (meths-calls t) (check-meths-at t) check-meths.Post meths-Inv-loop meths-μ-loop
 meths-loop-less t c = omega (arith, one-at-least (c .before .before .before .before .before .before .before .before .loop .inv .walk .trees) (c .before .before .before .before .before .before .before .loop-test .taken), ends-inside (c .before .before .before .before .before .before .before .before .loop .inv .walk .trees) (c .before .before .before .before .before .before .before .loop-test .taken), ap (λ (q : Row). q .size) (c .before .before .before .at .ensures), c .before .before .before .before .before .before .before .loop-test .taken)
@@ -216,49 +215,71 @@ meths-returns-3 t c = walk-end (c .before .loop .inv .walk) (c .loop-test .left)
 type-at-requires : (t : ℕ) → check-type-lts.Need-at-requires (type-calls t) (check-type-at t) check-type.Post
 type-at-requires t c κs = row-within (c .before .before .before .pre .1 .0) (c .before .before .before .pre .1 .1)
 
+-- ---- `check_type`: its places, and what is known there
+-- the row is read
+abbrev Read : ℕ → Type 0
+Read t = check-type-lts.After-at (type-calls t) (check-type-at t) check-type.Post
+
+abbrev entry : (t : ℕ) → Read t → check-type-lts.Start (type-calls t) (check-type-at t) check-type.Post
+entry t c = c .before .before .before .before
+
+row : (t : ℕ) (c : Read t) → let a = entry t c .args in RowRead (a .rows .now) (a .roots .now) (a .ends .now) (a .n) (asRow (c .at .result))
+row t c = record { tree = entry t c .pre .1 .0; some = entry t c .pre .1 .1; is = c .at .ensures }
+
+-- it is no primitive type and no name, and the types below it are known
+abbrev Inner : ℕ → Type 0
+Inner t = check-type-lts.After-struct-known4 (type-calls t) (check-type-at t) check-type.Post
+
+abbrev read : (t : ℕ) → Inner t → Read t
+read t c = c .before .before .before .before .before .before
+
+inner : (t : ℕ) (c : Inner t) → let a = entry t (read t c) .args in RowRead (a .rows .now) (a .roots .now) (a .ends .now) (a .n) (asRow (read t c .at .result))
+inner t c = row t (read t c)
+
+weight : (t : ℕ) (c : Inner t) → let n = entry t (read t c) .args .n in 2 * (n + read t c .at .result .size - (n + 1)) + 1 < t
+weight t c = row-weight (inner t c) t (entry t (read t c) .pre .0)
+
 type-returns : (t : ℕ) → check-type-lts.Need-returns (type-calls t) (check-type-at t) check-type.Post
-type-returns t c = λ ds e. at-prim _ ds _ _ _ (c .before .before .at .ensures) (c .if1 .taken)
+type-returns t c = λ ds e. at-prim _ ds _ _ _ (row t (c .before .before) .is) (c .if1 .taken)
 
 type-check-var-requires : (t : ℕ) → check-type-lts.Need-check-var-requires (type-calls t) (check-type-at t) check-type.Post
-type-check-var-requires t c κs =
-    let t = c .before .before .before .before .before .before .before .before .pre .1 .0 in
-    let h = c .before .before .before .before .before .before .before .before .pre .1 .1 in
-    let v = row-fits t h .name (sym (ap (λ (q : Row). q .kind) (c .before .before .before .before .at .ensures)) ∙ c .if2 .taken) in
-    (t .walk .bound .long, omega (arith, v, t .walk .nodes .fewNames, ap (λ (q : Row). q .value) (c .before .before .before .before .at .ensures)))
+type-check-var-requires t c κs = row-name (row t (c .before .before .before .before)) (c .if2 .taken)
 
 type-returns-2 : (t : ℕ) → check-type-lts.Need-returns-2 (type-calls t) (check-type-at t) check-type.Post
-type-returns-2 t c = λ ds e. c .check-var .ensures ∙ at-var _ ds _ _ _ (c .before .before .before .before .before .at .ensures) (c .before .before .before .before .before .before .before .before .before .args .roots .now) (e .binds) (c .before .if2 .taken)
+type-returns-2 t c =
+    let q = c .before .before .before .before .before in
+    λ ds e. c .check-var .ensures ∙ at-var _ ds _ _ _ (row t q .is) (entry t q .args .roots .now) (e .binds) (c .before .if2 .taken)
 
 type-add-from : (t : ℕ) → check-type-lts.Need-add-from (type-calls t) (check-type-at t) check-type.Post
-type-add-from t c = omega (arith, c .before .before .before .before .before .before .before .before .pre .1 .1, c .before .before .before .before .before .before .before .before .pre .1 .0 .inside, c .before .before .before .before .before .before .before .before .pre .1 .0 .walk .nodes .fewNodes)
+type-add-from t c = omega (arith, row-few (row t (c .before .before .before .before)) .0)
 
 type-add-until : (t : ℕ) → check-type-lts.Need-add-until (type-calls t) (check-type-at t) check-type.Post
-type-add-until t c = omega (arith, c .before .before .before .before .before .before .before .before .before .pre .1 .0 .inside, c .before .before .before .before .before .before .before .before .before .pre .1 .0 .walk .nodes .fewNodes, ap (λ (q : Row). q .size) (c .before .before .before .before .before .at .ensures))
+type-add-until t c = omega (arith, row-few (row t (c .before .before .before .before .before)) .1)
 
 type-check-func-requires : (t : ℕ) → check-type-lts.Need-check-func-requires (type-calls t) (check-type-at t) check-type.Post
-type-check-func-requires t c κs = (omega (arith, c .before .before .before .before .before .before .before .before .before .before .before .pre .0, c .before .before .before .before .before .before .before .before .before .before .before .pre .1 .1, ap (λ (q : Row). q .size) (c .before .before .before .before .before .before .before .at .ensures)), rw (ap (λ (q : Row). q .size) (c .before .before .before .before .before .before .before .at .ensures)) (kids-trees (c .before .before .before .before .before .before .before .before .before .before .before .pre .1 .0) (c .before .before .before .before .before .before .before .before .before .before .before .pre .1 .1)))
+type-check-func-requires t c κs = (weight t (c .before), row-kids (inner t (c .before)))
 
 type-returns-3 : (t : ℕ) → check-type-lts.Need-returns-3 (type-calls t) (check-type-at t) check-type.Post
-type-returns-3 t c = λ ds e. c .check-func .ensures ds e ∙ ap (λ (z : ℕ). funcVerdict (c .before .before .before .before .before .before .before .before .before .before .before .before .args .pre) ds (c .before .before .before .before .before .before .before .before .at .result .value) (siblings (c .before .before .before .before .before .before .before .before .before .before .before .before .args .rows .now) (c .before .before .before .before .before .before .before .before .before .before .before .before .args .n + 1) (c .before .before .before .before .before .before .before .before .before .before .before .before .args .n + z))) (ap (λ (q : Row). q .size) (c .before .before .before .before .before .before .before .before .at .ensures)) ∙ at-func _ ds _ _ _ (c .before .before .before .before .before .before .before .before .at .ensures) (c .before .if3 .taken)
+type-returns-3 t c = λ ds e. c .check-func .ensures ds e ∙ at-func _ ds _ _ _ (inner t (c .before .before) .is) (c .before .if3 .taken)
 
 type-check-meths-requires : (t : ℕ) → check-type-lts.Need-check-meths-requires (type-calls t) (check-type-at t) check-type.Post
-type-check-meths-requires t c κs = (omega (arith, c .before .before .before .before .before .before .before .before .before .before .before .before .before .pre .0, c .before .before .before .before .before .before .before .before .before .before .before .before .before .pre .1 .1, ap (λ (q : Row). q .size) (c .before .before .before .before .before .before .before .before .before .at .ensures)), rw (ap (λ (q : Row). q .size) (c .before .before .before .before .before .before .before .before .before .at .ensures)) (kids-methods (c .before .before .before .before .before .before .before .before .before .before .before .before .before .pre .1 .0) (c .before .before .before .before .before .before .before .before .before .before .before .before .before .pre .1 .1) (sym (ap (λ (q : Row). q .kind) (c .before .before .before .before .before .before .before .before .before .at .ensures)) ∙ c .if4 .taken)))
+type-check-meths-requires t c κs = (weight t (c .before .before .before), row-methods (inner t (c .before .before .before)) (c .if4 .taken))
 
 type-returns-4 : (t : ℕ) → check-type-lts.Need-returns-4 (type-calls t) (check-type-at t) check-type.Post
-type-returns-4 t c = λ ds e. c .check-meths .ensures ds e ∙ ap (λ (z : ℕ). checkForest (c .before .before .before .before .before .before .before .before .before .before .before .before .before .before .args .pre) (not (c .before .before .before .before .before .before .before .before .before .before .before .before .before .before .args .pre)) ds (siblings (c .before .before .before .before .before .before .before .before .before .before .before .before .before .before .args .rows .now) (c .before .before .before .before .before .before .before .before .before .before .before .before .before .before .args .n + 1) (c .before .before .before .before .before .before .before .before .before .before .before .before .before .before .args .n + z))) (ap (λ (q : Row). q .size) (c .before .before .before .before .before .before .before .before .before .before .at .ensures)) ∙ at-service _ ds _ _ _ (c .before .before .before .before .before .before .before .before .before .before .at .ensures) (c .before .if4 .taken)
+type-returns-4 t c = λ ds e. c .check-meths .ensures ds e ∙ at-service _ ds _ _ _ (inner t (c .before .before .before .before) .is) (c .before .if4 .taken)
 
 type-returns-5 : (t : ℕ) → check-type-lts.Need-returns-5 (type-calls t) (check-type-at t) check-type.Post
-type-returns-5 t c = λ ds e. at-class _ ds _ _ _ (c .before .before .before .before .before .before .before .before .before .before .before .at .ensures) (c .if5 .taken)
+type-returns-5 t c = λ ds e. at-class _ ds _ _ _ (inner t (c .before .before .before .before .before) .is) (c .if5 .taken)
 
 type-check-fields-requires : (t : ℕ) → check-type-lts.Need-check-fields-requires (type-calls t) (check-type-at t) check-type.Post
-type-check-fields-requires t c κs = (omega (arith, c .before .before .before .before .before .before .before .before .before .before .before .before .before .before .before .pre .0, c .before .before .before .before .before .before .before .before .before .before .before .before .before .before .before .pre .1 .1, ap (λ (q : Row). q .size) (c .before .before .before .before .before .before .before .before .before .before .before .at .ensures)), rw (ap (λ (q : Row). q .size) (c .before .before .before .before .before .before .before .before .before .before .before .at .ensures)) (kids-trees (c .before .before .before .before .before .before .before .before .before .before .before .before .before .before .before .pre .1 .0) (c .before .before .before .before .before .before .before .before .before .before .before .before .before .before .before .pre .1 .1)))
+type-check-fields-requires t c κs = (weight t (c .before .before .before .before .before), row-kids (inner t (c .before .before .before .before .before)))
 
 type-returns-6 : (t : ℕ) → check-type-lts.Need-returns-6 (type-calls t) (check-type-at t) check-type.Post
 type-returns-6 t c =
+    let i = c .before .before .before .before .before .before in
     λ ds e.
     c .check-fields .ensures ds e
-    ∙ ap (λ (z : ℕ). checkForest (c .before .before .before .before .before .before .before .before .before .before .before .before .before .before .before .before .args .pre) false ds (siblings (c .before .before .before .before .before .before .before .before .before .before .before .before .before .before .before .before .args .rows .now) (c .before .before .before .before .before .before .before .before .before .before .before .before .before .before .before .before .args .n + 1) (c .before .before .before .before .before .before .before .before .before .before .before .before .before .before .before .before .args .n + z))) (ap (λ (q : Row). q .size) (c .before .before .before .before .before .before .before .before .before .before .before .before .at .ensures))
-    ∙ at-fields _ ds _ _ _ (c .before .before .before .before .before .before .before .before .before .before .before .before .at .ensures) (rw (ap (λ (q : Row). q .kind) (c .before .before .before .before .before .before .before .before .before .before .before .before .at .ensures)) (row-fits (c .before .before .before .before .before .before .before .before .before .before .before .before .before .before .before .before .pre .1 .0) (c .before .before .before .before .before .before .before .before .before .before .before .before .before .before .before .before .pre .1 .1) .kind)) (c .before .before .before .before .before .before .before .before .before .before .if1 .left) (c .before .before .before .before .before .before .before .before .if2 .left) (c .before .before .before .before .before .if3 .left) (c .before .before .before .if4 .left) (c .before .if5 .left)
+    ∙ at-fields _ ds _ _ _ (inner t i .is) (row-kind (inner t i)) (i .before .before .before .before .if1 .left) (i .before .before .if2 .left) (c .before .before .before .before .before .if3 .left) (c .before .before .before .if4 .left) (c .before .if5 .left)
 
 pub +check-fields+check-func+check-meths+check-type-spec : {M : Type 1} → statement M
 +check-fields+check-func+check-meths+check-type-spec =

@@ -42,7 +42,7 @@ use Rattle.environment.proofs.Trees.{opened, kids-trees, node-trees, node-fits,
 use Rattle.syntax.specs.declared.interface.Interface.{Interface}
 use Rattle.syntax.specs.Classes.{ArgumentsAs}
 use Rattle.syntax.specs.Interfaces.{methodsIn, interfaceTree}
-use Rattle.syntax.proofs.Verdicts.{and-on, and-stops, and-passed, and-assoc}
+use Rattle.refusals.proofs.Verdicts.{and-on, and-stops, and-passed, and-assoc}
 use Rattle.syntax.proofs.Stored.{tree-class, tree-kids}
 use Rattle.syntax.proofs.interface.Laws.{tree-arguments}
 use Rattle.typing.specs.Walk.{Env, typeVerdict}

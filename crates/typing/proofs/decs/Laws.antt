@@ -20,9 +20,9 @@ use Rattle.book.specs.declared.kinds.Contents.{Contents}
 use Rattle.book.specs.Reading.{Admitted}
 use Rattle.book.proofs.Opened.{names-count, definitions-count}
 use Rattle.environment.specs.Tables.{Roots, Binds, EndNodes, DefinesAs, AliasEndsAs, definitionsIn}
-use Rattle.environment.proofs.Laws.{defined-length, defined-binds, defined-once}
-use Rattle.environment.proofs.AsFunc.{ends-func}
-use Rattle.syntax.proofs.Verdicts.{and-on, and-stops, never-passed, passed-is}
+use Rattle.environment.proofs.Definitions.{defined-length, defined-binds, defined-once}
+use Rattle.environment.proofs.FuncEnds.{ends-func}
+use Rattle.refusals.proofs.Verdicts.{refused-passed, passed-is, and-on, and-stops}
 use Rattle.syntax.proofs.Book.{all-trees, rows-exact, entries-of, definition-tree-fits}
 use Rattle.typing.specs.Walk.{Env}
 use Rattle.typing.specs.Defs.{BodiesIn, BodiesFitAs}
@@ -51,8 +51,8 @@ module _ {es ns : List ℕ} {names count from to : ℕ} (x : Bodies es ns names 
   decs-twice ends′ h =
       record {
         verdict = sym (rw once-is (rw (ne-eqb twice 65535 h) refl));
-        checked = λ e. never-passed (Refused (refusal.Refusal.Twice twice)) refl e;
-        chains = λ e. never-passed (Refused (refusal.Refusal.Twice twice)) refl e;
+        checked = λ e. refused-passed e;
+        chains = λ e. refused-passed e;
       }
 
   pub entered : twice ≡ 65535 → Entered es ns names count from to roots
@@ -145,8 +145,8 @@ module _ {es ns : List ℕ} {names count from to : ℕ} {roots : List ℕ} (w : 
       decs-unfit e =
           record {
             verdict = sym (said false e);
-            checked = λ z. never-passed (Refused refusal.Refusal.NoFunction) refl z;
-            chains = λ z. never-passed (Refused refusal.Refusal.NoFunction) refl z;
+            checked = λ z. refused-passed z;
+            chains = λ z. refused-passed z;
           }
 
       pub decs-passed : b ≡ true → DecsAs es ns names count from to Passed roots ends′

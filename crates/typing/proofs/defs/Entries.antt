@@ -22,7 +22,7 @@ use Rattle.environment.specs.Tables.{Nodes, Entries, Roots, EndNodes, definitio
 use Rattle.environment.specs.Trees.{Trees}
 use Rattle.typing.specs.Walk.{Env, typeVerdict}
 use Rattle.typing.specs.Defs.{BodiesIn}
-use Rattle.syntax.proofs.Verdicts.{and-on, and-stops, and-passed}
+use Rattle.refusals.proofs.Verdicts.{and-on, and-stops, and-passed}
 use Rattle.typing.proofs.Walk.{check-none, check-opens, untested}
 
 -- ---- the definitions that are left at entry d: none, or that of d and those after it

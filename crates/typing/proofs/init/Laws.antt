@@ -35,20 +35,20 @@ use Rattle.judgement.proofs.Theorems.{NoInit, no-init-tree, init-verdict}
 use Rattle.book.specs.Tables.{blankTable, HashesAgree, HashesOf}
 use Rattle.environment.specs.Tables.{Entries, Roots, Binds, AliasEndsAs, foundAt, definitionsIn}
 use Rattle.environment.specs.Merging.{Mergeable, MergedAs}
-use Rattle.environment.proofs.AsFunc.{ends-func}
+use Rattle.environment.proofs.FuncEnds.{ends-func}
 use Rattle.book.proofs.Blank.{blank-at}
-use Rattle.environment.proofs.Laws.{defined-length}
-use Rattle.environment.proofs.Merges.{merged-roots, merged-binds}
+use Rattle.environment.proofs.Definitions.{defined-length}
+use Rattle.environment.proofs.merge.Tables.{merged-roots, merged-binds}
 use Rattle.environment.proofs.Links.{found-none, found-some, getD-within}
 use Rattle.environment.specs.Trees.{Trees}
 use Rattle.typing.specs.Walk.{Env}
 use Rattle.syntax.specs.Files.{initAt, SplitAs}
 use Rattle.typing.specs.Decs.{DecsAs}
 use Rattle.typing.specs.declared.init.InitFound.{InitFound}
-use Rattle.typing.specs.Init.{lacked, bothDefinitions, InitFile, NoInitFile, ownDefinitions, OwnDecsAs, OwnPassed, MergeAs, Seen, initNone, ArgumentsFound, InitFoundAs}
+use Rattle.typing.specs.Init.{lacked, bothDefinitions, InitFile, NoInitFile, ownDefinitions, OwnDecsAs, OwnPassed, MergeAs, Merged, Seen, initNone, ArgumentsFound, InitSeenAs, InitFoundAs}
 use Rattle.typing.specs.declared.prog.Passed.{Passed as Handed}
 use Rattle.typing.specs.Passing.{PassedAs}
-use Rattle.syntax.proofs.Verdicts.{and-on, and-stops, passed-is}
+use Rattle.refusals.proofs.Verdicts.{and-on, and-stops, passed-is}
 use Rattle.environment.proofs.Trees.{kids-trees, blank-nodes, node-trees, node-some}
 use Rattle.syntax.proofs.Stored.{tree-kids}
 use Rattle.typing.proofs.defs.Entries.{definitions-none, definitions-cons}
@@ -148,11 +148,11 @@ module _ {bs : List ℕ} {c : Contents} (a : Admitted bs c) where
   pub mergeable : {own roots hs : List ℕ} → Roots own (c .nodes) → Roots roots (c .nodes) → length hs ≡ 1024 → Mergeable rows hs own roots (c .names)
   mergeable y z l = record { count = c .nodes; nodes = all-trees a .nodes; long = l; first = y; second = z }
 
-  pub merge-as : {own roots both hs : List ℕ} {v : Verdict} → MergedAs own roots both → HashesOf hs (namesOf (length (namesPart bs)) (namesPart bs)) →
+  pub merge-as : {own roots hs : List ℕ} {v : Verdict} → HashesOf hs (namesOf (length (namesPart bs)) (namesPart bs)) →
       ((ns : List (List ℕ)) (ids ds : List Definition) → HashesAgree hs ns → length ns ≡ c .names → Binds rows own ids → Binds rows roots ds → v ≡ mergeVerdict ns ids ds) →
-      MergeAs a own roots both v
-  merge-as {hs = hs} g o said =
-      record { verdict = λ ids ds. said (a .book .names) ids ds (subst (HashesAgree hs) (names-book a) (o .agree)) (sym (names-count a)); table = g }
+      MergeAs a own roots v
+  merge-as {hs = hs} o said =
+      record { verdict = λ ids ds. said (a .book .names) ids ds (subst (HashesAgree hs) (names-book a) (o .agree)) (sym (names-count a)) }
 
   -- the arguments
   module _ {both : List ℕ} (t : Roots both (c .nodes)) {root : ℕ} (h : root < c .nodes) where
@@ -212,13 +212,14 @@ module _ {bs : List ℕ} {c : Contents} (a : Admitted bs c) where
   init-same = sym (ap (initAt (filesPart bs)) (files-count a))
 
   -- ---- A refusal, wherever it comes from
-  stop : (v : Verdict) → v ≡ initVerdict b → isPassed v ≡ false → {both : List ℕ} {r : InitFound} → r ≡ initNone v → InitFoundAs a both r
-  stop v is f e =
+  stop : (v : Verdict) → v ≡ initVerdict b → isPassed v ≡ false → {both : List ℕ} → both ≡ blankTable → {r : InitFound} → r ≡ initNone v → InitFoundAs a both r
+  stop v is f z e =
       rw e
       (record {
         verdict = is;
         passed = λ q. absurd (false≢true (sym f ∙ ap isPassed q));
         refused = λ g. refl;
+        left = λ g. z;
       })
 
   -- ---- Without an init file
@@ -256,6 +257,7 @@ module _ {bs : List ℕ} {c : Contents} (a : Admitted bs c) where
         record {
           verdict = sym (init-verdict b none-here);
           refused = λ g. absurd (false≢true (sym g));
+          left = λ g. absurd (false≢true (sym g));
           passed =
               λ q.
               record {
@@ -332,9 +334,9 @@ module _ {bs : List ℕ} {c : Contents} (a : Admitted bs c) where
         own-is : v ≡ decsVerdict (length (b .names)) ids
         own-is = rw (own-are, ← names-count a) (d .verdict)
 
-        pub init-own : isPassed v ≡ false → {both : List ℕ} {r : InitFound} → r ≡ initNone v → InitFoundAs a both r
+        pub init-own : isPassed v ≡ false → {both : List ℕ} → both ≡ blankTable → {r : InitFound} → r ≡ initNone v → InitFoundAs a both r
         unfolding initVerdict
-        init-own f e = stop v (sym (rw (← own-is) (and-stops v _ f))) f e
+        init-own f z e = stop v (sym (rw (← own-is) (and-stops v _ f))) f z e
 
         pub own-went : isPassed v ≡ true → OwnPassed a own init k
         own-went f = record { file = file; split = s; own-as = subst (OwnDecsAs bs c k own) (passed-is v f) d }
@@ -356,15 +358,19 @@ module _ {bs : List ℕ} {c : Contents} (a : Admitted bs c) {own : List ℕ} {in
   own-passed : decsVerdict (length (a .book .names)) (ids a) ≡ Passed
   own-passed = sym (own-is a (o .file) (o .split) (o .own-as))
 
-  module _ {both : List ℕ} {w : Verdict} (g : MergeAs a own roots both w) where
+  module _ {w : Verdict} (g : MergeAs a own roots w) where
     merge-is : w ≡ mergeVerdict (a .book .names) (ids a) (ds a)
     merge-is = g .verdict (ids a) (ds a) own-binds (m .checked .env .binds)
 
-    pub init-differs : isPassed w ≡ false → {r : InitFound} → r ≡ initNone w → InitFoundAs a both r
+    pub init-differs : isPassed w ≡ false → {both : List ℕ} → both ≡ blankTable → {r : InitFound} → r ≡ initNone w → InitFoundAs a both r
     unfolding initVerdict
-    init-differs f e = stop a w (sym (rw (own-passed, ← merge-is) (and-stops w _ f))) f e
+    init-differs f z e = stop a w (sym (rw (own-passed, ← merge-is) (and-stops w _ f))) f z e
 
-    module _ (wp : isPassed w ≡ true) {n : ℕ} (l : (ns : List ℕ) → n ≡ (c .definitions - k) + length (lacked own (definitionsIn ns (definitionsPart bs) 0 k))) where
+    pub init-merged : isPassed w ≡ true → {both : List ℕ} → MergedAs own roots both → Merged a own roots both
+    init-merged f t = record { passed = subst (MergeAs a own roots) (passed-is w f) g; table = t }
+
+  module _ {both : List ℕ} (g : Merged a own roots both) where
+    module _ {n : ℕ} (l : (ns : List ℕ) → n ≡ (c .definitions - k) + length (lacked own (definitionsIn ns (definitionsPart bs) 0 k))) where
       pub both-table : Roots both (c .nodes)
       both-table = merged-roots (g .table) own-table main-table
 
@@ -402,10 +408,10 @@ module _ {bs : List ℕ} {c : Contents} (a : Admitted bs c) {own : List ℕ} {in
         unfolding initVerdict
         verdict-here =
             x .verdict ∙ ap (λ (t : Forest Node). checkForest false false both-ds (kidsOf t)) (sym (tree-is a (o .file) at))
-            ∙ sym (rw (own-passed, ← merge-is) (and-on w _ wp))
+            ∙ sym (rw (own-passed, ← merge-is (g .passed)) (and-on Passed _ refl))
 
-        pub init-found : InitFoundAs a both r
-        init-found =
+        pub arguments-seen : InitSeenAs a both r
+        arguments-seen =
             record {
               verdict = verdict-here;
               refused = x .refused;
@@ -424,3 +430,12 @@ module _ {bs : List ℕ} {c : Contents} (a : Admitted bs c) {own : List ℕ} {in
                     within = omega (arith, here .ends, nodes-count a);
                   });
             }
+
+-- ---- What is left in the table
+module _ {bs : List ℕ} {c : Contents} {a : Admitted bs c} {both : List ℕ} {r : InitFound} (x : InitSeenAs a both r) where
+  pub init-found : isPassed (r .verdict) ≡ true → InitFoundAs a both r
+  init-found f = record { verdict = x .verdict; passed = x .passed; refused = x .refused; left = λ g. absurd (false≢true (sym g ∙ f)) }
+
+  pub init-cleared : isPassed (r .verdict) ≡ false → {after : List ℕ} → after ≡ blankTable → InitFoundAs a after r
+  init-cleared f z =
+      record { verdict = x .verdict; passed = λ q. absurd (false≢true (sym f ∙ ap isPassed q)); refused = x .refused; left = λ g. z }

@@ -19,7 +19,7 @@ use Rattle.refusals.specs.declared.Refusal.the-variants.{NoService}
 use Rattle.refusals.specs.declared.Verdict.{Verdict}
 use Rattle.refusals.specs.declared.Verdict.the-variants.{Passed as passes}
 use Rattle.refusals.specs.Verdict.{isPassed, andThen}
-use Rattle.refusals.proofs.Verdicts.{both-pass, unless-passed}
+use Rattle.refusals.proofs.Verdicts.{passed-is, both-pass, and-on, and-stops, unless-passed}
 use Rattle.book.specs.declared.kinds.Contents.{Contents}
 use Rattle.book.specs.Reading.{Admitted}
 use Rattle.book.proofs.Opened.{names-count, nodes-count, definitions-count, files-count}
@@ -27,13 +27,12 @@ use Rattle.judgement.specs.Environment.{mainDefinitions, asService, kidsOf}
 use Rattle.judgement.specs.Actor.{serviceImports, mainActor, isClass, belowClass, resolveActor}
 use Rattle.judgement.specs.Check.{check, checkForest, importsVerdict, decsVerdict, resolveVerdict, actorVerdict}
 use Rattle.environment.specs.Tables.{Roots, EndNodes, Tabled, Chains, definitionsIn}
-use Rattle.environment.proofs.Laws.{defined-length}
+use Rattle.environment.proofs.Definitions.{defined-length}
 use Rattle.syntax.specs.declared.actor.Resolved.{Resolved}
 use Rattle.syntax.specs.declared.files.Files.{Files}
 use Rattle.syntax.specs.Files.{initAt, SplitAs, FilesAs, FilesPassed}
 use Rattle.syntax.specs.Interfaces.{interfaceTree, ActorAs, InterfaceAs}
 use Rattle.syntax.specs.Resolving.{ResolvedAs}
-use Rattle.syntax.proofs.Verdicts.{and-on, and-stops, passed-is}
 use Rattle.syntax.proofs.Book.{all-trees, book-trees, entries-of, main-definitions-are}
 use Rattle.syntax.proofs.interface.Laws.{interface-as}
 use Rattle.typing.specs.declared.prog.Found.{Found}

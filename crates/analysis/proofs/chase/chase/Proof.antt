@@ -4,10 +4,10 @@ use mathlib.Core.Path.{refl, sym}
 use native.Mathlib.Omega.{arith}
 use native.Mathlib.Nat.{pos-of-ne-zero}
 use borrow.Author.Needs.{needs}
-use Rattle.analysis.proofs.ChasedRows.{walking, RowsLeft, chase-stopped, rows-start, rows-scanned, row-within, rows-few, rows-next, rows-end}
-use Rattle.analysis.proofs.ChasedRows.{Named, named, name-small, name-tabled, rows-unbound}
-use Rattle.analysis.proofs.ChasedRows.{root-few, body-within, body-small, enter-room, rows-enter}
-use Rattle.analysis.proofs.ChasedRows.{last-on, last-few, last-end, last-within, list-room, last-small, rows-back}
+use Rattle.analysis.proofs.chase.Rows.{walking, RowsLeft, chase-stopped, rows-start, rows-scanned, row-within, rows-few, rows-next, rows-end}
+use Rattle.analysis.proofs.chase.Rows.{Named, named, name-small, name-tabled, rows-unbound}
+use Rattle.analysis.proofs.chase.Rows.{root-few, body-within, body-small, enter-room, rows-enter}
+use Rattle.analysis.proofs.chase.Rows.{last-on, last-few, last-end, last-within, list-room, last-small, rows-back}
 use Rattle.analysis.proofs.chase.chase.Statement.{statement}
 use Rattle.analysis.proofs.chase.chase.Tie as tie
 use Rattle.analysis.proofs.chase.chase.Lts as lts
@@ -46,9 +46,13 @@ next-new-requires c κs = (rows-scanned (c .before .loop .inv), c .before .loop 
 at-requires : tie.Need-at-requires Inv-loop μ-loop
 at-requires c κs = row-within (c .before .before .before .loop .inv) _ (c .if2 .taken)
 
+-- places that are far back
+abbrev else1-from-at : tie.After-at Inv-loop μ-loop → tie.Else1 Inv-loop μ-loop
+else1-from-at c = c .before .before .before .before .before .before .before .before .before
+
 -- the row is a new name
 here : (c : tie.After-struct-known Inv-loop μ-loop) →
-    let a = c .before .before .before .before .before .before .before .before .before .before .before .before .before .args in
+    let a = (else1-from-at (c .before)) .before .before .before .args in
     let k = c .before .before .before .before .before .loop in
     Named (a .rows .now) (a .roots .now) (a .from) (a .until) (walking (a .w .seen) (a .w .list) (a .w .len))
     (k .stack) (k .ends) (k .depth) (c .before .before .before .next-new .result) (k .end)
@@ -71,7 +75,7 @@ cast-t32 c = omega (arith, name-small (here (c .before .before .before)))
 
 returns-2 : tie.Need-returns-2 Inv-loop μ-loop
 returns-2 c =
-    let g = c .before .before .before .before .before .before .before .before .before .before .before .before .before .if1 .left in
+    let g = (else1-from-at (c .before .before .before .before)) .if1 .left in
     rows-unbound _ g (here (c .before .before .before)) (c .before .if3 .taken) _ refl refl
 
 array-write-seen : tie.Need-array-write-seen Inv-loop μ-loop

@@ -5,7 +5,7 @@ use native.Mathlib.Omega.{arith}
 use Rattle.format.specs.Encode.{Row}
 use borrow.Author.Tests.{not-true, not-false}
 use Rattle.analysis.proofs.BookNodes.{here-whole, here-within, here-small, kids-readable}
-use Rattle.analysis.proofs.ChasedActor.{ServicesLeft, services-start, services-started, services-on, actor-written, actor-merged, interface-root, interface-arguments, walked-same}
+use Rattle.analysis.proofs.chase.Actor.{ServicesLeft, services-start, services-started, services-on, actor-written, actor-merged, interface-root, interface-arguments, walked-same}
 use Rattle.analysis.proofs.chase.chase_actor.Statement.{statement}
 use Rattle.analysis.proofs.chase.chase_actor.Tie as tie
 use Rattle.analysis.proofs.chase.chase_actor.Lts as lts
@@ -50,30 +50,34 @@ at-requires c κs =
     let s = c .before .before .before .before .before .before .before .before .before .pre .0 in
     here-within (s .rooted) (s .nodes .service _ (c .if2 .taken) .0)
 
+-- places that are far back
+abbrev entry-from-then2 : tie.Then2 Inv-loop μ-loop → tie.Start Inv-loop μ-loop
+entry-from-then2 c = c .before .before .before .before .before .before .before .before .before
+
 add-chase : tie.Need-add-chase Inv-loop μ-loop
 add-chase c =
-    let s = c .before .before .before .before .before .before .before .before .before .before .pre .0 in
+    let s = (entry-from-then2 (c .before)) .pre .0 in
     omega (arith, s .nodes .service _ (c .before .if2 .taken) .0, s .rooted .all .nodes .fewNodes)
 
 add-chase-2 : tie.Need-add-chase-2 Inv-loop μ-loop
 add-chase-2 c =
-    let s = c .before .before .before .before .before .before .before .before .before .before .before .pre .0 in
+    let s = (entry-from-then2 (c .before .before)) .pre .0 in
     omega (arith, here-small (s .rooted) (s .nodes .service _ (c .before .before .if2 .taken) .0) (ap (λ (q : Row). q .size) (c .before .at .ensures)))
 
 chase-requires : tie.Need-chase-requires Inv-loop μ-loop
 chase-requires c κs =
-    let s = c .before .before .before .before .before .before .before .before .before .before .before .pre in
+    let s = (entry-from-then2 (c .before .before)) .pre in
     (kids-readable (s .0 .rooted) (s .0 .nodes .service _ (c .before .before .if2 .taken) .0) (ap (λ (q : Row). q .size) (c .before .at .ensures)), services-started (s .1) (c .before .before .before .before .loop .inv))
 
 add-k : tie.Need-add-k Inv-loop μ-loop
-add-k c = omega (arith, c .before .before .before .if2 .taken, c .before .before .before .before .before .before .before .before .before .before .before .before .pre .0 .nodes .few)
+add-k c = omega (arith, c .before .before .before .if2 .taken, (entry-from-then2 (c .before .before .before)) .pre .0 .nodes .few)
 
 loop-less : tie.Need-loop-less Inv-loop μ-loop
 loop-less c = omega (arith, c .before .before .before .if2 .taken)
 
 loop-again : tie.Need-loop-again Inv-loop μ-loop
 loop-again c =
-    let s = c .before .before .before .before .before .before .before .before .before .before .before .before .pre in
+    let s = (entry-from-then2 (c .before .before .before)) .pre in
     services-on (s .1) (c .before .before .before .before .before .loop .inv) (c .before .before .before .if2 .taken) (omega (arith, s .0 .nodes .few, s .0 .nodes .held)) (here-whole (s .0 .rooted) (s .0 .nodes .service _ (c .before .before .before .if2 .taken) .0)) _ (c .before .before .at .ensures) _ (c .chase .ensures)
 
 returns-2 : tie.Need-returns-2 Inv-loop μ-loop

@@ -1,5 +1,5 @@
 -- `chase_types` meets its contract. Assumes nothing.
-use Rattle.analysis.proofs.ChasedActor.{fresh-started, fresh-chased}
+use Rattle.analysis.proofs.chase.Actor.{fresh-started, fresh-chased}
 use borrow.Author.Needs.{needs}
 use Rattle.analysis.proofs.chase.chase_types.Statement.{statement}
 use Rattle.analysis.proofs.chase.chase_types.Tie as tie

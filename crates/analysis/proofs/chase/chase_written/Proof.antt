@@ -4,7 +4,7 @@ use native.Mathlib.Omega.{arith}
 use Rattle.format.specs.Encode.{Row}
 use Rattle.format.proofs.Stored.{actor-none}
 use Rattle.analysis.proofs.BookNodes.{here-within, here-small, here-readable}
-use Rattle.analysis.proofs.ChasedActor.{fresh-none, walked-same, written-is}
+use Rattle.analysis.proofs.chase.Actor.{fresh-none, walked-same, written-is}
 use borrow.Author.Needs.{needs}
 use Rattle.analysis.proofs.chase.chase_written.Statement.{statement}
 use Rattle.analysis.proofs.chase.chase_written.Tie as tie

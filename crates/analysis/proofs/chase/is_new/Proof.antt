@@ -1,5 +1,5 @@
 -- `is_new` meets its contract. Assumes nothing.
-use Rattle.analysis.proofs.Scanning.{scan-within, new-other, name-marked, new-name}
+use Rattle.analysis.proofs.chase.NewNames.{scan-within, new-other, name-marked, new-name}
 use borrow.Author.Needs.{needs}
 use Rattle.analysis.proofs.chase.is_new.Statement.{statement}
 use Rattle.analysis.proofs.chase.is_new.Tie as tie

@@ -2,7 +2,7 @@
 use Prim.Native.Nat.{_-_}
 use mathlib.Core.Path.{sym, _∙_}
 use native.Mathlib.Omega.{arith}
-use Rattle.analysis.proofs.Scanning.{ScanLeft, scan-start, scan-end, scan-here, scan-found, scan-on}
+use Rattle.analysis.proofs.chase.NewNames.{ScanLeft, scan-start, scan-end, scan-here, scan-found, scan-on}
 use Rattle.analysis.proofs.chase.next_new.Statement.{statement}
 use Rattle.analysis.proofs.chase.next_new.Tie as tie
 use Rattle.analysis.proofs.chase.next_new.Lts as lts

@@ -3,7 +3,7 @@ use mathlib.Core.Path.{sym}
 use Prim.Native.Nat.{_+_, _*_}
 use native.Mathlib.Omega.{arith}
 use lib.ListN.{set, length-set}
-use Rattle.analysis.proofs.SitedEntries.{put-out, put-stored}
+use Rattle.analysis.proofs.def_use.Entries.{put-out, put-stored}
 use borrow.Author.Needs.{needs}
 use Rattle.analysis.proofs.def_use.put.Statement.{statement}
 use Rattle.analysis.proofs.def_use.put.Tie as tie

@@ -1,6 +1,6 @@
 -- `put_end` meets its contract. Assumes nothing.
 use Rattle.format.proofs.Rows.{node-within}
-use Rattle.analysis.proofs.SitedMethods.{most-none, end-puts-none, end-puts-other, end-puts}
+use Rattle.analysis.proofs.def_use.Methods.{most-none, end-puts-none, end-puts-other, end-puts}
 use Rattle.analysis.proofs.def_use.put_end.Statement.{statement}
 use Rattle.analysis.proofs.def_use.put_end.Tie as tie
 use Rattle.analysis.proofs.def_use.put_end.Reads as reads
@@ -31,12 +31,16 @@ put-func-requires c κs =
 same-length : tie.Need-same-length
 same-length c = c .before .before .put-func .ensures .0 .long
 
+-- places that are far back
+abbrev entry-from-put-func : tie.After-put-func → tie.Start
+entry-from-put-func c = c .before .before .before .before .before .before .before .before .before
+
 returns-3 : tie.Need-returns-3
 returns-3 c =
-    let a = c .before .before .before .before .before .before .before .before .before .before .before .args in
+    let a = (entry-from-put-func (c .before .before)) .args in
     let p = c .before .before .put-func .ensures in (
       p .0,
-      end-puts (a .rows .now) (a .e) (a .method) (a .places) (a .k) (a .out .now) (c .before .before .before .before .before .before .before .if1 .left) (c .before .before .before .before .before .before .before .before .before .before .before .pre .0 (c .before .before .before .before .before .before .before .if1 .left)) _ (c .before .before .before .before .before .before .at .ensures) (c .before .before .before .before .if2 .left) (p .1),
+      end-puts (a .rows .now) (a .e) (a .method) (a .places) (a .k) (a .out .now) (c .before .before .before .before .before .before .before .if1 .left) ((entry-from-put-func (c .before .before)) .pre .0 (c .before .before .before .before .before .before .before .if1 .left)) _ (c .before .before .before .before .before .before .at .ensures) (c .before .before .before .before .if2 .left) (p .1),
     )
 
 pub put-end-spec : {M : Type 1} → statement M

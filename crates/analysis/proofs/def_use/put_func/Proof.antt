@@ -5,7 +5,7 @@ use native.Mathlib.Omega.{arith}
 use Rattle.format.specs.Encode.{Row}
 use Rattle.format.specs.Whole.{Whole}
 use Rattle.format.proofs.Rows.{node-within, kids-whole}
-use Rattle.analysis.proofs.SitedMethods.{func-most, func-puts}
+use Rattle.analysis.proofs.def_use.Methods.{func-most, func-puts}
 use borrow.Author.Needs.{needs}
 use Rattle.analysis.proofs.def_use.put_func.Statement.{statement}
 use Rattle.analysis.proofs.def_use.put_func.Tie as tie
@@ -41,26 +41,33 @@ put-trees-requires c κs =
     let s = c .before .skip .ensures in
     (s .before, p .1, p .2, omega (arith, p .3, s .before .within .held, s .before .within .few))
 
+-- places that are far back
+abbrev entry-from-put-trees : tie.After-put-trees → tie.Start
+entry-from-put-trees c = c .before .before .before .before .before .before .before .before .before
+
 put-trees-requires-2 : tie.Need-put-trees-requires-2
 put-trees-requires-2 c κs =
-    let p = c .before .before .before .before .before .before .before .before .before .before .before .before .pre in
+    let p = (entry-from-put-trees (c .before .before .before)) .pre in
     let s = c .before .before .before .before .before .skip .ensures in
     let most = c .before .before .before .put-trees .ensures .0 in
     (s .after, p .1, omega (arith, p .2, most .long), omega (arith, p .3, most .few, s .before .ordered, s .after .within .held, s .after .within .few))
+
+abbrev at-from-put-trees2 : tie.After-put-trees2 → tie.After-at
+at-from-put-trees2 c = c .before .before .before .before .before .before .before .before .before
 
 same-length : tie.Need-same-length
 same-length c =
     let p = c .before .before .before .before .before .before .put-trees .ensures .0 in
     let q = c .before .before .put-trees2 .ensures .0 in
-    func-most (c .before .before .before .before .before .before .before .before .before .before .before .before .before .before .before .pre .0) _ (c .before .before .before .before .before .before .before .before .before .before .before .at .ensures) (c .before .before .before .before .before .before .before .before .skip .ensures) p q .long
+    func-most ((entry-from-put-trees (c .before .before .before .before .before .before)) .pre .0) _ ((at-from-put-trees2 (c .before .before)) .at .ensures) (c .before .before .before .before .before .before .before .before .skip .ensures) p q .long
 
 returns : tie.Need-returns
 returns c =
     let p = c .before .before .before .before .before .before .put-trees .ensures in
     let q = c .before .before .put-trees2 .ensures in
-    let a = c .before .before .before .before .before .before .before .before .before .before .before .before .before .before .before .args in (
-      func-most (c .before .before .before .before .before .before .before .before .before .before .before .before .before .before .before .pre .0) _ (c .before .before .before .before .before .before .before .before .before .before .before .at .ensures) (c .before .before .before .before .before .before .before .before .skip .ensures) (p .0) (q .0),
-      func-puts (c .before .before .before .before .before .before .before .before .before .before .before .before .before .before .before .pre .0) _ (c .before .before .before .before .before .before .before .before .before .before .before .at .ensures) (c .before .before .before .before .before .before .before .before .skip .ensures) (a .near .now) (a .method) (a .places) (a .k) (p .1) (q .1),
+    let a = (entry-from-put-trees (c .before .before .before .before .before .before)) .args in (
+      func-most ((entry-from-put-trees (c .before .before .before .before .before .before)) .pre .0) _ ((at-from-put-trees2 (c .before .before)) .at .ensures) (c .before .before .before .before .before .before .before .before .skip .ensures) (p .0) (q .0),
+      func-puts ((entry-from-put-trees (c .before .before .before .before .before .before)) .pre .0) _ ((at-from-put-trees2 (c .before .before)) .at .ensures) (c .before .before .before .before .before .before .before .before .skip .ensures) (a .near .now) (a .method) (a .places) (a .k) (p .1) (q .1),
     )
 
 pub put-func-spec : {M : Type 1} → statement M

@@ -4,7 +4,7 @@ use mathlib.Core.Path.{ap}
 use native.Mathlib.Omega.{arith}
 use Rattle.format.specs.Encode.{Row}
 use Rattle.environment.proofs.ChainEnds.{served-whole, served-within, served-small, served-until, served-at, end-whole}
-use Rattle.analysis.proofs.SitedMethods.{MethodsLeft, methods-start, methods-few, method-within, method-next, methods-on, methods-most, methods-counted, methods-puts}
+use Rattle.analysis.proofs.def_use.Methods.{MethodsLeft, methods-start, methods-few, method-within, method-next, methods-on, methods-most, methods-counted, methods-puts}
 use Rattle.analysis.proofs.def_use.put_methods.Statement.{statement}
 use Rattle.analysis.proofs.def_use.put_methods.Tie as tie
 use Rattle.analysis.proofs.def_use.put_methods.Reads as reads
@@ -43,9 +43,13 @@ cast-put-end c =
     let l = c .before .before .loop .inv in
     omega (arith, l .later, methods-few l, c .before .loop-test .taken, c .before .before .before .before .before .before .before .before .before .pre .3)
 
+-- places that are far back
+abbrev entry-from-end-of : tie.After-end-of Inv-loop μ-loop → tie.Start Inv-loop μ-loop
+entry-from-end-of c = c .before .before .before .before .before .before .before .before .before
+
 put-end-requires : tie.Need-put-end-requires Inv-loop μ-loop
 put-end-requires c κs =
-    let p = c .before .before .before .before .before .before .before .before .before .before .pre in
+    let p = (entry-from-end-of (c .before)) .pre in
     let l = c .before .before .before .loop .inv in
     let here = served-at (p .0) (c .before .before .before .loop .i) (omega (arith, served-until (p .0), ap (λ (q : Row). q .size) (c .before .before .before .before .before .at .ensures), c .before .before .loop-test .taken)) in (
       end-whole here (c .before .end-of .ensures),
@@ -60,7 +64,7 @@ at-requires-2 c κs = method-within (c .before .before .before .before .before .
 add-m : tie.Need-add-m Inv-loop μ-loop
 add-m c =
     let l = c .before .before .before .before .before .before .before .loop .inv in
-    omega (arith, l .later, methods-few l, c .before .before .before .before .before .before .loop-test .taken, c .before .before .before .before .before .before .before .before .before .before .before .before .before .before .pre .3)
+    omega (arith, l .later, methods-few l, c .before .before .before .before .before .before .loop-test .taken, (entry-from-end-of (c .before .before .before .before .before)) .pre .3)
 
 add-i-2 : tie.Need-add-i-2 Inv-loop μ-loop
 add-i-2 c =

@@ -1,6 +1,6 @@
 -- `put_tree` meets its contract. Assumes nothing.
 use native.Mathlib.Omega.{arith}
-use Rattle.analysis.proofs.SitedTrees.{tree-out, tree-in}
+use Rattle.analysis.proofs.def_use.Trees.{tree-out, tree-in}
 use borrow.Author.Needs.{needs}
 use Rattle.analysis.proofs.def_use.put_tree.Statement.{statement}
 use Rattle.analysis.proofs.def_use.put_tree.Tie as tie

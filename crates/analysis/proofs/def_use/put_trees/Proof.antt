@@ -1,7 +1,7 @@
 -- `put_trees` meets its contract. Assumes nothing.
 use Prim.Native.Nat.{_-_}
 use native.Mathlib.Omega.{arith}
-use Rattle.analysis.proofs.SitedTrees.{TreesLeft, trees-start, trees-most, trees-end, trees-within, trees-next, trees-on}
+use Rattle.analysis.proofs.def_use.Trees.{TreesLeft, trees-start, trees-most, trees-end, trees-within, trees-next, trees-on}
 use Rattle.analysis.proofs.def_use.put_trees.Statement.{statement}
 use Rattle.analysis.proofs.def_use.put_trees.Tie as tie
 use Rattle.analysis.proofs.def_use.put_trees.Reads as reads

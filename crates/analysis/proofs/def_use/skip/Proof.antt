@@ -2,7 +2,7 @@
 use Prim.Native.Nat.{_-_}
 use native.Mathlib.Nat.{pos-of-ne-zero}
 use native.Mathlib.Omega.{arith}
-use Rattle.analysis.proofs.SitedTrees.{SkipLeft, skip-start, skip-stop, skip-end, skip-within, skip-next, skip-on}
+use Rattle.analysis.proofs.def_use.Trees.{SkipLeft, skip-start, skip-stop, skip-end, skip-within, skip-next, skip-on}
 use Rattle.analysis.proofs.def_use.skip.Statement.{statement}
 use Rattle.analysis.proofs.def_use.skip.Tie as tie
 use Rattle.analysis.proofs.def_use.skip.Reads as reads

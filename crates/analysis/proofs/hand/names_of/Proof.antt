@@ -3,7 +3,7 @@ use Prim.Native.Nat.{ℕ, _-_}
 use mathlib.Core.Path.{sym, subst}
 use mathlib.Core.List.{List}
 use native.Mathlib.Omega.{arith}
-use Rattle.analysis.proofs.Flagged.{FlagsLeft, flags-start, flags-skip, flags-on, flags-end}
+use Rattle.analysis.proofs.hand.Flags.{FlagsLeft, flags-start, flags-skip, flags-on, flags-end}
 use Rattle.analysis.proofs.hand.names_of.Statement.{statement}
 use Rattle.analysis.proofs.hand.names_of.Tie as tie
 

@@ -4,7 +4,7 @@ use Prim.Native.Nat.{_-_}
 use native.Mathlib.Omega.{arith}
 use lib.ListN.{length}
 use borrow.Author.Needs.{needs}
-use Rattle.analysis.proofs.Asking.{AskedLeft, asked-start, counts-few, asked-on, asked-end}
+use Rattle.analysis.proofs.project.Counts.{AskedLeft, asked-start, counts-few, asked-on, asked-end}
 use Rattle.analysis.proofs.project.count_asked.Statement.{statement}
 use Rattle.analysis.proofs.project.count_asked.Tie as tie
 

@@ -1,5 +1,5 @@
 -- `count_one` meets its contract. Assumes nothing.
-use Rattle.analysis.proofs.Asking.{count-name, count-other}
+use Rattle.analysis.proofs.project.Counts.{count-name, count-other}
 use borrow.Author.Needs.{needs}
 use Rattle.analysis.proofs.project.count_one.Statement.{statement}
 use Rattle.analysis.proofs.project.count_one.Tie as tie

@@ -1,5 +1,5 @@
 -- `lower_far` meets its contract. Assumes nothing.
-use Rattle.analysis.proofs.Asking.{far-name, far-lower, far-higher}
+use Rattle.analysis.proofs.project.Counts.{far-name, far-lower, far-higher}
 use Rattle.analysis.proofs.project.lower_far.Statement.{statement}
 use Rattle.analysis.proofs.project.lower_far.Tie as tie
 

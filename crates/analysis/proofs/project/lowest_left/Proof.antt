@@ -2,7 +2,7 @@
 use Prim.Native.Nat.{_-_}
 use native.Mathlib.Omega.{arith}
 use borrow.Author.Needs.{needs}
-use Rattle.analysis.proofs.Asking.{LowestLeft, lowest-start, lowest-on, lowest-found, lowest-end}
+use Rattle.analysis.proofs.project.Counts.{LowestLeft, lowest-start, lowest-on, lowest-found, lowest-end}
 use Rattle.analysis.proofs.project.lowest_left.Statement.{statement}
 use Rattle.analysis.proofs.project.lowest_left.Tie as tie
 

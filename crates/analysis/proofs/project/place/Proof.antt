@@ -1,5 +1,5 @@
 -- `place` meets its contract. Assumes nothing.
-use Rattle.analysis.proofs.Projecting.{place-in, place-out}
+use Rattle.analysis.proofs.project.Laws.{place-in, place-out}
 use borrow.Author.Needs.{needs}
 use Rattle.analysis.proofs.project.place.Statement.{statement}
 use Rattle.analysis.proofs.project.place.Tie as tie

@@ -2,7 +2,7 @@
 use mathlib.Core.Path.{sym, _∙_}
 use Prim.Native.Nat.{_-_}
 use native.Mathlib.Omega.{arith}
-use Rattle.analysis.proofs.Projecting.{ServicesLeft, outset, services-start, service-within, service-ends, service-methods, service-room, services-on, services-end}
+use Rattle.analysis.proofs.project.Laws.{ServicesLeft, outset, services-start, service-within, service-ends, service-methods, service-room, services-on, services-end}
 use Rattle.analysis.proofs.project.project_methods.Statement.{statement}
 use Rattle.analysis.proofs.project.project_methods.Tie as tie
 
@@ -33,21 +33,25 @@ add-take-methods c = omega (arith, service-ends (c .before .before .before .loop
 add-take-methods-2 : tie.Need-add-take-methods-2 Inv-loop μ-loop
 add-take-methods-2 c = omega (arith, service-ends (c .before .before .before .before .loop .inv) (c .before .before .before .before .before .before .before .before .before .pre .0) (c .before .before .before .loop-test .taken) _ (c .before .at .ensures))
 
+-- places that are far back
+abbrev in-loop-from-take-methods-arg2 : tie.After-take-methods-arg2 Inv-loop μ-loop → tie.In-loop Inv-loop μ-loop
+in-loop-from-take-methods-arg2 c = c .before .before .before .before .before
+
 take-methods-requires : tie.Need-take-methods-requires Inv-loop μ-loop
 take-methods-requires c κs =
     let l = c .before .before .before .before .before .before .loop .inv in
-    let y = c .before .before .before .before .before .before .before .before .before .before .before .pre .0 in
+    let y = (in-loop-from-take-methods-arg2 c) .before .before .before .before .before .before .pre .0 in
     let h = c .before .before .before .before .before .loop-test .taken in
-    (service-methods l y h _ (c .before .before .before .at .ensures), service-room l y h _ (c .before .before .before .at .ensures) (c .before .before .before .before .before .before .before .before .before .before .before .pre .2))
+    (service-methods l y h _ (c .before .before .before .at .ensures), service-room l y h _ (c .before .before .before .at .ensures) ((in-loop-from-take-methods-arg2 c) .before .before .before .before .before .before .pre .2))
 
 add-k : tie.Need-add-k Inv-loop μ-loop
-add-k c = omega (arith, c .before .before .before .before .before .before .before .before .before .before .loop-test .taken, c .before .before .before .before .before .before .before .before .before .before .before .before .before .before .before .before .pre .0 .few)
+add-k c = omega (arith, (in-loop-from-take-methods-arg2 (c .before .before .before .before .before)) .loop-test .taken, (in-loop-from-take-methods-arg2 (c .before .before .before .before .before)) .before .before .before .before .before .before .pre .0 .few)
 
 loop-less : tie.Need-loop-less Inv-loop μ-loop
-loop-less c = omega (arith, c .before .before .before .before .before .before .before .before .before .before .loop-test .taken)
+loop-less c = omega (arith, (in-loop-from-take-methods-arg2 (c .before .before .before .before .before)) .loop-test .taken)
 
 loop-again : tie.Need-loop-again Inv-loop μ-loop
-loop-again c = services-on (c .before .before .before .before .before .before .before .before .before .before .before .loop .inv) (c .before .before .before .before .before .before .before .before .before .before .before .before .before .before .before .before .pre .0) (c .before .before .before .before .before .before .before .before .before .before .loop-test .taken) _ (c .before .before .before .before .before .before .before .before .at .ensures) (c .before .before .before .before .take-methods .ensures)
+loop-again c = services-on ((in-loop-from-take-methods-arg2 (c .before .before .before .before .before)) .before .loop .inv) ((in-loop-from-take-methods-arg2 (c .before .before .before .before .before)) .before .before .before .before .before .before .pre .0) ((in-loop-from-take-methods-arg2 (c .before .before .before .before .before)) .loop-test .taken) _ (c .before .before .before .before .before .before .before .before .at .ensures) (c .before .before .before .before .take-methods .ensures)
 
 same-length : tie.Need-same-length Inv-loop μ-loop
 same-length c = c .before .loop .inv .names ∙ sym (c .before .before .before .before .before .before .pre .1)

@@ -1,5 +1,5 @@
 -- `take_method` meets its contract. Assumes nothing.
-use Rattle.analysis.proofs.Projecting.{method-left, method-taken}
+use Rattle.analysis.proofs.project.Laws.{method-left, method-taken}
 use borrow.Author.Needs.{needs}
 use Rattle.analysis.proofs.project.take_method.Statement.{statement}
 use Rattle.analysis.proofs.project.take_method.Tie as tie

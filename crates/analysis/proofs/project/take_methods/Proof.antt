@@ -3,7 +3,7 @@ use Prim.Native.Nat.{_-_}
 use mathlib.Core.Path.{sym, _∙_}
 use native.Mathlib.Omega.{arith}
 use borrow.Author.Needs.{needs}
-use Rattle.analysis.proofs.Projecting.{MethodsLeft, methods-start, method-within, method-name, method-ends, method-room, methods-on, methods-end}
+use Rattle.analysis.proofs.project.Laws.{MethodsLeft, methods-start, method-within, method-name, method-ends, method-room, methods-on, methods-end}
 use Rattle.analysis.proofs.project.take_methods.Statement.{statement}
 use Rattle.analysis.proofs.project.take_methods.Tie as tie
 
@@ -28,17 +28,21 @@ take-method-requires c κs =
     let h = c .before .before .before .before .loop-test .taken in
     (method-room l h _ (c .before .before .before .at .ensures) (c .before .before .before .before .before .before .before .before .before .pre .1), method-name l h _ (c .before .before .before .at .ensures))
 
+-- places that are far back
+abbrev in-loop-from-slice-known4 : tie.After-slice-known4 Inv-loop μ-loop → tie.In-loop Inv-loop μ-loop
+in-loop-from-slice-known4 c = c .before .before .before .before .before .before .before .before .before
+
 add-at : tie.Need-add-at Inv-loop μ-loop
-add-at c = omega (arith, method-room (c .before .before .before .before .before .before .before .before .before .before .loop .inv) (c .before .before .before .before .before .before .before .before .before .loop-test .taken) _ (c .before .before .before .before .before .before .before .before .at .ensures) (c .before .before .before .before .before .before .before .before .before .before .before .before .before .before .pre .1) .few)
+add-at c = omega (arith, method-room ((in-loop-from-slice-known4 c) .before .loop .inv) (c .before .before .before .before .before .before .before .before .before .loop-test .taken) _ (c .before .before .before .before .before .before .before .before .at .ensures) ((in-loop-from-slice-known4 c) .before .before .before .before .before .pre .1) .few)
 
 add-i : tie.Need-add-i Inv-loop μ-loop
-add-i c = omega (arith, method-ends (c .before .before .before .before .before .before .before .before .before .before .before .loop .inv) (c .before .before .before .before .before .before .before .before .before .before .loop-test .taken) _ (c .before .before .before .before .before .before .before .before .before .at .ensures) .1, c .before .before .before .before .before .before .before .before .before .before .before .before .before .before .before .fits .until)
+add-i c = omega (arith, method-ends ((in-loop-from-slice-known4 (c .before)) .before .loop .inv) ((in-loop-from-slice-known4 (c .before)) .loop-test .taken) _ (c .before .before .before .before .before .before .before .before .before .at .ensures) .1, (in-loop-from-slice-known4 (c .before)) .before .before .before .before .before .fits .until)
 
 loop-less : tie.Need-loop-less Inv-loop μ-loop
-loop-less c = omega (arith, method-ends (c .before .before .before .before .before .before .before .before .before .before .before .loop .inv) (c .before .before .before .before .before .before .before .before .before .before .loop-test .taken) _ (c .before .before .before .before .before .before .before .before .before .at .ensures), c .before .before .before .before .before .before .before .before .before .before .loop-test .taken)
+loop-less c = omega (arith, method-ends ((in-loop-from-slice-known4 (c .before)) .before .loop .inv) ((in-loop-from-slice-known4 (c .before)) .loop-test .taken) _ (c .before .before .before .before .before .before .before .before .before .at .ensures), (in-loop-from-slice-known4 (c .before)) .loop-test .taken)
 
 loop-again : tie.Need-loop-again Inv-loop μ-loop
-loop-again c = methods-on (c .before .before .before .before .before .before .before .before .before .before .before .loop .inv) (c .before .before .before .before .before .before .before .before .before .before .loop-test .taken) _ (c .before .before .before .before .before .before .before .before .before .at .ensures) (c .before .before .before .before .before .take-method .ensures)
+loop-again c = methods-on ((in-loop-from-slice-known4 (c .before)) .before .loop .inv) ((in-loop-from-slice-known4 (c .before)) .loop-test .taken) _ (c .before .before .before .before .before .before .before .before .before .at .ensures) (c .before .before .before .before .before .take-method .ensures)
 
 same-length : tie.Need-same-length Inv-loop μ-loop
 same-length c = c .before .loop .inv .names ∙ sym (c .before .before .before .before .before .pre .1 .names)

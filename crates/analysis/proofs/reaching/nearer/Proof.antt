@@ -1,6 +1,6 @@
 -- `reaching::nearer` meets its contract: row i is before the rows that are done. Assumes nothing.
 use native.Mathlib.Omega.{arith}
-use Rattle.analysis.proofs.ReachNear.{name-small, other-kind, not-set, is-set}
+use Rattle.analysis.proofs.reaching.Near.{name-small, other-kind, not-set, is-set}
 use Rattle.analysis.proofs.reaching.nearer.Statement.{statement}
 use Rattle.analysis.proofs.reaching.nearer.Tie as tie
 use Rattle.analysis.proofs.reaching.nearer.Reads as reads

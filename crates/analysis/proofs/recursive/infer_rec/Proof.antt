@@ -5,8 +5,8 @@ use mathlib.Core.Path.{refl, ap}
 use native.Mathlib.Omega.{arith}
 use lib.ListN.{length, getD}
 use Rattle.format.specs.Encode.{Row}
-use Rattle.analysis.proofs.Going.{held, NodeIn, ends-in, row-in, root-in, small, GoLeft, go-start, go-end, go-other, go-again, go-anew}
-use Rattle.analysis.proofs.Inferring.{InferLeft, infer-start, infer-end, infer-stop, name-in, root-node, infer-again, infer-on}
+use Rattle.analysis.proofs.recursive.Rows.{held, NodeIn, ends-in, row-in, root-in, small, GoLeft, go-start, go-end, go-other, go-again, go-anew}
+use Rattle.analysis.proofs.recursive.Laws.{InferLeft, infer-start, infer-end, infer-stop, name-in, root-node, infer-again, infer-on}
 use Rattle.analysis.proofs.recursive.infer_rec.Statement.{statement}
 use Rattle.analysis.proofs.recursive.infer_rec.Tie as tie
 
@@ -49,12 +49,16 @@ root-of-requires c κs = c .before .before .before .before .before .before .befo
 returns : tie.Need-returns Inv-loop2 μ-loop2 Inv-loop μ-loop
 returns c = infer-stop (c .before .before .before .before .loop .inv) (c .before .before .before .loop-test .taken) _ refl _ (c .before .root-of .ensures) (c .if1 .taken)
 
--- a name with a definition is within the tables, and its root is a node
-known : (c : tie.Else1 Inv-loop2 μ-loop2 Inv-loop μ-loop) → getD (c .before .before .before .before .before .before .before .before .before .before .before .args .list .now) (c .before .before .before .before .loop .i) 0 < 1024
-known c = name-in (c .before .before .before .before .loop .inv) (c .before .before .before .loop-test .taken) _ refl _ (c .before .root-of .ensures) (c .before .before .before .before .before .before .before .before .before .before .before .pre) (c .if1 .left)
+-- places that are far back
+abbrev entry-from-in-loop : tie.In-loop Inv-loop2 μ-loop2 Inv-loop μ-loop → tie.Start Inv-loop2 μ-loop2 Inv-loop μ-loop
+entry-from-in-loop c = c .before .before .before .before .before .before .before .before
 
-node : (c : tie.Else1 Inv-loop2 μ-loop2 Inv-loop μ-loop) → NodeIn (c .before .before .before .before .before .before .before .before .before .before .before .args .rows .now) (c .before .root-of .result)
-node c = root-node (c .before .before .before .before .loop .inv) (c .before .before .before .loop-test .taken) _ refl _ (c .before .root-of .ensures) (c .before .before .before .before .before .before .before .before .before .before .before .pre) (c .if1 .left)
+-- a name with a definition is within the tables, and its root is a node
+known : (c : tie.Else1 Inv-loop2 μ-loop2 Inv-loop μ-loop) → getD ((entry-from-in-loop (c .before .before .before)) .args .list .now) (c .before .before .before .before .loop .i) 0 < 1024
+known c = name-in (c .before .before .before .before .loop .inv) (c .before .before .before .loop-test .taken) _ refl _ (c .before .root-of .ensures) ((entry-from-in-loop (c .before .before .before)) .pre) (c .if1 .left)
+
+node : (c : tie.Else1 Inv-loop2 μ-loop2 Inv-loop μ-loop) → NodeIn ((entry-from-in-loop (c .before .before .before)) .args .rows .now) (c .before .root-of .result)
+node c = root-node (c .before .before .before .before .loop .inv) (c .before .before .before .loop-test .taken) _ refl _ (c .before .root-of .ensures) ((entry-from-in-loop (c .before .before .before)) .pre) (c .if1 .left)
 
 cast-n : tie.Need-cast-n Inv-loop2 μ-loop2 Inv-loop μ-loop
 cast-n c = omega (arith, known c)
@@ -66,7 +70,7 @@ loop-less : tie.Need-loop-less Inv-loop2 μ-loop2 Inv-loop μ-loop
 loop-less c = omega (arith, c .before .before .before .before .loop-test .taken)
 
 loop-again : tie.Need-loop-again Inv-loop2 μ-loop2 Inv-loop μ-loop
-loop-again c = infer-again (c .before .before .before .before .before .loop .inv) (c .before .before .before .before .loop-test .taken) _ refl _ (c .before .before .root-of .ensures) (c .before .before .before .before .before .before .before .before .before .before .before .before .pre) (c .before .if1 .left) (c .if2 .taken)
+loop-again c = infer-again (c .before .before .before .before .before .loop .inv) (c .before .before .before .before .loop-test .taken) _ refl _ (c .before .before .root-of .ensures) ((entry-from-in-loop (c .before .before .before .before)) .pre) (c .before .if1 .left) (c .if2 .taken)
 
 cast-k : tie.Need-cast-k Inv-loop2 μ-loop2 Inv-loop μ-loop
 cast-k c = omega (arith, c .before .before .root-of .ok)
@@ -130,7 +134,7 @@ loop-less-2 : tie.Need-loop-less-2 Inv-loop2 μ-loop2 Inv-loop μ-loop
 loop-less-2 c = omega (arith, c .before .before .before .before .before .before .before .before .loop-test .taken)
 
 loop-again-2 : tie.Need-loop-again-2 Inv-loop2 μ-loop2 Inv-loop μ-loop
-loop-again-2 c = infer-on (c .before .before .before .before .before .before .before .before .before .loop .inv) (c .before .before .before .before .before .before .before .before .loop-test .taken) _ refl _ (c .before .before .before .before .before .before .root-of .ensures) (c .before .before .before .before .before .before .before .before .before .before .before .before .before .before .before .before .pre) (c .before .before .before .before .before .if1 .left) _ (go-end (c .before .loop2 .inv) (node (c .before .before .before .before .before)) (c .loop2-test .left))
+loop-again-2 c = infer-on (c .before .before .before .before .before .before .before .before .before .loop .inv) (c .before .before .before .before .before .before .before .before .loop-test .taken) _ refl _ (c .before .before .before .before .before .before .root-of .ensures) ((entry-from-in-loop (c .before .before .before .before .before .before .before .before)) .pre) (c .before .before .before .before .before .if1 .left) _ (go-end (c .before .loop2 .inv) (node (c .before .before .before .before .before)) (c .loop2-test .left))
 
 returns-2 : tie.Need-returns-2 Inv-loop2 μ-loop2 Inv-loop μ-loop
 returns-2 c = infer-end (c .before .loop .inv) (c .loop-test .left)

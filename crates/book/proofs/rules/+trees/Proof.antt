@@ -7,8 +7,10 @@ use borrow.Fn.Kinds.{In}
 use borrow.Fn.PlainCycle.{Measures, is, falls, and}
 use Rattle.format.specs.declared.Place.{Place}
 use Rattle.format.specs.Rules.{belowKind}
-use Rattle.book.specs.declared.rules.Walked.the-variants.{Count}
-use Rattle.book.specs.Steps.{Good, TreesAs}
+use Rattle.book.specs.declared.read.Node.{Node}
+use Rattle.book.specs.declared.rules.Walked.{Walked}
+use Rattle.book.specs.declared.rules.Walked.the-variants.{Broken, Count}
+use Rattle.book.specs.Steps.{TreesAs}
 use Rattle.book.proofs.Trees.{TreesLeft, trees-start, row-within, trees-none, trees-long, kids-within, trees-kids, trees-row, trees-on, trees-end}
 use Rattle.book.proofs.rules.trees.Reads as trees
 use Rattle.book.proofs.rules.trees.Kinds as trees-kinds
@@ -82,36 +84,61 @@ enum-known-kids t c = c .match .keys1
 enum-told : (t : ℕ) → lts.Need-enum-told (calls t) (trees-at t) trees.Post Inv-loop μ-loop
 enum-told t c = c .match .keys2
 
+-- places that are far back: the turn of the loop, once the children are counted
+abbrev Turn : ℕ → Type 0
+Turn t = lts.In-loop (calls t) (trees-at t) trees.Post Inv-loop μ-loop
+
+abbrev turn-of : (t : ℕ) → lts.After-known-told (calls t) (trees-at t) trees.Post Inv-loop μ-loop → Turn t
+turn-of t c = c .before .before .before .before .before .before .before .before
+
+-- what a walk over the children of the turn's node finds, where they stand at q
+abbrev Below : (t : ℕ) → Turn t → Node → Place → Walked → Type 0
+Below t u n q w =
+    let a = u .before .before .before .args in
+    TreesAs (a .names) q (a .rows .now) (u .before .loop .i + 1) (u .before .loop .i + n .size) w
+
 returns-3 : (t : ℕ) → lts.Need-returns-3 (calls t) (trees-at t) trees.Post Inv-loop μ-loop
 returns-3 t c =
-    trees-kids (c .before .before .before .before .before .before .before .before .loop .inv) (c .before .before .before .before .before .before .before .loop-test .taken) _ (c .before .before .before .before .before .before .at .ensures)
-    (subst (λ (q : Place). Good (c .before .before .before .before .before .before .before .before .before .before .args .names) q (c .before .before .before .before .before .before .before .before .before .before .args .rows .now) (c .before .before .before .before .before .before .before .before .loop .i + 1) (c .before .before .before .before .before .before .before .before .loop .i + c .before .before .before .before .before .before .at .result .size) → ⊥) (c .before .before .before .place-below .ensures)
-    (subst (TreesAs (c .before .before .before .before .before .before .before .before .before .before .args .names) (c .before .before .before .place-below .result) (c .before .before .before .before .before .before .before .before .before .before .args .rows .now) (c .before .before .before .before .before .before .before .before .loop .i + 1) (c .before .before .before .before .before .before .before .before .loop .i + c .before .before .before .before .before .before .at .result .size)) (c .enum-told .given .1) (c .before .before .trees .ensures)))
+    let u : Turn t = c .before .before .before .before .before .before .before in
+    let n : Node = c .before .before .before .before .before .before .at .result in
+    trees-kids (u .before .loop .inv) (u .loop-test .taken) _ (c .before .before .before .before .before .before .at .ensures)
+    (subst (λ (q : Place). Below t u n q Broken) (c .before .before .before .place-below .ensures)
+    (subst (Below t u n (c .before .before .before .place-below .result)) (c .enum-told .given .1) (c .before .before .trees .ensures)))
 
 node-fine-requires : (t : ℕ) → lts.Need-node-fine-requires (calls t) (trees-at t) trees.Post Inv-loop μ-loop
 node-fine-requires t c κs = tt
 
 -- past the call: the children are good, and counted
 below : (t : ℕ) (c : lts.After-known-told (calls t) (trees-at t) trees.Post Inv-loop μ-loop) →
-    TreesAs (c .before .before .before .before .before .before .before .before .before .before .before .args .names) (belowKind (c .before .before .before .before .before .before .before .at .result .kind)) (c .before .before .before .before .before .before .before .before .before .before .before .args .rows .now) (c .before .before .before .before .before .before .before .before .before .loop .i + 1) (c .before .before .before .before .before .before .before .before .before .loop .i + c .before .before .before .before .before .before .before .at .result .size) (Count (c .before .kids .given .0 .0))
+    let n : Node = c .before .before .before .before .before .before .before .at .result in
+    Below t (turn-of t c) n (belowKind (n .kind)) (Count (c .before .kids .given .0 .0))
 below t c =
-    subst (λ (q : Place). TreesAs (c .before .before .before .before .before .before .before .before .before .before .before .args .names) q (c .before .before .before .before .before .before .before .before .before .before .before .args .rows .now) (c .before .before .before .before .before .before .before .before .before .loop .i + 1) (c .before .before .before .before .before .before .before .before .before .loop .i + c .before .before .before .before .before .before .before .at .result .size) (Count (c .before .kids .given .0 .0))) (c .before .before .before .before .place-below .ensures)
-    (subst (TreesAs (c .before .before .before .before .before .before .before .before .before .before .before .args .names) (c .before .before .before .before .place-below .result) (c .before .before .before .before .before .before .before .before .before .before .before .args .rows .now) (c .before .before .before .before .before .before .before .before .before .loop .i + 1) (c .before .before .before .before .before .before .before .before .before .loop .i + c .before .before .before .before .before .before .before .at .result .size)) (c .before .kids .given .1) (c .before .before .before .trees .ensures))
+    let n : Node = c .before .before .before .before .before .before .before .at .result in
+    subst (λ (q : Place). Below t (turn-of t c) n q (Count (c .before .kids .given .0 .0))) (c .before .before .before .before .place-below .ensures)
+    (subst (Below t (turn-of t c) n (c .before .before .before .before .place-below .result)) (c .before .kids .given .1) (c .before .before .before .trees .ensures))
 
 returns-4 : (t : ℕ) → lts.Need-returns-4 (calls t) (trees-at t) trees.Post Inv-loop μ-loop
-returns-4 t c = trees-row (c .before .before .before .before .before .before .before .before .before .before .before .loop .inv) (c .before .before .before .before .before .before .before .before .before .before .loop-test .taken) _ (c .before .before .before .before .before .before .before .before .before .at .ensures) (c .before .before .before .before .before .before .before .before .if1 .left) (c .before .before .before .before .before .before .before .if2 .left) _ (below t (c .before .before)) (sym (c .before .node-fine .ensures) ∙ not-true _ (c .if3 .taken))
+returns-4 t c =
+    let u : Turn t = turn-of t (c .before .before) in
+    trees-row (u .before .loop .inv) (u .loop-test .taken) _ (c .before .before .before .before .before .before .before .before .before .at .ensures)
+    (c .before .before .before .before .before .before .before .before .if1 .left) (c .before .before .before .before .before .before .before .if2 .left) _
+    (below t (c .before .before)) (sym (c .before .node-fine .ensures) ∙ not-true _ (c .if3 .taken))
 
 add-count : (t : ℕ) → lts.Need-add-count (calls t) (trees-at t) trees.Post Inv-loop μ-loop
-add-count t c = omega (arith, c .before .before .before .before .before .before .before .before .before .before .before .loop .inv .few, c .before .before .before .before .before .before .before .before .before .before .loop-test .taken, c .before .before .before .before .before .before .before .before .before .before .before .before .before .fits .until)
+add-count t c = let u : Turn t = turn-of t (c .before .before) in omega (arith, u .before .loop .inv .few, u .loop-test .taken, u .before .before .before .fits .until)
 
 add-i : (t : ℕ) → lts.Need-add-i (calls t) (trees-at t) trees.Post Inv-loop μ-loop
-add-i t c = omega (arith, c .before .before .before .before .before .before .before .if2 .left, c .before .before .before .before .before .before .before .before .before .before .loop-test .taken, c .before .before .before .before .before .before .before .before .before .before .before .before .before .fits .until)
+add-i t c = let u : Turn t = turn-of t (c .before .before) in omega (arith, c .before .before .before .before .before .before .before .if2 .left, u .loop-test .taken, u .before .before .before .fits .until)
 
 loop-less : (t : ℕ) → lts.Need-loop-less (calls t) (trees-at t) trees.Post Inv-loop μ-loop
-loop-less t c = omega (arith, c .before .before .before .before .before .before .before .before .if1 .left, c .before .before .before .before .before .before .before .if2 .left, c .before .before .before .before .before .before .before .before .before .before .loop-test .taken)
+loop-less t c = omega (arith, c .before .before .before .before .before .before .before .before .if1 .left, c .before .before .before .before .before .before .before .if2 .left, turn-of t (c .before .before) .loop-test .taken)
 
 loop-again : (t : ℕ) → lts.Need-loop-again (calls t) (trees-at t) trees.Post Inv-loop μ-loop
-loop-again t c = trees-on (c .before .before .before .before .before .before .before .before .before .before .before .loop .inv) (c .before .before .before .before .before .before .before .before .before .before .loop-test .taken) _ (c .before .before .before .before .before .before .before .before .before .at .ensures) (c .before .before .before .before .before .before .before .before .if1 .left) (c .before .before .before .before .before .before .before .if2 .left) _ (below t (c .before .before)) (sym (c .before .node-fine .ensures) ∙ not-false _ (c .if3 .left))
+loop-again t c =
+    let u : Turn t = turn-of t (c .before .before) in
+    trees-on (u .before .loop .inv) (u .loop-test .taken) _ (c .before .before .before .before .before .before .before .before .before .at .ensures)
+    (c .before .before .before .before .before .before .before .before .if1 .left) (c .before .before .before .before .before .before .before .if2 .left) _
+    (below t (c .before .before)) (sym (c .before .node-fine .ensures) ∙ not-false _ (c .if3 .left))
 
 returns-5 : (t : ℕ) → lts.Need-returns-5 (calls t) (trees-at t) trees.Post Inv-loop μ-loop
 returns-5 t c = trees-end (c .before .loop .inv) (c .loop-test .left)

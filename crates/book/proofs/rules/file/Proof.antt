@@ -1,106 +1,75 @@
--- `rules::file` meets its contract: the tests of an entry in the order of the code. Assumes nothing.
-use mathlib.Core.Path.{sym, ap, subst, _∙_}
-use mathlib.Core.Logic.{inl, inr}
+-- `rules::file` meets its contract: the tests of an entry and of its tree in the order of the code. Assumes nothing.
+use mathlib.Core.Path.{sym, _∙_}
 use native.Mathlib.Omega.{arith}
-use borrow.Author.Tests.{not-true, not-false, ne-eqb}
-use lib.Dec.{T}
-use Rattle.format.specs.Encode.{Row}
-use Rattle.book.proofs.Entries.{file-tests, file-rootless, file-none, file-root, file-next, tests-of, init-role, root-fits, root-rest}
+use borrow.Author.Tests.{not-true, not-false}
+use Rattle.book.proofs.Entries.{file-tests, file-rootless, file-none, file-root, file-init, file-next, root-fits, root-rest}
 use borrow.Author.Needs.{needs}
 use Rattle.book.proofs.rules.file.Statement.{statement}
 use Rattle.book.proofs.rules.file.Tie as tie
-use Rattle.book.proofs.rules.file.Reads as reads
-use Rattle.book.proofs.rules.file.Lts as lts
-use Rattle.book.proofs.read.Node.at.Reads as at-reads
-use Rattle.book.proofs.rules.role_fine.Reads as role-fine-reads
 
-cast-if1 : tie.Need-cast-if1
-cast-if1 c = search needs
+-- places that are far back
+abbrev entry-after-else4 : tie.Else4 → tie.Start
+entry-after-else4 c = c .before .before .before .before .before .before .before .before
+
+abbrev fine-after-else4 : tie.Else4 → tie.After-file-fine
+fine-after-else4 c = c .before .before .before .before .before .before
+
+file-fine-requires : tie.Need-file-fine-requires
+file-fine-requires c κs = search needs
 
 returns : tie.Need-returns
-returns c = λ es l x. let t = file-tests _ _ _ _ es _ x in let z : ⊥ = omega (arith, t .name, c .if1 .taken) in z
-
-role-fine-requires : tie.Need-role-fine-requires
-role-fine-requires c κs = search needs
+returns c = λ es l x. c .before .file-fine .ensures .fails (not-true _ (c .if1 .taken)) (rw l at (file-tests _ _ _ _ es _ x))
 
 returns-2 : tie.Need-returns-2
-returns-2 c = λ es l x. subst T (sym (c .before .role-fine .ensures) ∙ not-true _ (c .if2 .taken)) (rw l at (file-tests _ _ _ _ es _ x .role))
-
-returns-3 : tie.Need-returns-3
-returns-3 c = λ es l x. c .if3 .taken (file-tests _ _ _ _ es _ x .reserved)
-
-returns-4 : tie.Need-returns-4
-returns-4 c = λ es l x. file-tests _ _ _ _ es _ x .rootless (c .before .before .if4 .taken) (c .if5 .taken)
-
-returns-5 : tie.Need-returns-5
-returns-5 c = (
-  c .before .before .before .before .before .before .before .before .before .before .before .pre,
-  λ es l. file-rootless _ _ _ _ es _ (tests-of _ _ _ _ es (c .before .before .before .before .before .before .before .before .if1 .left) (sym (c .before .before .before .before .before .before .before .role-fine .ensures) ∙ not-false _ (c .before .before .before .before .before .before .if2 .left)) (c .before .before .before .before .if3 .left) (λ x. c .if5 .left) l)
-      (c .before .before .if4 .taken) (c .if5 .left),
+returns-2 c = (
+  c .before .before .before .before .before .pre,
+  λ es l. file-rootless _ _ _ _ es _ (rw l (c .before .before .before .file-fine .ensures .holds (not-false _ (c .before .before .if1 .left)))) (c .if2 .taken),
 )
 
-returns-6 : tie.Need-returns-6
-returns-6 c = λ es l x. file-none _ _ _ _ es _ _ (c .before .before .before .before .before .before .before .before .before .before .pre) (c .before .if4 .left) (c .if6 .taken) x
+returns-3 : tie.Need-returns-3
+returns-3 c = λ es l x. file-none _ _ _ _ es _ _ (c .before .before .before .before .before .before .pre) (c .before .if2 .left) (c .if3 .taken) x
 
-cast-if7 : tie.Need-cast-if7
-cast-if7 c = search needs
+cast-if4 : tie.Need-cast-if4
+cast-if4 c = search needs
 
-returns-7 : tie.Need-returns-7
-returns-7 c = λ es l x. c .if7 .taken (file-root _ _ _ _ es _ _ (c .before .before .before .before .before .before .before .before .before .before .before .before .pre) (c .before .before .before .if4 .left) (c .before .before .if6 .left) x .root)
+returns-4 : tie.Need-returns-4
+returns-4 c = λ es l x. c .if4 .taken (file-root _ _ _ _ es _ _ (c .before .before .before .before .before .before .before .before .pre) (c .before .before .before .if2 .left) (c .before .before .if3 .left) x .root)
 
 at-requires : tie.Need-at-requires
 at-requires c κs = search needs
 
-returns-8 : tie.Need-returns-8
-returns-8 c =
-    λ es l x. init-role _ _ (λ a. c .if9 .taken) (inl (sym (ap (λ (q : Row). q .kind) (c .before .before .before .before .at .ensures)) ∙ c .before .before .if8 .taken))
-    (file-root _ _ _ _ es _ _ (c .before .before .before .before .before .before .before .before .before .before .before .before .before .before .before .before .before .pre) (c .before .before .before .before .before .before .before .before .if4 .left) (c .before .before .before .before .before .before .before .if6 .left) x .init)
+init-fine-requires : tie.Need-init-fine-requires
+init-fine-requires c κs = search needs
 
-add-t14 : tie.Need-add-t14
-add-t14 c = omega (arith, root-fits (c .before .before .before .before .before .before .before .before .before .before .before .before .before .before .before .before .before .before .pre) (c .before .before .before .before .before .before .before .before .if6 .left) _ (c .before .before .before .before .before .at .ensures), c .before .before .before .before .before .before .before .before .before .before .before .before .before .before .before .before .before .before .fits)
+returns-5 : tie.Need-returns-5
+returns-5 c = λ es l x. file-init _ _ _ _ es _ _ (entry-after-else4 (c .before .before .before) .pre) (c .before .before .before .before .before .before .if2 .left) (c .before .before .before .before .before .if3 .left) _ (c .before .before .at .ensures) (sym (c .before .init-fine .ensures) ∙ not-true _ (c .if5 .taken)) x
 
-returns-9 : tie.Need-returns-9
-returns-9 c = (
-  root-rest (c .before .before .before .before .before .before .before .before .before .before .before .before .before .before .before .before .before .before .pre) (c .before .before .before .before .before .before .before .before .if6 .left) _ (c .before .before .before .before .before .at .ensures),
-  λ es l. file-next _ _ _ _ es _ _ (c .before .before .before .before .before .before .before .before .before .before .before .before .before .before .before .before .before .before .pre) (c .before .before .before .before .before .before .before .before .before .if4 .left) (c .before .before .before .before .before .before .before .before .if6 .left) _ (c .before .before .before .before .before .at .ensures)
-      (tests-of _ _ _ _ es (c .before .before .before .before .before .before .before .before .before .before .before .before .before .before .before .if1 .left) (sym (c .before .before .before .before .before .before .before .before .before .before .before .before .before .before .role-fine .ensures) ∙ not-false _ (c .before .before .before .before .before .before .before .before .before .before .before .before .before .if2 .left)) (c .before .before .before .before .before .before .before .before .before .before .before .if3 .left) (λ x. absurd (c .before .before .before .before .before .before .before .before .before .if4 .left x)) l)
-      (record { root = c .before .before .before .before .before .before .if7 .left; init = rw (c .before .before .before .if8 .taken, c .before .if9 .left) }),
-)
+add-t11 : tie.Need-add-t11
+add-t11 c = omega (arith, root-fits (entry-after-else4 (c .before .before .before .before) .pre) (c .before .before .before .before .before .before .if3 .left) _ (c .before .before .before .at .ensures), entry-after-else4 (c .before .before .before .before) .fits)
 
-returns-10 : tie.Need-returns-10
-returns-10 c =
-    λ es l x. init-role _ _ (λ a. absurd (c .before .before .if8 .left (ap (λ (q : Row). q .kind) (c .before .before .before .before .at .ensures) ∙ a))) (inr (c .if10 .taken))
-    (file-root _ _ _ _ es _ _ (c .before .before .before .before .before .before .before .before .before .before .before .before .before .before .before .before .before .pre) (c .before .before .before .before .before .before .before .before .if4 .left) (c .before .before .before .before .before .before .before .if6 .left) x .init)
-
-add-t9 : tie.Need-add-t9
-add-t9 c = omega (arith, root-fits (c .before .before .before .before .before .before .before .before .before .before .before .before .before .before .before .before .before .before .pre) (c .before .before .before .before .before .before .before .before .if6 .left) _ (c .before .before .before .before .before .at .ensures), c .before .before .before .before .before .before .before .before .before .before .before .before .before .before .before .before .before .before .fits)
-
-returns-11 : tie.Need-returns-11
-returns-11 c = (
-  root-rest (c .before .before .before .before .before .before .before .before .before .before .before .before .before .before .before .before .before .before .pre) (c .before .before .before .before .before .before .before .before .if6 .left) _ (c .before .before .before .before .before .at .ensures),
-  λ es l. file-next _ _ _ _ es _ _ (c .before .before .before .before .before .before .before .before .before .before .before .before .before .before .before .before .before .before .pre) (c .before .before .before .before .before .before .before .before .before .if4 .left) (c .before .before .before .before .before .before .before .before .if6 .left) _ (c .before .before .before .before .before .at .ensures)
-      (tests-of _ _ _ _ es (c .before .before .before .before .before .before .before .before .before .before .before .before .before .before .before .if1 .left) (sym (c .before .before .before .before .before .before .before .before .before .before .before .before .before .before .role-fine .ensures) ∙ not-false _ (c .before .before .before .before .before .before .before .before .before .before .before .before .before .if2 .left)) (c .before .before .before .before .before .before .before .before .before .before .before .if3 .left) (λ x. absurd (c .before .before .before .before .before .before .before .before .before .if4 .left x)) l)
-      (record { root = c .before .before .before .before .before .before .if7 .left; init = rw (ne-eqb _ _ (c .before .before .before .if8 .left), ne-eqb _ _ (c .before .if10 .left)) }),
-)
+returns-6 : tie.Need-returns-6
+returns-6 c =
+    let p = entry-after-else4 (c .before .before .before .before) .pre in
+    let left = c .before .before .before .before .before .before .if3 .left in
+    let is = c .before .before .before .at .ensures in
+    let f = fine-after-else4 (c .before .before .before .before) .file-fine .ensures .holds (not-false _ (c .before .before .before .before .before .before .before .before .before .if1 .left)) in (
+      root-rest p left _ is,
+      λ es l. file-next _ _ _ _ es _ _ p (c .before .before .before .before .before .before .before .if2 .left) left _ is (rw l f)
+          (record { root = c .before .before .before .before .if4 .left; init = sym (c .before .before .init-fine .ensures) ∙ not-false _ (c .before .if5 .left) }),
+    )
 
 pub file-spec : {M : Type 1} → statement M
 file-spec =
     tie.close
     (tie.spec
-    cast-if1
+    file-fine-requires
     returns
-    role-fine-requires
     returns-2
     returns-3
+    cast-if4
     returns-4
-    returns-5
-    returns-6
-    cast-if7
-    returns-7
     at-requires
-    returns-8
-    add-t14
-    returns-9
-    returns-10
-    add-t9
-    returns-11)
+    init-fine-requires
+    returns-5
+    add-t11
+    returns-6)

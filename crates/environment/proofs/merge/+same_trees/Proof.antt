@@ -5,7 +5,8 @@ use native.Mathlib.Omega.{arith}
 use borrow.Author.Tests.{not-true, not-false}
 use borrow.Fn.Kinds.{In}
 use borrow.Fn.PlainCycle.{Measures, is, falls, and}
-use Rattle.environment.proofs.Same.{SameLeft, same-start, same-end, same-short, first-within, second-within, first-fits, second-fits, first-size, second-size, kids-compared, same-node, same-kids, same-on}
+use Rattle.book.specs.Reading.{asRow}
+use Rattle.environment.proofs.merge.Lockstep.{SameLeft, same-start, same-end, same-short, first-within, second-within, Turn, first-fits, second-fits, first-size, first-few, second-few, kids-compared, same-node, same-kids, same-on}
 use Rattle.environment.proofs.merge.same_trees.Reads as same-trees
 use Rattle.environment.proofs.merge.same_trees.Kinds as same-trees-kinds
 use Rattle.environment.proofs.merge.+same_trees.Lts-same_trees as lts
@@ -54,44 +55,74 @@ at-requires t c κs = first-within (c .before .before .before .before .before .p
 at-requires-2 : (t : ℕ) → lts.Need-at-requires-2 (calls t) (trees-at t) same-trees.Post Inv-loop μ-loop
 at-requires-2 t c κs = second-within (c .before .before .before .before .before .before .pre .1) (c .before .before .before .loop .inv) (c .before .before .loop-test .taken) (c .before .if1 .left)
 
+-- the rows of both trees are read
+abbrev Read : ℕ → Type 0
+Read t = lts.After-at2 (calls t) (trees-at t) same-trees.Post Inv-loop μ-loop
+
+abbrev entry : (t : ℕ) → Read t → lts.Start (calls t) (trees-at t) same-trees.Post Inv-loop μ-loop
+entry t c = c .before .before .before .before .before .before .before
+
+abbrev walk : (t : ℕ) → Read t → lts.At-loop (calls t) (trees-at t) same-trees.Post Inv-loop μ-loop
+walk t c = c .before .before .before .before
+
+turn : (t : ℕ) (c : Read t) →
+    let a = entry t c .args in
+    let l = walk t c .loop in
+    Turn (a .rows .now) (a .hashes .now) (a .place) (a .a) (a .a-until) (a .b) (a .b-until) (l .i) (l .j) (asRow (c .before .at .result)) (asRow (c .at2 .result))
+turn t c =
+    record {
+      compared = entry t c .pre .1;
+      left = walk t c .loop .inv;
+      more = c .before .before .before .loop-test .taken;
+      other = c .before .before .if1 .left;
+      is = c .before .at .ensures;
+      at = c .at2 .ensures;
+    }
+
 same-node-requires : (t : ℕ) → lts.Need-same-node-requires (calls t) (trees-at t) same-trees.Post Inv-loop μ-loop
-same-node-requires t c κs = (c .before .before .before .before .before .before .before .pre .1 .long, first-fits (c .before .before .before .before .before .before .before .pre .1) (c .before .before .before .before .loop .inv) (c .before .before .before .loop-test .taken) (c .before .before .if1 .left) _ _ (c .before .at .ensures) (c .at2 .ensures), second-fits (c .before .before .before .before .before .before .before .pre .1) (c .before .before .before .before .loop .inv) (c .before .before .before .loop-test .taken) (c .before .before .if1 .left) _ _ (c .before .at .ensures) (c .at2 .ensures))
+same-node-requires t c κs = let o = turn t c in (o .compared .long, first-fits o, second-fits o)
 
 returns-2 : (t : ℕ) → lts.Need-returns-2 (calls t) (trees-at t) same-trees.Post Inv-loop μ-loop
-returns-2 t c = same-node (c .before .before .before .before .before .before .before .before .before .pre .1) (c .before .before .before .before .before .before .loop .inv) (c .before .before .before .before .before .loop-test .taken) (c .before .before .before .before .if1 .left) _ _ (c .before .before .before .at .ensures) (c .before .before .at2 .ensures) (c .before .same-node .ensures) (not-true _ (c .if2 .taken))
+returns-2 t c = same-node (turn t (c .before .before)) (c .before .same-node .ensures) (not-true _ (c .if2 .taken))
 
 place-below-requires : (t : ℕ) → lts.Need-place-below-requires (calls t) (trees-at t) same-trees.Post Inv-loop μ-loop
 place-below-requires t c κs = tt
 
 add-same-trees : (t : ℕ) → lts.Need-add-same-trees (calls t) (trees-at t) same-trees.Post Inv-loop μ-loop
-add-same-trees t c = omega (arith, c .before .before .before .before .before .before .loop-test .taken, c .before .before .before .before .before .before .before .before .before .before .pre .1 .first-in, c .before .before .before .before .before .before .before .before .before .before .pre .1 .second-in, c .before .before .before .before .before .before .before .before .before .before .pre .1 .nodes .fewNodes)
+add-same-trees t c = omega (arith, first-few (turn t (c .before .before .before)) .0)
 
 add-same-trees-2 : (t : ℕ) → lts.Need-add-same-trees-2 (calls t) (trees-at t) same-trees.Post Inv-loop μ-loop
-add-same-trees-2 t c = omega (arith, first-size (c .before .before .before .before .before .before .before .before .before .before .before .pre .1) (c .before .before .before .before .before .before .before .before .loop .inv) (c .before .before .before .before .before .before .before .loop-test .taken) (c .before .before .before .before .before .before .if1 .left) _ _ (c .before .before .before .before .before .at .ensures) (c .before .before .before .before .at2 .ensures), c .before .before .before .before .before .before .before .before .before .before .before .pre .1 .first-in, c .before .before .before .before .before .before .before .before .before .before .before .pre .1 .second-in, c .before .before .before .before .before .before .before .before .before .before .before .pre .1 .nodes .fewNodes)
+add-same-trees-2 t c = omega (arith, first-few (turn t (c .before .before .before .before)) .1)
 
 add-same-trees-3 : (t : ℕ) → lts.Need-add-same-trees-3 (calls t) (trees-at t) same-trees.Post Inv-loop μ-loop
-add-same-trees-3 t c = omega (arith, c .before .before .before .before .before .before .if1 .left, c .before .before .before .before .before .before .before .before .before .before .before .pre .1 .first-in, c .before .before .before .before .before .before .before .before .before .before .before .pre .1 .second-in, c .before .before .before .before .before .before .before .before .before .before .before .pre .1 .nodes .fewNodes)
+add-same-trees-3 t c = omega (arith, second-few (turn t (c .before .before .before .before)) .0)
 
 add-same-trees-4 : (t : ℕ) → lts.Need-add-same-trees-4 (calls t) (trees-at t) same-trees.Post Inv-loop μ-loop
-add-same-trees-4 t c = omega (arith, second-size (c .before .before .before .before .before .before .before .before .before .before .before .before .pre .1) (c .before .before .before .before .before .before .before .before .before .loop .inv) (c .before .before .before .before .before .before .before .before .loop-test .taken) (c .before .before .before .before .before .before .before .if1 .left) _ _ (c .before .before .before .before .before .before .at .ensures) (c .before .before .before .before .before .at2 .ensures), c .before .before .before .before .before .before .before .before .before .before .before .before .pre .1 .first-in, c .before .before .before .before .before .before .before .before .before .before .before .before .pre .1 .second-in, c .before .before .before .before .before .before .before .before .before .before .before .before .pre .1 .nodes .fewNodes)
+add-same-trees-4 t c = omega (arith, second-few (turn t (c .before .before .before .before .before)) .1)
 
 same-trees-requires : (t : ℕ) → lts.Need-same-trees-requires (calls t) (trees-at t) same-trees.Post Inv-loop μ-loop
-same-trees-requires t c κs = (omega (arith, first-size (c .before .before .before .before .before .before .before .before .before .before .before .before .pre .1) (c .before .before .before .before .before .before .before .before .before .loop .inv) (c .before .before .before .before .before .before .before .before .loop-test .taken) (c .before .before .before .before .before .before .before .if1 .left) _ _ (c .before .before .before .before .before .before .at .ensures) (c .before .before .before .before .before .at2 .ensures), c .before .before .before .before .before .before .before .before .before .loop .inv .later, c .before .before .before .before .before .before .before .before .before .before .before .before .pre .0), kids-compared (c .before .before .before .before .before .before .before .before .before .before .before .before .pre .1) (c .before .before .before .before .before .before .before .before .before .loop .inv) (c .before .before .before .before .before .before .before .before .loop-test .taken) (c .before .before .before .before .before .before .before .if1 .left) _ _ (c .before .before .before .before .before .before .at .ensures) (c .before .before .before .before .before .at2 .ensures))
+same-trees-requires t c κs =
+    let o = turn t (c .before .before .before .before .before) in
+    (omega (arith, first-size o, o .left .later, entry t (c .before .before .before .before .before) .pre .0), kids-compared o)
 
 returns-3 : (t : ℕ) → lts.Need-returns-3 (calls t) (trees-at t) same-trees.Post Inv-loop μ-loop
-returns-3 t c = same-kids (c .before .before .before .before .before .before .before .before .before .before .before .before .before .before .pre .1) (c .before .before .before .before .before .before .before .before .before .before .before .loop .inv) (c .before .before .before .before .before .before .before .before .before .before .loop-test .taken) (c .before .before .before .before .before .before .before .before .before .if1 .left) _ _ (c .before .before .before .before .before .before .before .before .at .ensures) (c .before .before .before .before .before .before .before .at2 .ensures) (c .before .before .before .before .before .before .same-node .ensures) (not-false _ (c .before .before .before .before .before .if2 .left)) _ (c .before .before .before .before .place-below .ensures) (c .before .same-trees .ensures) (not-true _ (c .if3 .taken))
+returns-3 t c =
+    same-kids (turn t (c .before .before .before .before .before .before .before)) (c .before .before .before .before .before .before .same-node .ensures) (not-false _ (c .before .before .before .before .before .if2 .left)) _ (c .before .before .before .before .place-below .ensures)
+    (c .before .same-trees .ensures) (not-true _ (c .if3 .taken))
 
 add-i : (t : ℕ) → lts.Need-add-i (calls t) (trees-at t) same-trees.Post Inv-loop μ-loop
-add-i t c = omega (arith, first-size (c .before .before .before .before .before .before .before .before .before .before .before .before .before .before .before .pre .1) (c .before .before .before .before .before .before .before .before .before .before .before .before .loop .inv) (c .before .before .before .before .before .before .before .before .before .before .before .loop-test .taken) (c .before .before .before .before .before .before .before .before .before .before .if1 .left) _ _ (c .before .before .before .before .before .before .before .before .before .at .ensures) (c .before .before .before .before .before .before .before .before .at2 .ensures), c .before .before .before .before .before .before .before .before .before .before .before .before .before .before .before .pre .1 .first-in, c .before .before .before .before .before .before .before .before .before .before .before .before .before .before .before .pre .1 .second-in, c .before .before .before .before .before .before .before .before .before .before .before .before .before .before .before .pre .1 .nodes .fewNodes)
+add-i t c = omega (arith, first-few (turn t (c .before .before .before .before .before .before .before .before)) .1)
 
 add-j : (t : ℕ) → lts.Need-add-j (calls t) (trees-at t) same-trees.Post Inv-loop μ-loop
-add-j t c = omega (arith, second-size (c .before .before .before .before .before .before .before .before .before .before .before .before .before .before .before .before .pre .1) (c .before .before .before .before .before .before .before .before .before .before .before .before .before .loop .inv) (c .before .before .before .before .before .before .before .before .before .before .before .before .loop-test .taken) (c .before .before .before .before .before .before .before .before .before .before .before .if1 .left) _ _ (c .before .before .before .before .before .before .before .before .before .before .at .ensures) (c .before .before .before .before .before .before .before .before .before .at2 .ensures), c .before .before .before .before .before .before .before .before .before .before .before .before .before .before .before .before .pre .1 .first-in, c .before .before .before .before .before .before .before .before .before .before .before .before .before .before .before .before .pre .1 .second-in, c .before .before .before .before .before .before .before .before .before .before .before .before .before .before .before .before .pre .1 .nodes .fewNodes)
+add-j t c = omega (arith, second-few (turn t (c .before .before .before .before .before .before .before .before .before)) .1)
 
 loop-less : (t : ℕ) → lts.Need-loop-less (calls t) (trees-at t) same-trees.Post Inv-loop μ-loop
-loop-less t c = omega (arith, first-size (c .before .before .before .before .before .before .before .before .before .before .before .before .before .before .before .before .pre .1) (c .before .before .before .before .before .before .before .before .before .before .before .before .before .loop .inv) (c .before .before .before .before .before .before .before .before .before .before .before .before .loop-test .taken) (c .before .before .before .before .before .before .before .before .before .before .before .if1 .left) _ _ (c .before .before .before .before .before .before .before .before .before .before .at .ensures) (c .before .before .before .before .before .before .before .before .before .at2 .ensures))
+loop-less t c = omega (arith, first-size (turn t (c .before .before .before .before .before .before .before .before .before)))
 
 loop-again : (t : ℕ) → lts.Need-loop-again (calls t) (trees-at t) same-trees.Post Inv-loop μ-loop
-loop-again t c = same-on (c .before .before .before .before .before .before .before .before .before .before .before .before .before .before .before .before .pre .1) (c .before .before .before .before .before .before .before .before .before .before .before .before .before .loop .inv) (c .before .before .before .before .before .before .before .before .before .before .before .before .loop-test .taken) (c .before .before .before .before .before .before .before .before .before .before .before .if1 .left) _ _ (c .before .before .before .before .before .before .before .before .before .before .at .ensures) (c .before .before .before .before .before .before .before .before .before .at2 .ensures) (c .before .before .before .before .before .before .before .before .same-node .ensures) (not-false _ (c .before .before .before .before .before .before .before .if2 .left)) _ (c .before .before .before .before .before .before .place-below .ensures) (c .before .before .before .same-trees .ensures) (not-false _ (c .before .before .if3 .left))
+loop-again t c =
+    same-on (turn t (c .before .before .before .before .before .before .before .before .before)) (c .before .before .before .before .before .before .before .before .same-node .ensures) (not-false _ (c .before .before .before .before .before .before .before .if2 .left)) _ (c .before .before .before .before .before .before .place-below .ensures)
+    (c .before .before .before .same-trees .ensures) (not-false _ (c .before .before .if3 .left))
 
 returns-4 : (t : ℕ) → lts.Need-returns-4 (calls t) (trees-at t) same-trees.Post Inv-loop μ-loop
 returns-4 t c = same-end (c .before .before .before .before .pre .1) (c .before .loop .inv) (c .loop-test .left)

@@ -1,6 +1,6 @@
 -- `merge::label_id` meets its contract: a name by the table, any other label by itself. Assumes nothing.
 use native.Mathlib.Omega.{arith}
-use Rattle.environment.proofs.Hashes.{id-named, id-number}
+use Rattle.environment.proofs.merge.Labels.{id-named, id-number}
 use borrow.Author.Needs.{needs}
 use Rattle.environment.proofs.merge.label_id.Statement.{statement}
 use Rattle.environment.proofs.merge.label_id.Tie as tie

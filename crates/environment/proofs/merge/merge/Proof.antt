@@ -2,7 +2,7 @@
 use Prim.Native.Nat.{_-_}
 use native.Mathlib.Omega.{arith}
 use borrow.Author.Tests.{not-true, not-false}
-use Rattle.environment.proofs.Merges.{MergeLeft, merge-start, merge-end, roots-at, merge-differs, merge-on}
+use Rattle.environment.proofs.merge.Tables.{MergeLeft, merge-start, merge-end, roots-at, merge-differs, merge-on}
 use Rattle.environment.proofs.merge.merge.Statement.{statement}
 use Rattle.environment.proofs.merge.merge.Tie as tie
 use Rattle.environment.proofs.merge.merge.Reads as reads

@@ -1,7 +1,7 @@
 -- `merge::merged` meets its contract. Assumes nothing.
 use Prim.Native.Nat.{_-_}
 use native.Mathlib.Omega.{arith}
-use Rattle.environment.proofs.Merges.{MergedLeft, merged-start, merged-end, merged-on}
+use Rattle.environment.proofs.merge.Tables.{MergedLeft, merged-start, merged-end, merged-on}
 use borrow.Author.Needs.{needs}
 use Rattle.environment.proofs.merge.merged.Statement.{statement}
 use Rattle.environment.proofs.merge.merged.Tie as tie

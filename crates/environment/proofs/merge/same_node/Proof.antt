@@ -1,5 +1,5 @@
 -- `merge::same_node` meets its contract. Assumes nothing.
-use Rattle.environment.proofs.Hashes.{row-label, node-kind, node-value, node-same}
+use Rattle.environment.proofs.merge.Labels.{row-label, node-kind, node-value, node-same}
 use Rattle.environment.proofs.merge.same_node.Statement.{statement}
 use Rattle.environment.proofs.merge.same_node.Tie as tie
 use Rattle.environment.proofs.merge.same_node.Reads as reads

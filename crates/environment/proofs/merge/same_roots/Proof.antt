@@ -1,6 +1,6 @@
 -- `merge::same_roots` meets its contract. Assumes nothing.
 use native.Mathlib.Omega.{arith}
-use Rattle.environment.proofs.Merges.{first-none, second-none, first-root, second-root, roots-compared, roots-same}
+use Rattle.environment.proofs.merge.Tables.{first-none, second-none, first-root, second-root, roots-compared, roots-same}
 use Rattle.environment.proofs.merge.same_roots.Statement.{statement}
 use Rattle.environment.proofs.merge.same_roots.Tie as tie
 use Rattle.environment.proofs.merge.same_roots.Reads as reads

@@ -1,7 +1,7 @@
 -- `all_empty` meets its contract: the rows that are left and what they leave. Assumes nothing.
 use Prim.Native.Nat.{_-_}
 use native.Mathlib.Omega.{arith}
-use Rattle.inhabitants.proofs.Fields.{EmptyLeft, empty-start, stacked-small, empty-on, empty-end}
+use Rattle.inhabitants.proofs.empty.Fields.{EmptyLeft, empty-start, stacked-small, empty-on, empty-end}
 use Rattle.inhabitants.proofs.empty.all_empty.Statement.{statement}
 use Rattle.inhabitants.proofs.empty.all_empty.Tie as tie
 

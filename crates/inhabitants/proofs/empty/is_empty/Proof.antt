@@ -8,8 +8,8 @@ use lib.ListN.{getD, set}
 use Rattle.format.specs.Layout.{siblings}
 use Rattle.listing.specs.Empty.{visitFields, isEmpty}
 use Rattle.inhabitants.specs.Empty.{Fields, noStack, Visited}
-use Rattle.inhabitants.proofs.Visits as laws
-use Rattle.inhabitants.proofs.Fields.{type-fields, type-visited, visiting-few, RowsLeft, rows-visiting, rows-marks, rows-next, rows-end}
+use Rattle.inhabitants.proofs.empty.Visits as laws
+use Rattle.inhabitants.proofs.empty.Fields.{type-fields, type-visited, visiting-few, RowsLeft, rows-visiting, rows-marks, rows-next, rows-end}
 use Rattle.inhabitants.proofs.empty.is_empty.Statement.{statement}
 use Rattle.inhabitants.proofs.empty.is_empty.Tie as tie
 
@@ -84,33 +84,33 @@ names-from-requires c κs =
 
 -- the types of the definition, before any of them is looked at
 types : (c : tie.After-names-from) →
-    let a = (entry-after-struct-known (c .before)) .args in
+    let a = entry-after-struct-known (c .before) .args in
     let until = getD (a .roots .now) (a .n) 0 + c .before .before .at .result .size in
     Fields (a .rows .now) (a .roots .now) (a .names) (c .names-from .result) until
 types c =
-    let s = (entry-after-struct-known (c .before)) .pre in
+    let s = entry-after-struct-known (c .before) .pre in
     let c₁ = c .before .before .before in
     let c₂ = c .before .before in
     type-fields (s .0) (laws.root-inside (s .0) (s .1) (c₁ .if4 .left)) _ (c₂ .at .ensures) (c .names-from .ensures)
 
 left : (c : tie.After-names-from) →
-    let a = (entry-after-struct-known (c .before)) .args in
+    let a = entry-after-struct-known (c .before) .args in
     let until = getD (a .roots .now) (a .n) 0 + c .before .before .at .result .size in
     RowsLeft (a .rows .now) (a .roots .now) (a .names) (c .names-from .result) until (set (a .marks) (a .n) 2)
     noStack noStack 0 (c .names-from .result) until (set (a .marks) (a .n) 2)
 left c =
-    let s = (entry-after-struct-known (c .before)) in
+    let s = entry-after-struct-known (c .before) in
     rows-visiting (types c) (s .pre .1) (s .args .marks) (s .good .1 .1 .1 .1 .0 .1 .0 .1) (c .before .before .before .before .before .if3 .left)
 
 -- what the types answer is stored
 answered : {e : Bool} {after : List ℕ} (c : tie.After-names-from) →
-    let a = c .before .before .before .before .before .before .before .before .before .before .args in
+    let a = entry-after-struct-known (c .before) .args in
     let until = getD (a .roots .now) (a .n) 0 + c .before .before .at .result .size in
     Visited (a .rows .now) (a .roots .now) (a .names)
     (λ ds. visitFields (isEmpty ds (a .names)) (siblings (a .rows .now) (c .names-from .result) until)) (set (a .marks) (a .n) 2) e after →
     laws.Answered (a .rows .now) (a .roots .now) (a .names) (a .n) (a .marks) e after
 answered c v =
-    let s = c .before .before .before .before .before .before .before .before .before .before .pre in
+    let s = entry-after-struct-known (c .before) .pre in
     let c₁ = c .before .before .before in
     let c₂ = c .before .before in
     let t = type-visited (s .0) (laws.root-inside (s .0) (s .1) (c₁ .if4 .left)) _ (c₂ .at .ensures) (c .names-from .ensures) v in
@@ -126,7 +126,7 @@ next-name-requires c κs = (left (c .before) .whole, rows-marks (left (c .before
 
 array-write-marked-4 : tie.Need-array-write-marked-4
 array-write-marked-4 c =
-    let c₁ = (entry-after-struct-known (c .before .before .before .before)) in
+    let c₁ = entry-after-struct-known (c .before .before .before .before) in
     laws.root-small (c₁ .pre .0) (c₁ .pre .1)
 
 returns-5 : tie.Need-returns-5
@@ -137,13 +137,13 @@ returns-5 c =
 visit-fields-requires : tie.Need-visit-fields-requires
 visit-fields-requires c κs =
     let f = types (c .before .before .before) in
-    let c₁ = (entry-after-struct-known (c .before .before .before .before)) in
+    let c₁ = entry-after-struct-known (c .before .before .before .before) in
     let c₂ = c .before .before .before .before .before .before .before .before in
     (f, visiting-few (f .env) (c₁ .pre .1) (c₁ .args .marks) (c₁ .good .1 .1 .1 .1 .0 .1 .0 .1) (c₂ .if3 .left))
 
 element-write-v : tie.Need-element-write-v
 element-write-v c =
-    let c₁ = (entry-after-struct-known (c .before .before .before .before .before .before)) in
+    let c₁ = entry-after-struct-known (c .before .before .before .before .before .before) in
     laws.root-small (c₁ .pre .0) (c₁ .pre .1)
 
 returns-6 : tie.Need-returns-6
@@ -151,7 +151,7 @@ returns-6 c = answered (c .before .before .before .before .before) (c .before .v
 
 element-write-v-2 : tie.Need-element-write-v-2
 element-write-v-2 c =
-    let c₁ = (entry-after-struct-known (c .before .before .before .before .before .before)) in
+    let c₁ = entry-after-struct-known (c .before .before .before .before .before .before) in
     laws.root-small (c₁ .pre .0) (c₁ .pre .1)
 
 returns-7 : tie.Need-returns-7

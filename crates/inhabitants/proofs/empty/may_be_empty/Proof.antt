@@ -1,5 +1,5 @@
 -- `may_be_empty` meets its contract. Assumes nothing.
-use Rattle.inhabitants.proofs.Fields.{may-not, may-by-mark, may-read}
+use Rattle.inhabitants.proofs.empty.Fields.{may-not, may-by-mark, may-read}
 use borrow.Author.Needs.{needs}
 use Rattle.inhabitants.proofs.empty.may_be_empty.Statement.{statement}
 use Rattle.inhabitants.proofs.empty.may_be_empty.Tie as tie

@@ -1,5 +1,5 @@
 -- `names_from` meets its contract. Assumes nothing.
-use Rattle.inhabitants.proofs.Visits.{from-itself, from-fields}
+use Rattle.inhabitants.proofs.empty.Visits.{from-itself, from-fields}
 use borrow.Author.Needs.{needs}
 use Rattle.inhabitants.proofs.empty.names_from.Statement.{statement}
 use Rattle.inhabitants.proofs.empty.names_from.Tie as tie

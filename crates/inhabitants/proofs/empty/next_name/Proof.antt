@@ -3,7 +3,7 @@ use Prim.Native.Nat.{_-_}
 use mathlib.Core.Path.{sym, _∙_}
 use native.Mathlib.Omega.{arith}
 use Rattle.inhabitants.specs.Empty.{PassedOver}
-use Rattle.inhabitants.proofs.Fields.{names-start, names-end, name-found, name-within, name-size, names-on}
+use Rattle.inhabitants.proofs.empty.Fields.{names-start, names-end, name-found, name-within, name-size, names-on}
 use Rattle.inhabitants.proofs.empty.next_name.Statement.{statement}
 use Rattle.inhabitants.proofs.empty.next_name.Tie as tie
 

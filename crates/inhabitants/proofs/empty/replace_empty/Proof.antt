@@ -3,7 +3,7 @@ use Prim.Native.Nat.{ℕ, _-_}
 use mathlib.Core.Path.{sym, subst, _∙_}
 use mathlib.Core.List.{List}
 use native.Mathlib.Omega.{arith}
-use Rattle.inhabitants.proofs.Visits.{KeysLeft, keys-start, keys-on, keys-end, root-small, key-settled, key-open, key-visited, plain-length}
+use Rattle.inhabitants.proofs.empty.Visits.{KeysLeft, keys-start, keys-on, keys-end, root-small, key-settled, key-open, key-visited, plain-length}
 use Rattle.inhabitants.proofs.empty.replace_empty.Statement.{statement}
 use Rattle.inhabitants.proofs.empty.replace_empty.Tie as tie
 

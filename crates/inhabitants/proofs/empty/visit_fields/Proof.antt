@@ -5,7 +5,7 @@ use native.Mathlib.Nat.{pos-of-ne-zero}
 use native.Mathlib.Omega.{arith}
 use Rattle.book.specs.Reading.{asRow}
 use Rattle.inhabitants.specs.Empty.{newMarks}
-use Rattle.inhabitants.proofs.Fields.{RowsLeft, rows-start, rows-deep, rows-marks, rows-few, rows-stacked, rows-next, rows-end, Met, met, met-few, met-tabled, met-ends, met-fewer, rows-stop, rows-missing, root-few, body-within, body-few, rows-enter, last-on, last-few, last-end, last-within, last-small, last-size, last-fewer, rows-back, name-within}
+use Rattle.inhabitants.proofs.empty.Fields.{RowsLeft, rows-start, rows-deep, rows-marks, rows-few, rows-stacked, rows-next, rows-end, Met, met, met-few, met-tabled, met-ends, met-fewer, rows-stop, rows-missing, root-few, body-within, body-few, rows-enter, last-on, last-few, last-end, last-within, last-small, last-size, last-fewer, rows-back, name-within}
 use Rattle.inhabitants.proofs.empty.visit_fields.Statement.{statement}
 use Rattle.inhabitants.proofs.empty.visit_fields.Tie as tie
 

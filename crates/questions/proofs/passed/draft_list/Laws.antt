@@ -28,7 +28,7 @@ use Rattle.judgement.specs.Actor.{mainActor}
 use Rattle.judgement.specs.Check.{onceVerdict}
 use Rattle.judgement.proofs.Lookup.{keep-first}
 use Rattle.environment.specs.Tables.{Entries, Roots, DefinesAs, definitionsIn, Tabled}
-use Rattle.environment.proofs.Laws.{defined-length, defined-binds, defined-once}
+use Rattle.environment.proofs.Definitions.{defined-length, defined-binds, defined-once}
 use Rattle.environment.specs.Trees.{AllTrees}
 use Rattle.syntax.proofs.Book.{all-made, definitions-parts, owners-rise, main-actor-is, few-definitions, entries-known, nodes-known, trees-fit, file-root, some-files, files-within}
 use Rattle.listing.specs.Chase.{chaseTypes, walked}

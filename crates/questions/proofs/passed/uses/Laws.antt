@@ -28,27 +28,22 @@ use Rattle.listing.specs.Sites.{Site, classSites, methodSites, sites}
 use Rattle.listing.specs.Uses.{kept, entryOf, uses}
 use Rattle.refusals.specs.Outcome.{Outcome, refused, given, fit}
 use Rattle.listing.proofs.Uses.{passed-walks, uses-row, uses-answered, uses-undefined}
-use Rattle.analysis.specs.Reaching.{ReachAs, NearAs, Defining, BookRows}
+use Rattle.analysis.specs.Reaching.{ReachAs, NearAs, Defining}
 use Rattle.analysis.specs.Entries.{usesBy, Offered, Puts}
 use Rattle.syntax.specs.declared.interface.Interface.{Interface}
-use Rattle.analysis.proofs.SitedEntries.{puts-counts, puts-all}
+use Rattle.analysis.proofs.def_use.Entries.{puts-counts, puts-all}
 use Rattle.refusals.specs.declared.Answer.{Answer}
 use Rattle.refusals.specs.declared.Answer.the-variants.{Given, Refused}
 use Rattle.questions.specs.Uses.{UsesHanded}
 use Rattle.typing.specs.declared.prog.Passed.{Passed}
 use Rattle.typing.specs.Passing.{PassedAs}
-use Rattle.typing.proofs.Passed.{fits, tabled, names-are, nodes-are}
+use Rattle.typing.proofs.prog.Book.{fits, tabled, names-are, nodes-are}
 use Rattle.book.specs.declared.kinds.Contents.{Contents}
 use Rattle.book.specs.Reading.{Admitted}
 use Rattle.judgement.specs.Check.{check}
-use Rattle.questions.specs.Stages.{AfterCheck}
-use Rattle.questions.proofs.Asking.{after-refused, lacks-actor}
+use Rattle.questions.proofs.Asking.{lacks-actor}
 use Rattle.questions.proofs.passed.uses.Sites.{followed, usedBy, used-says, used-hits, kept-same}
-use Rattle.analysis.proofs.ReachOwners.{admitted-defining}
-
-pub uses-after : (n : ℕ) → AfterCheck (λ b. uses b n)
-unfolding uses
-uses-after n b r e = after-refused _ (check b) _ e
+use Rattle.analysis.proofs.reaching.Ownership.{admitted-defining}
 
 module _ {bs : List ℕ} {c : Contents} {a : Admitted bs c} {roots ends′ : List ℕ} {p : Passed} (x : PassedAs a roots ends′ p) where
   abbrev rows : List ℕ
@@ -132,9 +127,6 @@ module _ {bs : List ℕ} {c : Contents} {a : Admitted bs c} {roots ends′ : Lis
 
   -- ---- As the code has it, by the parts of the book
   module _ {ns : List ℕ} (here : ns ≡ rows) where
-    pub known-rows : BookRows ns (p .contents .nodes)
-    known-rows = rw (here, nodes-are x) (record { names = length (b .names); known = x .all .nodes })
-
     module _ {es : List ℕ} (there : es ≡ definitionsPart bs) where
       pub defining : Defining ns es (p .contents .names) (p .contents .nodes) (p .main)
       defining = rw (here, there, names-are x, nodes-are x) (admitted-defining bs (a .laid) (p .main) (x .within))

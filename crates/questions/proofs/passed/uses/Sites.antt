@@ -28,9 +28,9 @@ use Rattle.listing.specs.Uses.{kept}
 use Rattle.listing.specs.References.{Reachable, Way, last, step}
 use Rattle.analysis.specs.Reaching.{ReachAs, NearAs}
 use Rattle.analysis.specs.Entries.{Test, hit, HitsIn}
-use Rattle.analysis.proofs.ReachRows.{From, reachable-says, near-reachable}
+use Rattle.analysis.proofs.reaching.Rows.{From, reachable-says, near-reachable}
 use Rattle.judgement.proofs.Walks.{is-service}
-use Rattle.environment.proofs.AsFunc.{stays}
+use Rattle.environment.proofs.FuncEnds.{stays}
 use Rattle.listing.proofs.Interface.{named-no-class}
 
 -- ---- An actor's own alias followed first: one that is a name stands for a service, which is no class

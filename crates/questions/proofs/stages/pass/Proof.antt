@@ -40,7 +40,9 @@ same-length-2 : tie.Need-same-length-2
 same-length-2 c = search needs
 
 returns-2 : tie.Need-returns-2
-returns-2 c = pass-goes _ _ _ (sym (c .before .before .before .before .before .before .before .before .c .given .1) ∙ c .before .before .before .before .before .before .before .before .before .before .admit .ensures) (c .before .before .before .before .check-prog .ensures)
+returns-2 c =
+    let at-check-prog = c .before .before .before .before in
+    pass-goes _ _ _ (sym (at-check-prog .before .before .before .before .c .given .1) ∙ at-check-prog .before .before .before .before .before .before .admit .ensures) (at-check-prog .check-prog .ensures)
 
 pub pass-spec : {M : Type 1} → statement M
 pass-spec =

@@ -1,5 +1,6 @@
 -- `actor::refused` meets its contract. Assumes nothing.
-use mathlib.Core.Path.{refl}
+use mathlib.Core.Path.{ap}
+use Rattle.syntax.specs.declared.interface.Interface.{Interface}
 use borrow.Author.Needs.{needs}
 use Rattle.syntax.proofs.actor.refused.Statement.{statement}
 use Rattle.syntax.proofs.actor.refused.Tie as tie
@@ -8,7 +9,7 @@ no-interface-requires : tie.Need-no-interface-requires
 no-interface-requires c κs = search needs
 
 returns : tie.Need-returns
-returns c = refl
+returns c = ap (λ (i : Interface). record { verdict = c .before .args .verdict; interface = i }) (c .no-interface .ensures)
 
 pub refused-spec : {M : Type 1} → statement M
 refused-spec =

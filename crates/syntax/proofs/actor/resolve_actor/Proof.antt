@@ -2,7 +2,7 @@
 use mathlib.Core.Path.{sym, _∙_}
 use borrow.Author.Tests.{not-true, not-false}
 use Rattle.syntax.proofs.Book.{all-trees}
-use Rattle.syntax.proofs.actor.Merging.{root-inside, resolved-written, resolved-refused, merged-actor, resolved-merged}
+use Rattle.syntax.proofs.actor.Merging.{root-inside, resolved-written, resolved-refused, merged-actor, hashes-refused, resolved-merged}
 use borrow.Author.Needs.{needs}
 use Rattle.syntax.proofs.actor.resolve_actor.Statement.{statement}
 use Rattle.syntax.proofs.actor.resolve_actor.Tie as tie
@@ -49,11 +49,27 @@ check-hashes-requires c κs =
     let t = (rw (c .before .before .before .before .before .before .before .before .nodes .ensures) at (c .before .before .before .before .before .before .before .top-of .ensures)) _ _ (all-trees (p .0)) (root-inside (p .0) (p .1)) in
     (p .0, merged-actor (p .0) (p .1) (c .before .before .before .before .if1 .left) (p .4 .0) (c .before .before .before .merge .ensures (p .0) (p .1) t) (p .4 .1) (sym (c .before .before .passed .ensures) ∙ not-false _ (c .before .if2 .left)) .nodes)
 
+passed-requires-2 : tie.Need-passed-requires-2
+passed-requires-2 c κs = search needs
+
+refused-requires : tie.Need-refused-requires
+refused-requires c κs = search needs
+
 returns-3 : tie.Need-returns-3
 returns-3 c =
     λ a ds x z y l.
-    let t = (rw (c .before .before .before .before .before .before .before .before .before .nodes .ensures) at (c .before .before .before .before .before .before .before .before .top-of .ensures)) _ _ (all-trees a) (root-inside a x) in
-    resolved-merged a x (c .before .before .before .before .before .if1 .left) ds (c .before .before .before .before .merge .ensures a x t) y (sym (c .before .before .before .passed .ensures) ∙ not-false _ (c .before .before .if2 .left)) (c .check-hashes .ensures a)
+    let h = c .before .before .before in
+    let t = (rw (h .before .before .before .before .before .before .before .before .before .nodes .ensures) at (h .before .before .before .before .before .before .before .before .top-of .ensures)) _ _ (all-trees a) (root-inside a x) in
+    hashes-refused a x (h .before .before .before .before .before .if1 .left) ds (h .before .before .before .before .merge .ensures a x t) y (sym (h .before .before .before .passed .ensures) ∙ not-false _ (h .before .before .if2 .left)) (h .check-hashes .ensures a)
+    (sym (c .before .before .passed2 .ensures) ∙ not-true _ (c .before .if3 .taken)) (c .refused .ensures)
+
+returns-4 : tie.Need-returns-4
+returns-4 c =
+    λ a ds x z y l.
+    let h = c .before .before in
+    let t = (rw (h .before .before .before .before .before .before .before .before .before .nodes .ensures) at (h .before .before .before .before .before .before .before .before .top-of .ensures)) _ _ (all-trees a) (root-inside a x) in
+    resolved-merged a x (h .before .before .before .before .before .if1 .left) ds (h .before .before .before .before .merge .ensures a x t) y (sym (h .before .before .before .passed .ensures) ∙ not-false _ (h .before .before .if2 .left)) (h .check-hashes .ensures a)
+    (sym (c .before .passed2 .ensures) ∙ not-false _ (c .if3 .left))
 
 pub resolve-actor-spec : {M : Type 1} → statement M
 resolve-actor-spec =
@@ -67,4 +83,7 @@ resolve-actor-spec =
     passed-requires
     returns-2
     check-hashes-requires
-    returns-3)
+    passed-requires-2
+    refused-requires
+    returns-3
+    returns-4)

@@ -51,14 +51,14 @@ check-fields-requires c κs =
 passed-requires : tie.Need-passed-requires
 passed-requires c κs = search needs
 
-stopped-requires : tie.Need-stopped-requires
-stopped-requires c κs = search needs
+refused-requires : tie.Need-refused-requires
+refused-requires c κs = search needs
 
 returns : tie.Need-returns
 returns c =
     let p = (entry-after-struct-known (c .before .before .before .before .before)) .pre in
     λ ds s. arguments-refused (p .0) (p .1) (p .2) (rw ((nodes-after-passed (c .before .before)) .nodes .ensures) at (c .before .before .before .before .before .before .before .before .find-ends .ensures)) s (rw ((nodes-after-passed (c .before .before)) .nodes .ensures) at (c .before .before .before .before .before .before .at .ensures)) (rw ((nodes-after-passed (c .before .before)) .nodes .ensures) at (c .before .before .before .check-fields .ensures))
-    (sym (c .before .before .passed .ensures) ∙ not-true _ (c .before .if1 .taken)) (c .stopped .ensures)
+    (sym (c .before .before .passed .ensures) ∙ not-true _ (c .before .if1 .taken)) (c .refused .ensures)
 
 returns-2 : tie.Need-returns-2
 returns-2 c =
@@ -80,6 +80,6 @@ check-arguments-spec =
     slice-aggregate-check-fields
     check-fields-requires
     passed-requires
-    stopped-requires
+    refused-requires
     returns
     returns-2)

@@ -22,11 +22,11 @@ check-own-requires c κs = let p = c .before .before .before .before .before .be
 passed-requires : tie.Need-passed-requires
 passed-requires c κs = search needs
 
-stopped-requires : tie.Need-stopped-requires
-stopped-requires c κs = search needs
+refused-requires : tie.Need-refused-requires
+refused-requires c κs = search needs
 
 returns : tie.Need-returns
-returns c = λ e x f. init-own (x .admitted) f (split-file (x .admitted) f (x .passed)) (c .before .before .before .before .check-own .ensures) (sym (c .before .before .passed .ensures) ∙ not-true _ (c .before .if1 .taken)) (c .stopped .ensures)
+returns c = λ e x f. init-own (x .admitted) f (split-file (x .admitted) f (x .passed)) (c .before .before .before .before .check-own .ensures) (sym (c .before .before .passed .ensures) ∙ not-true _ (c .before .if1 .taken)) ((entry-after-passed (c .before .before)) .pre .1) (c .refused .ensures)
 
 slice-aggregate-check-both : tie.Need-slice-aggregate-check-both
 slice-aggregate-check-both c = search needs
@@ -50,7 +50,7 @@ check-file-spec =
     slice-aggregate-check-own
     check-own-requires
     passed-requires
-    stopped-requires
+    refused-requires
     returns
     slice-aggregate-check-both
     check-both-requires

@@ -20,7 +20,7 @@ returns c = λ e x. c .before .before .no-file .ensures e x (sym (c .before .bef
 check-file-requires : tie.Need-check-file-requires
 check-file-requires c κs =
     let p = c .before .before .before .before .before .before .before .before .pre in
-    ((p .0 .0, p .0 .1, record { is = c .before .before .before .init-file .ensures (p .0 .1 .admitted); some = c .before .if1 .left }), rw (p .1) blank-length)
+    ((p .0 .0, p .0 .1, record { is = c .before .before .before .init-file .ensures (p .0 .1 .admitted); some = c .before .if1 .left }), p .1)
 
 same-length-2 : tie.Need-same-length-2
 same-length-2 c = search needs

@@ -5,18 +5,11 @@ use borrow.Author.Needs.{needs}
 use Rattle.typing.proofs.init.merge.Statement.{statement}
 use Rattle.typing.proofs.init.merge.Tie as tie
 
--- places that are far back
-abbrev entry-after-names : tie.After-names → tie.Start
-entry-after-names c = c .before .before .before .before .before .before .before .before .before
-
-merged-requires : tie.Need-merged-requires
-merged-requires c κs = search needs
-
 names-requires : tie.Need-names-requires
 names-requires c κs = search needs
 
 name-hashes-requires : tie.Need-name-hashes-requires
-name-hashes-requires c κs = rw (c .names .ensures) (names-in (c .before .before .before .before .before .before .before .before .before .pre .0))
+name-hashes-requires c κs = rw (c .names .ensures) (names-in (c .before .before .before .before .pre .0))
 
 nodes-requires : tie.Need-nodes-requires
 nodes-requires c κs = search needs
@@ -25,23 +18,18 @@ slice-aggregate-merge : tie.Need-slice-aggregate-merge
 slice-aggregate-merge c = search needs
 
 merge-requires : tie.Need-merge-requires
-merge-requires c κs = let p = (entry-after-names (c .before .before .before)) .pre in rw (c .before .nodes .ensures) (mergeable (p .0) (p .1) (p .2) (c .before .before .name-hashes .ensures .long))
-
-same-length : tie.Need-same-length
-same-length c = search needs
+merge-requires c κs = let p = c .before .before .before .before .before .before .before .pre in rw (c .before .nodes .ensures) (mergeable (p .0) (p .1) (p .2) (c .before .before .name-hashes .ensures .long))
 
 returns : tie.Need-returns
-returns c = λ a. merge-as a (c .before .before .before .before .before .before .before .merged .ensures) (rw (c .before .before .before .before .names .ensures) at (c .before .before .before .name-hashes .ensures)) (rw (c .before .before .nodes .ensures) at (c .merge .ensures))
+returns c = λ a. merge-as a (rw (c .before .before .before .before .names .ensures) at (c .before .before .before .name-hashes .ensures)) (rw (c .before .before .nodes .ensures) at (c .merge .ensures))
 
 pub merge-spec : {M : Type 1} → statement M
 merge-spec =
     tie.close
     (tie.spec
-    merged-requires
     names-requires
     name-hashes-requires
     nodes-requires
     slice-aggregate-merge
     merge-requires
-    same-length
     returns)

@@ -42,16 +42,22 @@ slice-aggregate-chase-written : tie.Need-slice-aggregate-chase-written
 slice-aggregate-chase-written c = search needs
 
 chase-written-requires : tie.Need-chase-written-requires
-chase-written-requires c κs = written (c .before .before .before .before .before .before .before .before .before .before .before .pre .0) (c .before .before .before .before .before .before .before .before .before .before .before .pre .1) (c .before .before .before .before .before .before .before .before .definitions .ensures) (c .before .before .before .before .before .before .before .own-definitions .ensures) (c .before .before .before .before .enter .ensures) (c .before .before .if1 .left) (c .before .nodes .ensures)
+chase-written-requires c κs =
+    let at-if1 = c .before .before in
+    written (at-if1 .before .before .before .before .before .before .before .before .before .pre .0) (at-if1 .before .before .before .before .before .before .before .before .before .pre .1) (at-if1 .before .before .before .before .before .before .definitions .ensures) (at-if1 .before .before .before .before .before .own-definitions .ensures) (at-if1 .before .before .enter .ensures) (at-if1 .if1 .left) (c .before .nodes .ensures)
 
 hand-walk-requires : tie.Need-hand-walk-requires
-hand-walk-requires c κs = walk-short (draft-walks (c .before .before .before .before .before .before .before .before .before .before .before .before .before .pre .0) (c .before .before .before .before .before .before .before .before .before .before .before .before .before .pre .1) (c .before .before .before .before .before .before .before .before .before .before .definitions .ensures) (c .before .before .before .before .before .before .before .before .before .own-definitions .ensures) (c .before .before .before .before .before .before .enter .ensures) (c .before .before .before .before .if1 .left) (c .before .before .before .nodes .ensures) (c .before .chase-written .ensures))
+hand-walk-requires c κs =
+    let at-if1 = c .before .before .before .before in
+    walk-short (draft-walks (at-if1 .before .before .before .before .before .before .before .before .before .pre .0) (at-if1 .before .before .before .before .before .before .before .before .before .pre .1) (at-if1 .before .before .before .before .before .before .definitions .ensures) (at-if1 .before .before .before .before .before .own-definitions .ensures) (at-if1 .before .before .enter .ensures) (at-if1 .if1 .left) (c .before .before .before .nodes .ensures) (c .before .chase-written .ensures))
 
 same-length : tie.Need-same-length
 same-length c = search needs
 
 returns-2 : tie.Need-returns-2
-returns-2 c = λ a. c .before .before .hand-walk .ensures _ (draft-says a (c .before .before .before .before .before .before .before .before .before .before .before .before .before .before .before .before .pre .1) (c .before .before .before .before .before .before .before .before .before .before .before .before .before .definitions .ensures) (c .before .before .before .before .before .before .before .before .before .before .before .before .own-definitions .ensures) (c .before .before .before .before .before .before .before .before .before .enter .ensures) (c .before .before .before .before .before .before .before .if1 .left) (c .before .before .before .before .before .before .nodes .ensures) (c .before .before .before .before .chase-written .ensures))
+returns-2 c =
+    let at-if1 = c .before .before .before .before .before .before .before in
+    λ a. c .before .before .hand-walk .ensures _ (draft-says a (at-if1 .before .before .before .before .before .before .before .before .before .pre .1) (at-if1 .before .before .before .before .before .before .definitions .ensures) (at-if1 .before .before .before .before .before .own-definitions .ensures) (at-if1 .before .before .enter .ensures) (at-if1 .if1 .left) (c .before .before .before .before .before .before .nodes .ensures) (c .before .before .before .before .chase-written .ensures))
 
 pub draft-list-written-spec : {M : Type 1} → statement M
 draft-list-written-spec =

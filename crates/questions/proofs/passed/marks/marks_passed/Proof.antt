@@ -1,6 +1,31 @@
 -- `marks_passed` meets its contract. Assumes nothing.
+use mathlib.Core.Path.{_≡_, sym, ap, subst, _∙_}
+use mathlib.Core.Bool.{true, false}
+use mathlib.Core.List.{List}
+use Prim.Native.Nat.{ℕ, _≤_}
+use native.Mathlib.Omega.{arith}
+use lib.ListN.{length}
+use Rattle.refusals.specs.declared.Refusal.the-variants.{Unbound}
+use Rattle.refusals.specs.Outcome.{refused, given}
+use Rattle.format.specs.Book.{Definition}
+use Rattle.format.specs.Layout.{nodesPart}
+use Rattle.book.specs.declared.kinds.Contents.{Contents}
+use Rattle.book.specs.Reading.{Admitted}
+use Rattle.book.specs.Tables.{flagged}
+use Rattle.judgement.specs.Environment.{mainDefinitions}
+use Rattle.judgement.specs.Check.{check}
+use Rattle.environment.specs.Tables.{Binds}
+use Rattle.typing.specs.declared.prog.Passed.{Passed}
+use Rattle.typing.specs.Passing.{PassedAs}
+use Rattle.typing.proofs.prog.Book.{tabled, names-are}
+use Rattle.listing.specs.Recursive.{inferRec}
+use Rattle.listing.specs.Marks.{marked, marksOver}
+use Rattle.analysis.specs.declared.recursive.Marks.{Marks}
+use Rattle.analysis.specs.Book.{Rooted}
+use Rattle.analysis.specs.Marking.{MarksHold}
+use Rattle.analysis.proofs.recursive.Answers.{marked-stopped, marked-long, marked-given}
+use Rattle.refusals.proofs.Outcomes.{after-passed}
 use Rattle.questions.proofs.Asking.{handed-refused, handed-as}
-use Rattle.questions.proofs.passed.marks.Laws.{rooted, marks-stop, marks-ready, marks-given}
 use borrow.Author.Needs.{needs}
 use Rattle.questions.proofs.passed.marks.marks_passed.Statement.{statement}
 use Rattle.questions.proofs.passed.marks.marks_passed.Tie as tie
@@ -11,6 +36,35 @@ use Rattle.analysis.proofs.hand.names_of.Reads as names-of-reads
 use Rattle.analysis.proofs.recursive.infer_rec.Reads as infer-rec-reads
 use Rattle.book.proofs.kinds.Contents.nodes.Reads as nodes-reads
 
+-- ---- The marks of a book that passed, as the code has them
+module _ {bs : List ℕ} {c : Contents} {a : Admitted bs c} {roots ends′ : List ℕ} {p : Passed} (x : PassedAs a roots ends′ p) where
+  rooted : Rooted (nodesPart bs) roots
+  rooted = record { names = _; count = _; all = x .all; bound = x .checked .table }
+
+  names-few : p .contents .names ≤ 1024
+  names-few = omega (arith, names-are x, x .all .nodes .fewNames)
+
+  module _ {rows : List ℕ} (here : rows ≡ nodesPart bs) (l : List ℕ) (m : Marks) (k : (ds : List Definition) → Binds rows roots ds → MarksHold (inferRec ds l) m) where
+    h : MarksHold (inferRec (mainDefinitions (a .book)) l) m
+    h = k (mainDefinitions (a .book)) (subst (λ (ns : List ℕ). Binds ns roots (mainDefinitions (a .book))) (sym here) (tabled x .0))
+
+    marks-stop : m .stopped ≡ true → marksOver (a .book) l ≡ refused (Unbound (m .bad))
+    unfolding marksOver
+    marks-stop f = after-passed (check (a .book)) _ (x .passed) ∙ marked-stopped (length (a .book .names)) (inferRec (mainDefinitions (a .book)) l) m h f
+
+    module _ (f : m .stopped ≡ false) where
+      marks-ready : (length (m .marked) ≡ 1024) × (p .contents .names ≤ 1024)
+      marks-ready = (marked-long (inferRec (mainDefinitions (a .book)) l) m h f, names-few)
+
+      marks-given : {k : List ℕ} → k ≡ flagged (m .marked) 0 (p .contents .names) → marksOver (a .book) l ≡ given k
+      unfolding marksOver
+      marks-given e =
+          after-passed (check (a .book)) _ (x .passed)
+          ∙ ap (λ (n : ℕ). marked n (inferRec (mainDefinitions (a .book)) l)) (sym (names-are x))
+          ∙ marked-given (p .contents .names) (inferRec (mainDefinitions (a .book)) l) m h f names-few
+          ∙ ap given (sym e)
+
+-- ---- The function
 nodes-requires : tie.Need-nodes-requires
 nodes-requires c κs = search needs
 
@@ -24,7 +78,9 @@ slice-aggregate-names-of : tie.Need-slice-aggregate-names-of
 slice-aggregate-names-of c = search needs
 
 names-of-requires : tie.Need-names-of-requires
-names-of-requires c κs = let x = c .before .before .before .before .before .before .before .before .before .before .before .pre .passed in marks-ready x (c .before .before .before .before .nodes .ensures) _ _ (c .before .before .before .infer-rec .ensures) (c .before .before .if1 .left)
+names-of-requires c κs =
+    let at-if1 = c .before .before in
+    let x = at-if1 .before .before .before .before .before .before .before .before .before .pre .passed in marks-ready x (at-if1 .before .before .nodes .ensures) _ _ (at-if1 .before .infer-rec .ensures) (at-if1 .if1 .left)
 
 hand-names-requires : tie.Need-hand-names-requires
 hand-names-requires c κs = search needs

@@ -1,15 +1,15 @@
 -- `uses_passed` meets its contract. Assumes nothing.
 use borrow.Author.Tests.{not-true, not-false}
-use Rattle.typing.proofs.Passed.{some-actor}
+use Rattle.typing.proofs.prog.Book.{some-actor}
 use Rattle.questions.proofs.Asking.{uses-refused}
-use Rattle.questions.proofs.passed.uses.Laws.{uses-lacks, outside, defining, known-rows, offered-here, uses-here, uses-nothing}
+use Rattle.questions.proofs.passed.uses.Laws.{uses-lacks, outside, defining, offered-here, uses-here, uses-nothing}
 use borrow.Author.Needs.{needs}
 use Rattle.questions.proofs.passed.uses.uses_passed.Statement.{statement}
 use Rattle.questions.proofs.passed.uses.uses_passed.Tie as tie
 use Rattle.questions.proofs.passed.uses.uses_passed.Reads as reads
 use Rattle.questions.proofs.passed.uses.uses_passed.Lts as lts
-use Rattle.analysis.proofs.reaching.nearest.Reads as nearest-reads
-use Rattle.analysis.proofs.reaching.reaching.Reads as reaching-reads
+use Rattle.analysis.proofs.reaching.find_nearest.Reads as find-nearest-reads
+use Rattle.analysis.proofs.reaching.no_places.Reads as no-places-reads
 use Rattle.book.proofs.kinds.Contents.definitions.Reads as definitions-reads
 use Rattle.book.proofs.kinds.Contents.nodes.Reads as nodes-reads
 use Rattle.questions.proofs.passed.uses.hand_uses.Reads as hand-uses-reads
@@ -30,26 +30,33 @@ nodes-requires c κs = search needs
 definitions-requires : tie.Need-definitions-requires
 definitions-requires c κs = search needs
 
-reaching-requires : tie.Need-reaching-requires
-reaching-requires c κs = (defining (c .before .before .before .before .before .before .before .before .before .before .before .pre .passed) (c .before .nodes .ensures) (c .definitions .ensures), c .before .before .before .if2 .left)
+no-places-requires : tie.Need-no-places-requires
+no-places-requires c κs = search needs
 
-slice-aggregate-nearest : tie.Need-slice-aggregate-nearest
-slice-aggregate-nearest c = search needs
+slice-aggregate-find-nearest : tie.Need-slice-aggregate-find-nearest
+slice-aggregate-find-nearest c = search needs
 
-nearest-requires : tie.Need-nearest-requires
-nearest-requires c κs = (known-rows (c .before .before .before .before .before .before .before .before .before .before .before .before .before .pre .passed) (c .before .before .before .nodes .ensures), c .before .reaching .ensures .long)
+-- places that are far back
+abbrev else1-from-near : tie.After-near → tie.Else1
+else1-from-near c = c .before .before .before .before .before .before
+
+find-nearest-requires : tie.Need-find-nearest-requires
+find-nearest-requires c κs = (defining ((else1-from-near c) .before .before .before .before .before .before .before .pre .passed) (c .before .before .before .nodes .ensures) (c .before .before .definitions .ensures), c .before .before .before .before .before .if2 .left, c .before .no-places .ensures)
 
 slice-aggregate-hand-uses : tie.Need-slice-aggregate-hand-uses
 slice-aggregate-hand-uses c = search needs
 
 hand-uses-requires : tie.Need-hand-uses-requires
-hand-uses-requires c κs = let x = c .before .before .before .before .before .before .before .before .before .before .before .before .before .before .before .before .pre .passed in (offered-here x (c .before .before .before .before .before .before .nodes .ensures) (c .before .before .before .before .before .definitions .ensures) (some-actor x (c .before .before .before .before .before .before .before .before .before .before .has-actor .ensures) (not-false _ (c .before .before .before .before .before .before .before .before .before .if1 .left))), c .before .before .nearest .ensures .long)
+hand-uses-requires c κs = let x = (else1-from-near (c .before .before .before .before)) .before .before .before .before .before .before .before .pre .passed in (offered-here x (c .before .before .before .before .before .before .before .nodes .ensures) (c .before .before .before .before .before .before .definitions .ensures) (some-actor x ((else1-from-near (c .before .before .before .before)) .before .has-actor .ensures) (not-false _ ((else1-from-near (c .before .before .before .before)) .if1 .left))), c .before .before .before .find-nearest .ensures .first .long)
 
 same-length : tie.Need-same-length
 same-length c = search needs
 
+abbrev nodes-from-out : tie.After-out → tie.After-nodes
+nodes-from-out c = c .before .before .before .before .before .before .before .before .before
+
 returns-3 : tie.Need-returns-3
-returns-3 c = λ b. let x = b .passed in uses-here x (c .before .before .before .before .before .before .before .before .before .nodes .ensures) (c .before .before .before .before .before .before .before .before .definitions .ensures) (some-actor x (c .before .before .before .before .before .before .before .before .before .before .before .before .before .has-actor .ensures) (not-false _ (c .before .before .before .before .before .before .before .before .before .before .before .before .if1 .left))) (c .before .before .before .before .before .before .before .before .before .before .before .if2 .left) (c .before .before .before .before .before .before .before .reaching .ensures) (c .before .before .before .before .before .nearest .ensures) (c .before .before .hand-uses .ensures)
+returns-3 c = let n = c .before .before .before .before .before .before .find-nearest .ensures in λ b. let x = b .passed in uses-here x ((nodes-from-out (c .before)) .nodes .ensures) (c .before .before .before .before .before .before .before .before .before .definitions .ensures) (some-actor x ((else1-from-near (c .before .before .before .before .before .before .before)) .before .has-actor .ensures) (not-false _ ((else1-from-near (c .before .before .before .before .before .before .before)) .if1 .left))) ((nodes-from-out (c .before)) .before .before .if2 .left) (n .reach) (n .first) (c .before .before .hand-uses .ensures)
 
 pub uses-passed-spec : {M : Type 1} → statement M
 uses-passed-spec =
@@ -60,9 +67,9 @@ uses-passed-spec =
     returns-2
     nodes-requires
     definitions-requires
-    reaching-requires
-    slice-aggregate-nearest
-    nearest-requires
+    no-places-requires
+    slice-aggregate-find-nearest
+    find-nearest-requires
     slice-aggregate-hand-uses
     hand-uses-requires
     same-length

@@ -1,0 +1,3 @@
+-- Laws of what is handed over.
+pub mod Flags
+pub mod Laws

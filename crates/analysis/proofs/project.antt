@@ -1,0 +1,3 @@
+-- Laws of projection.
+pub mod Counts
+pub mod Laws

@@ -1,0 +1,4 @@
+-- Laws of marks.
+pub mod Rows
+pub mod Laws
+pub mod Answers

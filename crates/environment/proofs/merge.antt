@@ -1,0 +1,4 @@
+-- Laws of the merge; `Tables` is for callers too.
+mod Labels
+mod Lockstep
+pub mod Tables

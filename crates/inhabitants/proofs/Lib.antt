@@ -1,3 +1,0 @@
--- Laws that the proofs of the functions cite.
-pub mod Visits
-pub mod Fields

@@ -1,0 +1,3 @@
+-- Laws of the walk that finds empty names.
+mod Visits
+mod Fields

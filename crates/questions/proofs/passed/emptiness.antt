@@ -1,2 +1,0 @@
--- Laws of emptiness.
-pub mod Laws

@@ -1,2 +1,0 @@
--- Laws of the init list.
-pub mod Laws

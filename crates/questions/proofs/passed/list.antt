@@ -1,2 +1,0 @@
--- Laws of the list.
-pub mod Laws

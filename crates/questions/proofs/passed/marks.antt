@@ -1,2 +1,0 @@
--- Laws of the marks.
-pub mod Laws

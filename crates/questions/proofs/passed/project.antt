@@ -1,2 +1,0 @@
--- Laws of the projection.
-pub mod Laws
