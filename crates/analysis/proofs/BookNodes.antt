@@ -21,10 +21,10 @@ use Rattle.format.proofs.Rows.{kids-whole, node-within}
 use Rattle.format.proofs.Stored.{tree-whole}
 use Rattle.book.specs.Tables.{blankTable}
 use Rattle.book.proofs.Blank.{blank-length, blank-at}
-use Rattle.environment.specs.Trees.{Trees, AllTrees, Top}
+use Rattle.environment.specs.Trees.{Trees, AllTrees}
 use Rattle.syntax.specs.Interfaces.{methodsIn}
 use Rattle.syntax.proofs.Stored.{tree-kids}
-use Rattle.environment.proofs.Trees.{node-trees, node-some, node-top}
+use Rattle.environment.proofs.Trees.{node-trees, node-some}
 use Rattle.listing.proofs.Leaves.{Leafy, fits-leafy}
 use Rattle.analysis.specs.Book.{Rooted, Readable}
 
@@ -48,9 +48,6 @@ module _ {ns roots : List ℕ} (b : Rooted ns roots) {n : ℕ} (h : n < b .count
 
   pub here-some : n < n + rowAt ns n .size
   here-some = node-some (b .all) (b .bound) (b .bound) h
-
-  pub here-top : Top ns n
-  here-top = node-top here-trees here-some
 
   pub here-leafy : Leafy (treeAt ns n)
   here-leafy = let t = here-trees in fits-leafy (t .walk .names) (t .place) (treeAt ns n) (t .fits)

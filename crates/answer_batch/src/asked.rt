@@ -54,7 +54,7 @@ impl Question {
 
     const PROJECTION: usize = 28;
 
-    pub fn place(self) -> usize {
+    pub(crate) fn place(self) -> usize {
         match self {
             Question::MainList => Question::LIST,
             Question::Marks => Question::MARKS,
@@ -67,7 +67,7 @@ impl Question {
     }
 
     // The numbers that an entry takes in the lent list.
-    pub fn width(self) -> usize {
+    pub(crate) fn width(self) -> usize {
         match self {
             Question::Uses => 3,
             _ => 1,
@@ -75,7 +75,7 @@ impl Question {
     }
 
     // The numbers that so many entries take.
-    pub fn numbers(self, entries: usize) -> usize {
+    pub(crate) fn numbers(self, entries: usize) -> usize {
         match self {
             Question::Uses => 3 * crate::asking::few(entries),
             _ => entries,
@@ -83,7 +83,7 @@ impl Question {
     }
 }
 
-pub fn reply(question: Question, book: &[u8], names: &[u16], out: &mut [u16]) -> Answer {
+pub(crate) fn reply(question: Question, book: &[u8], names: &[u16], out: &mut [u16]) -> Answer {
     match question {
         Question::MainList => questions::list(book, out),
         Question::Marks => questions::marks(book, names, out),
@@ -96,7 +96,7 @@ pub fn reply(question: Question, book: &[u8], names: &[u16], out: &mut [u16]) ->
 }
 
 // A number of an answer, at this place of the list, as what it is: a use is three numbers with points between.
-pub fn print_number(question: Question, place: usize, number: u16, book: &[u8], names: u16) {
+pub(crate) fn print_number(question: Question, place: usize, number: u16, book: &[u8], names: u16) {
     match question {
         Question::Uses => crate::asking::print_of_use(place % 3 == 0, number),
         Question::Projection => crate::lines::counts(b" ", number as usize),
@@ -105,14 +105,14 @@ pub fn print_number(question: Question, place: usize, number: u16, book: &[u8], 
 }
 
 // A count for each place of the tally.
-pub fn no_counts() -> [u32; 29]
+pub(crate) fn no_counts() -> [u32; 29]
     ensures { λ r. ⌜ 29 ≡ length r ⌝ }
 {
     [0; 29]
 }
 
 // What is counted at a place of the tally.
-pub fn print_counted(place: usize) {
+pub(crate) fn print_counted(place: usize) {
     match place {
         Question::LAYOUT => crate::lines::write(b"tally given layout"),
         Question::NAME => crate::lines::write(b"tally given name"),
@@ -132,7 +132,7 @@ pub fn print_counted(place: usize) {
 // ---- What a book is asked
 
 // Every question of a book, a line for each. Broken books have no names.
-pub fn replay(source: &[u8], book: &[u8], tally: &mut [u32]) {
+pub(crate) fn replay(source: &[u8], book: &[u8], tally: &mut [u32]) {
     let names = ask_layout(source, book, tally);
     ask_name(source, book, names, tally);
     ask_checks(source, book, names, tally);

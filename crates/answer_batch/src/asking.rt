@@ -10,21 +10,21 @@ use refusals::Refusal;
 use refusals::Verdict;
 
 // More numbers than any question but uses is answered with, and 4,096 uses; more of these are refused with 16.
-pub fn room() -> [u16; 12288]
+pub(crate) fn room() -> [u16; 12288]
     ensures { λ r. ⌜ 12288 ≡ length r ⌝ }
 {
     [0; 12288]
 }
 
 // As many names as a book has.
-pub fn room_for_names() -> [u16; 1024]
+pub(crate) fn room_for_names() -> [u16; 1024]
     ensures { λ r. ⌜ 1024 ≡ length r ⌝ }
 {
     [0; 1024]
 }
 
 // Asks a question by this word, about the first of the names if it is of a name. Answers how many numbers were given.
-pub fn ask(
+pub(crate) fn ask(
     source: &[u8],
     word: &[u8],
     question: Question,
@@ -40,7 +40,7 @@ pub fn ask(
 }
 
 // The same and, where it has entries, once more with one place less.
-pub fn ask_again(
+pub(crate) fn ask_again(
     source: &[u8],
     word: &[u8],
     question: Question,
@@ -65,7 +65,7 @@ pub fn ask_again(
 }
 
 // The same with a lent list, in which the answer to the first is left.
-pub fn ask_both(
+pub(crate) fn ask_both(
     source: &[u8],
     word: &[u8],
     question: Question,
@@ -148,7 +148,7 @@ fn answer_short(
 }
 
 // A place of a list; its first one for a place beyond its end.
-pub fn within(end: usize, list: &[u16]) -> usize
+pub(crate) fn within(end: usize, list: &[u16]) -> usize
     ensures { λ r. ⌜ Counts r (now (list .entry)) ⌝ }
 {
     if list.len() < end {
@@ -158,7 +158,7 @@ pub fn within(end: usize, list: &[u16]) -> usize
 }
 
 // A number of entries; none for more than there are numbers for.
-pub fn few(entries: usize) -> usize
+pub(crate) fn few(entries: usize) -> usize
     ensures { λ r. ⌜ r ≤ 65536 ⌝ }
 {
     if 65536 < entries {
@@ -168,14 +168,14 @@ pub fn few(entries: usize) -> usize
 }
 
 // The first of the asked names; no name's number where none is asked.
-pub fn first_of(asked: &[u16]) -> u16 {
+pub(crate) fn first_of(asked: &[u16]) -> u16 {
     if 0 < asked.len() {
         return asked[0];
     }
     u16::MAX
 }
 
-pub fn judge(found: Verdict, place: usize, book: &[u8], names: u16, tally: &mut [u32]) {
+pub(crate) fn judge(found: Verdict, place: usize, book: &[u8], names: u16, tally: &mut [u32]) {
     match found {
         Verdict::Passed => {
             crate::lines::write(b"passed\n");
@@ -185,13 +185,13 @@ pub fn judge(found: Verdict, place: usize, book: &[u8], names: u16, tally: &mut 
     }
 }
 
-pub fn refuse(why: Refusal, book: &[u8], names: u16, tally: &mut [u32]) {
+pub(crate) fn refuse(why: Refusal, book: &[u8], names: u16, tally: &mut [u32]) {
     crate::lines::refusal(why, crate::lines::name_in(book, names, why.name()));
     crate::tally::count_refusal(why, tally);
 }
 
 // A number of a use, of which the method comes first.
-pub fn print_of_use(is_first: bool, number: u16) {
+pub(crate) fn print_of_use(is_first: bool, number: u16) {
     if is_first {
         crate::lines::counts(b" ", number as usize);
         return;
@@ -211,7 +211,7 @@ fn print_entries(question: Question, numbers: &[u16], book: &[u8], names: u16) {
 // ---- Lists that are asked with
 
 // Puts a wanted number at a place, if the list has it. Answers the next place.
-pub fn put(wanted: bool, number: u16, list: &mut [u16], end: usize) -> usize {
+pub(crate) fn put(wanted: bool, number: u16, list: &mut [u16], end: usize) -> usize {
     if !wanted {
         return end;
     }
@@ -223,7 +223,7 @@ pub fn put(wanted: bool, number: u16, list: &mut [u16], end: usize) -> usize {
 }
 
 // Puts the numbers of a list, the last first.
-pub fn put_backwards(numbers: &[u16], list: &mut [u16]) -> usize {
+pub(crate) fn put_backwards(numbers: &[u16], list: &mut [u16]) -> usize {
     let mut end = 0;
     let mut i = 0;
     while i < numbers.len() {
@@ -249,7 +249,7 @@ fn is_asked(number: u16, names: u16, listed: usize) -> bool {
 }
 
 // Puts the numbers of the names that a book is asked about.
-pub fn put_asked(names: u16, listed: usize, list: &mut [u16]) -> usize {
+pub(crate) fn put_asked(names: u16, listed: usize, list: &mut [u16]) -> usize {
     let mut end = 0;
     let mut number: u16 = 0;
     while number < names {

@@ -14,12 +14,12 @@ fn room_for_piece() -> [u8; 1050]
     [0; 1050]
 }
 
-pub fn write(text: &[u8]) {
+pub(crate) fn write(text: &[u8]) {
     io::write_all(STDOUT_FILENO, text);
 }
 
 // A place of a buffer; its first one for a place beyond its end.
-pub fn within(end: usize, out: &[u8]) -> usize
+pub(crate) fn within(end: usize, out: &[u8]) -> usize
     ensures { λ r. ⌜ Counts r (now (out .entry)) ⌝ }
 {
     if out.len() < end {
@@ -35,7 +35,7 @@ fn write_piece(out: &[u8], last: usize) {
 }
 
 // The beginning of a line. `more` is added to the question's word.
-pub fn asks(source: &[u8], word: &[u8], more: &[u8]) {
+pub(crate) fn asks(source: &[u8], word: &[u8], more: &[u8]) {
     let mut out = room_for_piece();
     let mut next = print::bytes(source, &mut out, 0);
     next = print::byte(b' ', &mut out, next);
@@ -46,7 +46,7 @@ pub fn asks(source: &[u8], word: &[u8], more: &[u8]) {
 }
 
 // What the question is about.
-pub fn about(name: &[u8]) {
+pub(crate) fn about(name: &[u8]) {
     let mut out = room_for_piece();
     let mut next = print::quoted(name, &mut out, 0);
     next = print::byte(b' ', &mut out, next);
@@ -54,7 +54,7 @@ pub fn about(name: &[u8]) {
 }
 
 // A word and a number.
-pub fn counts(word: &[u8], count: usize) {
+pub(crate) fn counts(word: &[u8], count: usize) {
     let mut out = room_for_piece();
     let mut next = print::bytes(word, &mut out, 0);
     next = print::decimal(count as u64, &mut out, next);
@@ -62,7 +62,7 @@ pub fn counts(word: &[u8], count: usize) {
 }
 
 // An entry that is a name.
-pub fn name(name: &[u8]) {
+pub(crate) fn name(name: &[u8]) {
     let mut out = room_for_piece();
     let mut next = print::byte(b' ', &mut out, 0);
     next = print::quoted(name, &mut out, next);
@@ -70,7 +70,7 @@ pub fn name(name: &[u8]) {
 }
 
 // The counts of a book that is whole, which end the line.
-pub fn whole(c: Contents) {
+pub(crate) fn whole(c: Contents) {
     counts(b"whole ", c.names);
     counts(b" ", c.nodes);
     counts(b" ", c.definitions);
@@ -79,14 +79,14 @@ pub fn whole(c: Contents) {
 }
 
 // A refusal, which ends the line. `name` is the book's for the refusal's number.
-pub fn refusal(why: Refusal, name: &[u8]) {
+pub(crate) fn refusal(why: Refusal, name: &[u8]) {
     let mut out = room_for_piece();
     let end = print::refusal(why, name, &mut out, 0);
     write_piece(&out, end);
 }
 
 // A byte as a length.
-pub fn wide(b: u8) -> usize
+pub(crate) fn wide(b: u8) -> usize
     ensures { λ r. ⌜ r < 256 ⌝ }
 {
     b as usize
@@ -109,7 +109,7 @@ fn after(book: &[u8], at: usize) -> usize
 
 // The name of a number in a book that has so many, by a walk over its table; nothing for a number outside. `book::name` reads the whole
 // layout each time.
-pub fn name_in(book: &[u8], names: u16, number: u16) -> &[u8] {
+pub(crate) fn name_in(book: &[u8], names: u16, number: u16) -> &[u8] {
     if names <= number {
         return &book[0..0];
     }

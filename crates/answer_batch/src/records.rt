@@ -60,7 +60,7 @@ fn replayed(tally: &mut [u32]) -> bool {
 
 // All records. A proved loop has to end, and nothing says that the input does: the turns are counted down from a number that no run
 // uses up.
-pub fn replay_all(tally: &mut [u32]) {
+pub(crate) fn replay_all(tally: &mut [u32]) {
     let mut turns = u64::MAX;
     while 0 < turns {
         if !replayed(tally) {

@@ -10,19 +10,19 @@ fn more(n: u32) -> u32 {
 }
 
 // Counts at a place; outside the list there is nothing to count.
-pub fn count(place: usize, tally: &mut [u32]) {
+pub(crate) fn count(place: usize, tally: &mut [u32]) {
     if place < tally.len() {
         tally[place] = more(tally[place]);
     }
 }
 
 // Counts a refusal at its number.
-pub fn count_refusal(why: Refusal, tally: &mut [u32]) {
+pub(crate) fn count_refusal(why: Refusal, tally: &mut [u32]) {
     count(why.number() as usize, tally);
 }
 
 // Counts an answer with so many entries.
-pub fn count_given(place: usize, entries: usize, tally: &mut [u32]) {
+pub(crate) fn count_given(place: usize, entries: usize, tally: &mut [u32]) {
     if 0 < entries {
         count(place, tally);
     }
@@ -34,7 +34,7 @@ fn wide(count: u32) -> usize {
 }
 
 // All counts, and whether none of them is 0.
-pub fn print_tally(tally: &[u32]) {
+pub(crate) fn print_tally(tally: &[u32]) {
     let mut is_complete = true;
     let mut place = 1;
     while place < tally.len() {

@@ -18,7 +18,7 @@ use format::Place;
 use labels::Label;
 
 // Whether the digits of `modes` in base 4 are modes, of which none follows a 0.
-pub fn modes_fine(modes: u32) -> bool
+fn modes_fine(modes: u32) -> bool
     ensures { λ r. ⌜ r ≡ goodModes 8 modes ⌝ }
 {
     let mut m = modes;
@@ -34,7 +34,7 @@ pub fn modes_fine(modes: u32) -> bool
 }
 
 // Whether a node of this kind may have this value and this many children.
-pub fn kind_fine(names: usize, kind: u8, value: u32, kids: usize) -> bool
+fn kind_fine(names: usize, kind: u8, value: u32, kids: usize) -> bool
     ensures { λ r. ⌜ r ≡ goodKind names kind value kids ⌝ }
 {
     if kind == Kind::VAR {
@@ -69,7 +69,7 @@ pub fn kind_fine(names: usize, kind: u8, value: u32, kids: usize) -> bool
 }
 
 // Whether a node of this kind may stand at this place.
-pub fn place_fine(place: Place, kind: u8) -> bool
+fn place_fine(place: Place, kind: u8) -> bool
     ensures { λ r. ⌜ r ≡ goodPlace place kind ⌝ }
 {
     match place {
@@ -81,7 +81,7 @@ pub fn place_fine(place: Place, kind: u8) -> bool
 }
 
 // Whether a node without a label is stored so.
-pub fn unlabelled(kind: u8, label: u32) -> bool
+fn unlabelled(kind: u8, label: u32) -> bool
     ensures { λ r. ⌜ r ≡ goodLabel 0 Place.Inner kind label ⌝ }
 {
     if kind != Label::NONE {
@@ -91,7 +91,7 @@ pub fn unlabelled(kind: u8, label: u32) -> bool
 }
 
 // Whether a node at this place may have this label.
-pub fn label_fine(names: usize, place: Place, kind: u8, label: u32) -> bool
+fn label_fine(names: usize, place: Place, kind: u8, label: u32) -> bool
     ensures { λ r. ⌜ r ≡ goodLabel names place kind label ⌝ }
 {
     match place {
@@ -116,7 +116,7 @@ pub fn label_fine(names: usize, place: Place, kind: u8, label: u32) -> bool
 }
 
 // Whether a node with this many children may stand at this place.
-pub fn node_fine(names: usize, place: Place, node: Node, kids: usize) -> bool
+fn node_fine(names: usize, place: Place, node: Node, kids: usize) -> bool
     ensures { λ r. ⌜ r ≡ goodRow names place (asRow node) kids ⌝ }
 {
     if !kind_fine(names, node.kind, node.value, kids) {
@@ -135,7 +135,7 @@ pub enum Walked {
 }
 
 // The trees from node `from` up to node `until`, all of which stand at `place`.
-pub fn trees(rows: &[u8], names: usize, place: Place, from: usize, until: usize) -> Walked
+pub(crate) fn trees(rows: &[u8], names: usize, place: Place, from: usize, until: usize) -> Walked
     requires { ⌜ (from ≤ until) × Within (now rows) until ⌝ }
     ensures { λ r. ⌜ TreesAs names place (now (rows .entry)) from until r ⌝ }
 {
@@ -164,7 +164,7 @@ pub fn trees(rows: &[u8], names: usize, place: Place, from: usize, until: usize)
 }
 
 // Whether the name a stands before the name b: by their first difference, or as its beginning.
-pub fn before(a: &[u8], b: &[u8]) -> bool
+fn before(a: &[u8], b: &[u8]) -> bool
     ensures { λ r. ⌜ r ≡ before (now (a .entry)) (now (b .entry)) ⌝ }
 {
     let mut i = 0;
@@ -181,14 +181,7 @@ pub fn before(a: &[u8], b: &[u8]) -> bool
 }
 
 // Whether the name from place `from` up to place `end` may follow `seen` others, the last of which lies from `last` up to `last_end`.
-pub fn rises(
-    bytes: &[u8],
-    seen: usize,
-    last: usize,
-    last_end: usize,
-    from: usize,
-    end: usize,
-) -> bool
+fn rises(bytes: &[u8], seen: usize, last: usize, last_end: usize, from: usize, end: usize) -> bool
     requires { ⌜ (last ≤ «last_end») × («last_end» ≤ length (now bytes)) × (from ≤ end) × (end ≤ length (now bytes)) ⌝ }
     ensures { λ r. ⌜ r ≡ risesTo seen (part last «last_end» (now (bytes .entry))) (part from end (now (bytes .entry))) ⌝ }
 {
@@ -199,7 +192,7 @@ pub fn rises(
 }
 
 // Whether the bytes are `count` names, ascending.
-pub fn names_fine(bytes: &[u8], count: usize) -> bool
+pub(crate) fn names_fine(bytes: &[u8], count: usize) -> bool
     ensures { λ r. ⌜ Tells r (Names count (now (bytes .entry))) ⌝ }
 {
     let mut at = 0;
@@ -231,7 +224,7 @@ pub enum Next {
 }
 
 // The entry of a definition whose file is at least `file`, where the trees from node `next` up to node `nodes` are left.
-pub fn definition(
+fn definition(
     rows: &[u8],
     names: usize,
     files: usize,
@@ -269,7 +262,7 @@ pub fn definition(
 }
 
 // The definitions' entries, and the node after their trees.
-pub fn definitions(
+pub(crate) fn definitions(
     entries: &[u8],
     rows: &[u8],
     names: usize,
@@ -296,7 +289,7 @@ pub fn definitions(
 }
 
 // Whether a file may have this role: main first, init arguments last.
-pub fn role_fine(main: bool, last: bool, role: u16) -> bool
+fn role_fine(main: bool, last: bool, role: u16) -> bool
     ensures { λ r. ⌜ r ≡ goodRole main last role ⌝ }
 {
     if main {
@@ -315,7 +308,7 @@ pub fn role_fine(main: bool, last: bool, role: u16) -> bool
 }
 
 // Whether an entry may be a file's, apart from its tree.
-pub fn file_fine(names: usize, main: bool, last: bool, e: Entry) -> bool
+fn file_fine(names: usize, main: bool, last: bool, e: Entry) -> bool
     ensures { λ r. ⌜ Tells r (FileTests names main last (asEntry e)) ⌝ }
 {
     if names <= e.name as usize {
@@ -334,7 +327,7 @@ pub fn file_fine(names: usize, main: bool, last: bool, e: Entry) -> bool
 }
 
 // Whether a tree whose root has this kind may be that of a file in this role: init arguments have both, or neither.
-pub fn init_fine(kind: u8, role: u16) -> bool
+fn init_fine(kind: u8, role: u16) -> bool
     ensures { λ r. ⌜ r ≡ Bool·beq (eqb kind 26) (eqb role 3) ⌝ }
 {
     if kind == Kind::INIT {
@@ -344,7 +337,7 @@ pub fn init_fine(kind: u8, role: u16) -> bool
 }
 
 // The entry of a file, where the trees from node `next` up to node `nodes` are left.
-pub fn file(
+fn file(
     rows: &[u8],
     names: usize,
     nodes: usize,
@@ -376,7 +369,7 @@ pub fn file(
 }
 
 // Whether the files' entries are good, and nothing is left after their trees.
-pub fn files(
+pub(crate) fn files(
     entries: &[u8],
     rows: &[u8],
     names: usize,

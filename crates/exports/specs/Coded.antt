@@ -9,7 +9,7 @@ use Rattle.refusals.specs.declared.Verdict.the-variants.{Passed, Refused}
 use Rattle.refusals.specs.Refusal.{numberOf, nameOf, neededOf}
 use Rattle.format.specs.Book.{Book}
 use Rattle.refusals.specs.Outcome.{Outcome, fit}
-use Rattle.format.specs.Admission.{onBytes}
+use Rattle.format.specs.Admission.{Source, onBytes}
 use Rattle.refusals.specs.declared.Answer.{Answer}
 use Rattle.refusals.specs.declared.Answer.the-variants.{Given, Refused as RefusedAnswer}
 
@@ -46,5 +46,5 @@ abbrev pub codedUses : Answer → ℕ
 codedUses a = codedBy wide a
 
 -- What a question is answered on bytes, with so many places.
-abbrev pub inPlaces : {A : Type 0} → (Book → Outcome (List A)) → List ℕ → ℕ → Outcome (List A)
+abbrev pub inPlaces : {A : Type 0} → (Book → Outcome (List A)) → Source → ℕ → Outcome (List A)
 inPlaces question bs places = fit places (onBytes question bs)

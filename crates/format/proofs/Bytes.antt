@@ -11,7 +11,7 @@ use Prim.Native.Nat.{ℕ, zero, suc, _+_, _-_, _*_, _/_, _%_, _≤_, _<_}
 use native.Mathlib.Nat.{not-suc-le-zero, add-zero, add-assoc, zero-mul, suc-mul, sub-zero, mod-eq-of-lt, div-div-eq-div-mul}
 use native.Mathlib.Omega.{arith}
 use lib.ListN.{length, getD, take, drop, length-append, length-drop}
-use lib.Seq.{take-all, take-length, take-at, drop-at, drop-drop, take-add, getD-take, getD-drop, length-take-le}
+use lib.Seq.{take-all, take-length, take-at, drop-at, drop-drop, take-add, getD-drop, length-take-le}
 use Rattle.format.specs.Encode.{bytes16, bytes32, Row, rowBytes, Entry, entryBytes, tocRow}
 use Rattle.refusals.specs.Lists.{flat}
 use Rattle.format.specs.Layout.{le16, le32, rowAt, entryAt, run, part}
@@ -88,14 +88,6 @@ le16-small bs i h = omega (arith, h i, h (i + 1))
 pub le32-small : (bs : List ℕ) (i : ℕ) → Bytes bs → le32 bs i < 4294967296
 unfolding le32
 le32-small bs i h = omega (arith, h i, h (i + 1), h (i + 2), h (i + 3))
-
-pub bytes16-length : (n : ℕ) → length (bytes16 n) ≡ 2
-unfolding bytes16
-bytes16-length n = refl
-
-pub bytes32-length : (n : ℕ) → length (bytes32 n) ≡ 4
-unfolding bytes32
-bytes32-length n = refl
 
 pub bytes16-bytes : (n : ℕ) → Bytes (bytes16 n)
 unfolding bytes16
@@ -306,16 +298,6 @@ entries-read = chunks-read entry-chunks
 pub entries-write : (bs : List ℕ) (k : ℕ) → Bytes bs → length bs ≡ k * 8 → flat entryBytes (run (entryAt bs) 0 k) ≡ bs
 entries-write = chunks-write entry-chunks
 
-pub entryAt-good : (bs : List ℕ) (n : ℕ) → Bytes bs → EntryGood (entryAt bs n)
-unfolding entryAt
-entryAt-good bs n h =
-    record {
-      name = le16-small bs (n * 8) h;
-      owner = le16-small bs (n * 8 + 2) h;
-      root = le16-small bs (n * 8 + 4) h;
-      reserved = le16-small bs (n * 8 + 6) h;
-    }
-
 entry-bytes : (e : Entry) → Bytes (entryBytes e)
 unfolding entryBytes
 entry-bytes e =
@@ -384,10 +366,6 @@ part-length a e bs h k = length-take-le (e - a) (drop a bs) (rw (length-drop a b
 pub part-bytes : (a e : ℕ) (bs : List ℕ) → Bytes bs → Bytes (part a e bs)
 unfolding part
 part-bytes a e bs h = take-bytes (e - a) (drop a bs) (drop-bytes a bs h)
-
-pub part-at : (a e : ℕ) (bs : List ℕ) (i : ℕ) → i < e - a → getD (part a e bs) i 0 ≡ getD bs (a + i) 0
-unfolding part
-part-at a e bs i h = getD-take (e - a) (drop a bs) i 0 h ∙ getD-drop a bs i 0
 
 -- what stands between other bytes
 pub part-of : (xs ys zs : List ℕ) (a e : ℕ) → length xs ≡ a → a + length ys ≡ e → part a e (xs ++ ys ++ zs) ≡ ys

@@ -124,9 +124,6 @@ module _ (bs : List ℕ) (i : ℕ) where
       let r : drop n l ≡ drop (i + 1 + n) bs = drop-drop n (i + 1) bs in
       (λ f. name-off n l m long (sym is ∙ f ∙ o) ∙ r, λ f. is ∙ name-on n l m long (f ∙ sym r) ∙ sym o)
 
-  pub filled-suc : (k : ℕ) → i + 1 + getD bs i 0 ≤ length bs → Filled (suc k) (drop i bs) ↔ Filled k (drop (i + 1 + getD bs i 0) bs)
-  filled-suc k le = filled-by (suc k) k le (names-suc bs i (omega arith) k)
-
   pub filled-step : (k : ℕ) → length bs ≤ k → i + 1 + getD bs i 0 ≤ length bs → Filled k (drop i bs) ↔ Filled k (drop (i + 1 + getD bs i 0) bs)
   filled-step k g le = filled-by k k le (names-step bs i (omega arith) k g)
 

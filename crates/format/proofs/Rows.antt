@@ -12,13 +12,13 @@ use native.Mathlib.Omega.{arith}
 use borrow.Author.Tests.{le-leb}
 use lib.Dec.{leb, leb·suc-zero}
 use lib.ListN.{length, length-append}
-use Rattle.format.specs.Forest.{Forest, end, tree, count, breadth, preorder, beside, mapForest}
+use Rattle.format.specs.Forest.{Forest, end, tree, count, preorder, beside, mapForest}
 use Rattle.format.specs.Encode.{Row}
 use Rattle.format.specs.Layout.{rowAt, run, first, treesAfter, build, nodeOf, rowTrees, siblings}
 use Rattle.format.specs.Rules.{Sized}
 use Rattle.format.specs.Whole.{Within, Whole, WholeAt}
 use Rattle.format.proofs.Lists.{same-parts, run-length, run-append}
-use Rattle.format.proofs.Trees.{length-preorder, beside-end, count-map, breadth-map, preorder-map}
+use Rattle.format.proofs.Trees.{length-preorder, beside-end, count-map, preorder-map}
 
 -- ---- The forest that rows store
 
@@ -41,9 +41,6 @@ pub preorder-build : (rs : List Row) → preorder (build rs) ≡ rs
 unfolding preorder build
 preorder-build [] = refl
 preorder-build (r ∷ rs) = ap (λ (l : List Row). r ∷ l) (split-preorder (r .size - 1) (build rs) ∙ preorder-build rs)
-
-pub count-build : (rs : List Row) → count (build rs) ≡ length rs
-count-build rs = sym (length-preorder (build rs)) ∙ ap length (preorder-build rs)
 
 -- The trees of no nodes are none; and those of as many nodes as f has are f, where f stands first.
 split-zero : (g : Forest Row) → (first 0 g ≡ end) × (treesAfter 0 g ≡ g)
@@ -192,10 +189,6 @@ module _ (ns : List ℕ) (i e : ℕ) where
   pub count-siblings : count (siblings ns i e) ≡ e - i
   unfolding siblings
   count-siblings = count-map nodeOf (rowTrees ns i e) ∙ count-rowTrees ns i e
-
-  pub breadth-siblings : breadth (siblings ns i e) ≡ breadth (rowTrees ns i e)
-  unfolding siblings
-  breadth-siblings = breadth-map nodeOf (rowTrees ns i e)
 
 pub siblings-opens : {ns : List ℕ} {i e : ℕ} → Opened ns i e →
     siblings ns i e ≡ tree (nodeOf (rowAt ns i)) (siblings ns (i + 1) (i + rowAt ns i .size)) (siblings ns (i + rowAt ns i .size) e)

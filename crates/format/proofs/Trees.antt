@@ -100,11 +100,6 @@ module _ {A B : Type 0} (h : A → B) where
   map-beside end g = refl
   map-beside (tree n k m) g = ap (tree (h n) (mapForest h k)) (map-beside m g)
 
-  pub map-first : (f : Forest A) → mapForest h (firstTree f) ≡ firstTree (mapForest h f)
-  unfolding mapForest firstTree
-  map-first end = refl
-  map-first (tree n k m) = refl
-
   pub map-other : (f : Forest A) → mapForest h (otherTrees f) ≡ otherTrees (mapForest h f)
   unfolding mapForest otherTrees
   map-other end = refl
@@ -163,9 +158,3 @@ module _ (names : ℕ) (p : Place) where
 
   pub fits-parts : (f g : Forest Node) → T (forestFits names p (beside f g)) → T (forestFits names p f) × T (forestFits names p g)
   fits-parts f g x = simp and-says at (rw (fits-beside f g) at x)
-
-  pub good-join : (f g : Forest Row) → T (goodForest names p f) → T (goodForest names p g) → T (goodForest names p (beside f g))
-  good-join f g x y = rw (good-beside f g) (simp and-says (x, y))
-
-  pub good-parts : (f g : Forest Row) → T (goodForest names p (beside f g)) → T (goodForest names p f) × T (goodForest names p g)
-  good-parts f g x = simp and-says at (rw (good-beside f g) at x)

@@ -2,7 +2,7 @@
 -- each name is defined once, the lemma says so.
 --     Run, run-chain               a chain that ends, with the names that it crosses: as much fuel finds it
 --     run-distinct, run-short      it crosses no name twice, so at most as many as there are definitions
---     outcome, chain-short         what fuel gives, and how many names are crossed
+--     outcome                      what fuel gives, and how many names are crossed
 --     Means, alias-end             what each end says of the type, for every type
 --     leads-end                    where each name is defined once: the end from what is said of the type
 --     root-says, func-says, ..     a test at the end
@@ -176,10 +176,6 @@ module _ (ds : List Definition) where
       go (someType {u = u} s) below =
           let o = below u in
           rw (chain-on s k) (record { short = omega (arith, o .short); either = ⊎-map (crosses s) (λ p. (p .0, goes-on s (suc k) (p .1))) (o .either) })
-
-  pub chain-short : (t : Forest Node) → length (chain ds t .crossed) ≤ length ds
-  unfolding chain
-  chain-short t = outcome (length ds) t .short
 
   pub alias-end : (t : Forest Node) → Means ds t (aliasEnd ds t)
   unfolding aliasEnd chain

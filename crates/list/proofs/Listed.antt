@@ -13,16 +13,13 @@ use Rattle.format.specs.Layout.{nameIn}
 use Rattle.refusals.specs.declared.Refusal.{Refusal}
 use Rattle.judgement.specs.Check.{member}
 use Rattle.refusals.specs.Outcome.{given}
-use Rattle.listing.specs.List.{list}
-use Rattle.listing.specs.Marks.{marksOver}
-use Rattle.format.specs.Admission.{onBytes}
 use Rattle.refusals.specs.declared.Answer.{Answer}
 use Rattle.refusals.specs.declared.Answer.the-variants.{Given, Refused}
 use Rattle.refusals.specs.Handed.{HandedAs}
 use Rattle.print.specs.Laid.{Laid}
 use Rattle.print.proofs.Laid.{nothing, then, alias}
 use Rattle.print.specs.Refused.{refusalOf}
-use Rattle.list.specs.Printed.{heading, markOf, line, lines, listIn, marksIn, markedText, listedText, printed}
+use Rattle.list.specs.Printed.{heading, markOf, line, lines, listIn, marksIn, markedText, listedText, printed, marksAsked, listAsked}
 use Rattle.list.proofs.Answered.{refused-is, given-is}
 
 -- ---- A mark
@@ -100,7 +97,7 @@ module _ (bs marked : List ℕ) where
   table-is l = refl
 
 -- ---- What is printed, by the answers to the questions
-module _ (bs l : List ℕ) {old new : List ℕ} {r : Answer} (h : HandedAs (onBytes (λ b. marksOver b l) bs) old new r) (n : 1024 ≡ length old) where
+module _ (bs l : List ℕ) {old new : List ℕ} {r : Answer} (h : HandedAs (marksAsked bs l) old new r) (n : 1024 ≡ length old) where
   pub marks-refused : {why : Refusal} → r ≡ Refused why → refusalOf bs why ≡ markedText bs l (marksIn bs l)
   unfolding marksIn markedText
   marks-refused e = rw (refused-is h n e)
@@ -109,7 +106,7 @@ module _ (bs l : List ℕ) {old new : List ℕ} {r : Answer} (h : HandedAs (onBy
   unfolding marksIn
   marks-given e = rw (given-is h n e)
 
-module _ (bs : List ℕ) {old new : List ℕ} {r : Answer} (h : HandedAs (onBytes list bs) old new r) (n : 512 ≡ length old) where
+module _ (bs : List ℕ) {old new : List ℕ} {r : Answer} (h : HandedAs (listAsked bs) old new r) (n : 512 ≡ length old) where
   pub list-refused : {why : Refusal} → r ≡ Refused why → refusalOf bs why ≡ printed bs
   unfolding listIn listedText printed
   list-refused e = rw (refused-is h n e)

@@ -18,14 +18,11 @@ use Rattle.refusals.specs.declared.Refusal.{Refusal}
 use Rattle.refusals.specs.Refusal.{numberOf, nameOf}
 use Rattle.refusals.specs.Outcome.{Outcome, refused, given, fit}
 use Rattle.refusals.proofs.Refusals.{number-few}
-use Rattle.listing.specs.List.{list}
-use Rattle.listing.specs.Marks.{marksOver}
-use Rattle.format.specs.Admission.{onBytes}
 use Rattle.print.specs.Laid.{Laid}
 use Rattle.print.specs.Refused.{nameOrDash, refusedLine, isNamed, refusal, refusalOf}
 use Rattle.print.specs.Laws.{decimal-length, quoted-length}
 use Rattle.print.proofs.Laid.{alias, all-before}
-use Rattle.list.specs.Printed.{heading, markOf, line, lines, listIn, marksIn, markedText, listedText, printed}
+use Rattle.list.specs.Printed.{heading, markOf, line, lines, listIn, marksIn, markedText, listedText, printed, marksAsked, listAsked}
 
 -- ---- A name
 names-short : (names : List (List ℕ)) (n : ℕ) → T (every isName names) → length (getD names n []) ≤ 255
@@ -101,11 +98,11 @@ marked-length bs l (given marked) h k =
 
 marks-few : (bs l : List ℕ) → lengthOf (marksIn bs l) ≤ 1024
 unfolding marksIn
-marks-few bs l = fit-length 1024 (onBytes (λ b. marksOver b l) bs)
+marks-few bs l = fit-length 1024 (marksAsked bs l)
 
 list-few : (bs : List ℕ) → lengthOf (listIn bs) ≤ 512
 unfolding listIn
-list-few bs = fit-length 512 (onBytes list bs)
+list-few bs = fit-length 512 (listAsked bs)
 
 printed-length : (bs : List ℕ) → length (printed bs) < 409600
 unfolding printed listedText

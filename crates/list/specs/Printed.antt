@@ -32,16 +32,22 @@ lines book marked position [] = []
 lines book marked position (n ∷ listed) = line position (markOf marked n) (nameIn book n) ++ lines book marked (suc position) listed
 
 -- What the listed names come to with their marks, which are asked for into a list of 1,024 places.
+abbrev pub marksAsked : List ℕ → List ℕ → Outcome (List ℕ)
+marksAsked book listed = onBytes (λ b. marksOver b listed) book
+
 unfoldable pub marksIn : List ℕ → List ℕ → Outcome (List ℕ)
-marksIn book listed = fit 1024 (onBytes (λ b. marksOver b listed) book)
+marksIn book listed = fit 1024 (marksAsked book listed)
 
 unfoldable pub markedText : List ℕ → List ℕ → Outcome (List ℕ) → List ℕ
 markedText book listed (refused r) = refusalOf book r
 markedText book listed (given marked) = heading (length listed) (length marked) ++ lines book marked 1 listed
 
 -- What the definition list comes to, which is asked for into a list of 512 places.
+abbrev pub listAsked : List ℕ → Outcome (List ℕ)
+listAsked book = onBytes list book
+
 unfoldable pub listIn : List ℕ → Outcome (List ℕ)
-listIn book = fit 512 (onBytes list book)
+listIn book = fit 512 (listAsked book)
 
 unfoldable pub listedText : List ℕ → Outcome (List ℕ) → List ℕ
 listedText book (refused r) = refusalOf book r

@@ -11,18 +11,14 @@ use Prim.Native.Nat.{ℕ}
 use lib.Dec.{eqb}
 use Rattle.refusals.specs.declared.Refusal.{Refusal}
 use Rattle.refusals.specs.declared.Refusal.the-variants.{NoActor}
-use Rattle.refusals.specs.declared.Verdict.{Verdict}
-use Rattle.refusals.specs.declared.Verdict.the-variants.{Passed as passes, Refused}
+use Rattle.refusals.specs.declared.Verdict.the-variants.{Refused}
 use Rattle.refusals.specs.declared.Answer.{Answer}
 use Rattle.refusals.specs.declared.Answer.the-variants.{Refused as RefusedAnswer}
 use Rattle.refusals.specs.Verdict.{andThen, isPassed}
 use Rattle.refusals.specs.Outcome.{Outcome, refused, given, after, asked, judged, fit}
 use Rattle.refusals.specs.Handed.{Use, answerOf, leftIn, HandedAs, usesLeft, UsesAs}
 use Rattle.refusals.proofs.Verdicts.{refused-passed}
-use Rattle.format.specs.Forest.{Forest, end, tree}
-use Rattle.format.specs.Node.{Node}
 use Rattle.format.specs.Book.{Book}
-use Rattle.format.specs.Rules.{noTrees}
 use Rattle.format.specs.Admission.{admitted, onBytes}
 use Rattle.format.proofs.Admission.{asked-is}
 use Rattle.book.specs.declared.kinds.Contents.{Contents}

@@ -23,7 +23,7 @@ fn no_contents() -> Contents
 }
 
 // Admits a book and checks it, into tables that have nothing.
-pub fn pass(book: &[u8], roots: &mut [u16], ends: &mut [u16]) -> Found
+pub(crate) fn pass(book: &[u8], roots: &mut [u16], ends: &mut [u16]) -> Found
     requires { ⌜ (now roots ≡ blankTable) × (now ends ≡ blankTable) ⌝ }
     ensures { λ r. ⌜ PassAs (now (book .entry)) (now (roots .exit)) (now (ends .exit)) r ⌝ }
 {

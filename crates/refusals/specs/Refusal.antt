@@ -3,49 +3,36 @@ use Prim.Native.Nat.{ℕ}
 use Rattle.refusals.specs.declared.Refusal.{Refusal}
 use Rattle.refusals.specs.declared.Refusal.the-variants.{Broken, Twice, Unbound, Class, Modes, Oneway, Circle, NoFunction, MethodNoFunction, NoService, Differs, ImportWithoutActor, ImportNoService, SameHash, Absent, Short, NoActor}
 
--- The row's number.
-abbrev pub numberOf : Refusal → ℕ
-numberOf Broken = 1
-numberOf (Twice n) = 2
-numberOf (Unbound n) = 3
-numberOf Class = 4
-numberOf Modes = 5
-numberOf Oneway = 6
-numberOf (Circle n) = 7
-numberOf NoFunction = 8
-numberOf (MethodNoFunction n) = 9
-numberOf NoService = 10
-numberOf (Differs n) = 11
-numberOf (ImportWithoutActor n) = 12
-numberOf (ImportNoService n) = 13
-numberOf (SameHash n) = 14
-numberOf (Absent n) = 15
-numberOf (Short n) = 16
-numberOf NoActor = 17
-
--- What it tells beside that: nothing, a name's number, or the entries needed.
+-- What a refusal tells beside its number: nothing, a name's number, or the entries needed.
 pub data Told : Type 0 where
   nothing : Told
   name needed : ℕ → Told
 
+-- Document 01's table: the row's number, and what it tells.
+abbrev pub saysOf : Refusal → ℕ × Told
+saysOf Broken = (1, nothing)
+saysOf (Twice n) = (2, name n)
+saysOf (Unbound n) = (3, name n)
+saysOf Class = (4, nothing)
+saysOf Modes = (5, nothing)
+saysOf Oneway = (6, nothing)
+saysOf (Circle n) = (7, name n)
+saysOf NoFunction = (8, nothing)
+saysOf (MethodNoFunction n) = (9, name n)
+saysOf NoService = (10, nothing)
+saysOf (Differs n) = (11, name n)
+saysOf (ImportWithoutActor n) = (12, name n)
+saysOf (ImportNoService n) = (13, name n)
+saysOf (SameHash n) = (14, name n)
+saysOf (Absent n) = (15, name n)
+saysOf (Short n) = (16, needed n)
+saysOf NoActor = (17, nothing)
+
+abbrev pub numberOf : Refusal → ℕ
+numberOf r = saysOf r .0
+
 abbrev pub told : Refusal → Told
-told Broken = nothing
-told (Twice n) = name n
-told (Unbound n) = name n
-told Class = nothing
-told Modes = nothing
-told Oneway = nothing
-told (Circle n) = name n
-told NoFunction = nothing
-told (MethodNoFunction n) = name n
-told NoService = nothing
-told (Differs n) = name n
-told (ImportWithoutActor n) = name n
-told (ImportNoService n) = name n
-told (SameHash n) = name n
-told (Absent n) = name n
-told (Short n) = needed n
-told NoActor = nothing
+told r = saysOf r .1
 
 -- The name number, or 65,535 where the row says none.
 abbrev pub nameTold : Told → ℕ

@@ -46,83 +46,57 @@ pub enum Refusal {
     NoActor,
 }
 
+// What a refusal says: its number, the name's number, the entries needed.
+struct Said(u16, u16, u32);
+
 impl Refusal {
     // The number of a refusal that names nothing.
     pub const NO_NAME: u16 = 65535;
+
+    // Document 01's table, one line for each refusal as in the definition `saysOf`.
+    fn says(self) -> Said
+        ensures { λ r. ⌜ (r .0 ≡ numberOf self) × (r .1 ≡ nameOf self) × (r .2 ≡ neededOf self) ⌝ }
+    {
+        match self {
+            Refusal::Broken => Said(1, Refusal::NO_NAME, 0),
+            Refusal::Twice(n) => Said(2, n, 0),
+            Refusal::Unbound(n) => Said(3, n, 0),
+            Refusal::Class => Said(4, Refusal::NO_NAME, 0),
+            Refusal::Modes => Said(5, Refusal::NO_NAME, 0),
+            Refusal::Oneway => Said(6, Refusal::NO_NAME, 0),
+            Refusal::Circle(n) => Said(7, n, 0),
+            Refusal::NoFunction => Said(8, Refusal::NO_NAME, 0),
+            Refusal::MethodNoFunction(n) => Said(9, n, 0),
+            Refusal::NoService => Said(10, Refusal::NO_NAME, 0),
+            Refusal::Differs(n) => Said(11, n, 0),
+            Refusal::ImportWithoutActor(n) => Said(12, n, 0),
+            Refusal::ImportNoService(n) => Said(13, n, 0),
+            Refusal::SameHash(n) => Said(14, n, 0),
+            Refusal::Absent(n) => Said(15, n, 0),
+            Refusal::Short(n) => Said(16, Refusal::NO_NAME, n),
+            Refusal::NoActor => Said(17, Refusal::NO_NAME, 0),
+        }
+    }
 
     // Its row in document 01.
     pub fn number(self) -> u16
         ensures { λ r. ⌜ r ≡ numberOf self ⌝ }
     {
-        match self {
-            Refusal::Broken => 1,
-            Refusal::Twice(_) => 2,
-            Refusal::Unbound(_) => 3,
-            Refusal::Class => 4,
-            Refusal::Modes => 5,
-            Refusal::Oneway => 6,
-            Refusal::Circle(_) => 7,
-            Refusal::NoFunction => 8,
-            Refusal::MethodNoFunction(_) => 9,
-            Refusal::NoService => 10,
-            Refusal::Differs(_) => 11,
-            Refusal::ImportWithoutActor(_) => 12,
-            Refusal::ImportNoService(_) => 13,
-            Refusal::SameHash(_) => 14,
-            Refusal::Absent(_) => 15,
-            Refusal::Short(_) => 16,
-            Refusal::NoActor => 17,
-        }
+        self.says().0
     }
 
     // The name number that it gives, or NO_NAME.
     pub fn name(self) -> u16
         ensures { λ r. ⌜ r ≡ nameOf self ⌝ }
     {
-        match self {
-            Refusal::Broken => Refusal::NO_NAME,
-            Refusal::Twice(n) => n,
-            Refusal::Unbound(n) => n,
-            Refusal::Class => Refusal::NO_NAME,
-            Refusal::Modes => Refusal::NO_NAME,
-            Refusal::Oneway => Refusal::NO_NAME,
-            Refusal::Circle(n) => n,
-            Refusal::NoFunction => Refusal::NO_NAME,
-            Refusal::MethodNoFunction(n) => n,
-            Refusal::NoService => Refusal::NO_NAME,
-            Refusal::Differs(n) => n,
-            Refusal::ImportWithoutActor(n) => n,
-            Refusal::ImportNoService(n) => n,
-            Refusal::SameHash(n) => n,
-            Refusal::Absent(n) => n,
-            Refusal::Short(_) => Refusal::NO_NAME,
-            Refusal::NoActor => Refusal::NO_NAME,
-        }
+        self.says().1
     }
 
     // The entries needed, which only row 16 gives; else 0.
     pub fn needed(self) -> u32
         ensures { λ r. ⌜ r ≡ neededOf self ⌝ }
     {
-        match self {
-            Refusal::Short(n) => n,
-            Refusal::Broken => 0,
-            Refusal::Twice(_) => 0,
-            Refusal::Unbound(_) => 0,
-            Refusal::Class => 0,
-            Refusal::Modes => 0,
-            Refusal::Oneway => 0,
-            Refusal::Circle(_) => 0,
-            Refusal::NoFunction => 0,
-            Refusal::MethodNoFunction(_) => 0,
-            Refusal::NoService => 0,
-            Refusal::Differs(_) => 0,
-            Refusal::ImportWithoutActor(_) => 0,
-            Refusal::ImportNoService(_) => 0,
-            Refusal::SameHash(_) => 0,
-            Refusal::Absent(_) => 0,
-            Refusal::NoActor => 0,
-        }
+        self.says().2
     }
 }
 

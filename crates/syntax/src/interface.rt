@@ -31,7 +31,7 @@ pub fn has_actor(interface: Interface) -> bool
 pub type ByFile = [u16; 16];
 
 // None of a service.
-pub fn no_services() -> ByFile
+pub(crate) fn no_services() -> ByFile
     ensures { λ r. ⌜ r ≡ noServices ⌝ }
 {
     [0u16; 16]

@@ -71,7 +71,7 @@ fn check_merged(rows: &[u8], roots: &[u16], ends: &[u16], interface: Interface) 
 }
 
 // The actor, where there is one: 3, 4, 5, 6 and 9 in the walk, and then 10: one as written that is no service below its top has none.
-pub fn check_actor(rows: &[u8], roots: &[u16], ends: &[u16], interface: Interface) -> Verdict
+pub(crate) fn check_actor(rows: &[u8], roots: &[u16], ends: &[u16], interface: Interface) -> Verdict
     requires { ⌜ ((ds : List Definition) × ActorStored (now rows) (now roots) (now ends) ds interface) ⌝ }
     ensures { λ r. ⌜ ((ds : List Definition) → ActorStored (now (rows .entry)) (now (roots .entry)) (now (ends .entry)) ds interface →
         Env (now (rows .entry)) (now (roots .entry)) (now (ends .entry)) false ds → r ≡ actorVerdict ds (interfaceTree (now (rows .entry)) interface)) ⌝ }

@@ -74,7 +74,7 @@ fn check_entered(
 }
 
 // The definitions of entries `from` up to `to`: 2, the bodies, 7 and 8. The roots and alias ends go into tables that have nothing.
-pub fn check_decs(
+pub(crate) fn check_decs(
     book: &[u8],
     c: Contents,
     from: usize,

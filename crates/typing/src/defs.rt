@@ -15,7 +15,7 @@ use book::read::Node;
 use refusals::Verdict;
 
 // The bodies of the definitions of entries `from` up to `to`, in order.
-pub fn check_defs(
+pub(crate) fn check_defs(
     entries: &[u8],
     rows: &[u8],
     roots: &[u16],
@@ -60,7 +60,13 @@ fn validate_type(rows: &[u8], ends: &[u16], tested: bool, from: usize, until: us
 }
 
 // The same of the bodies of the definitions of entries `from` up to `to`.
-pub fn validate_decs(entries: &[u8], rows: &[u8], ends: &[u16], from: usize, to: usize) -> bool
+pub(crate) fn validate_decs(
+    entries: &[u8],
+    rows: &[u8],
+    ends: &[u16],
+    from: usize,
+    to: usize,
+) -> bool
     requires { ⌜ ((roots : List ℕ) × BodiesIn (now entries) (now rows) roots (now ends) from to) ⌝ }
     ensures { λ r. ⌜ BodiesFitAs (now (entries .entry)) (now (rows .entry)) (now (ends .entry)) from to r ⌝ }
 {

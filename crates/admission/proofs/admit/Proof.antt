@@ -4,9 +4,6 @@ use Rattle.admission.proofs.Admitting.{admission-of}
 use borrow.Author.Needs.{needs}
 use Rattle.admission.proofs.admit.Statement.{statement}
 use Rattle.admission.proofs.admit.Tie as tie
-use Rattle.admission.proofs.admit.Reads as reads
-use Rattle.admission.proofs.admit.Lts as lts
-use Rattle.book.proofs.layout.Reads as layout-reads
 
 layout-requires : tie.Need-layout-requires
 layout-requires c κs = search needs

@@ -3,7 +3,6 @@
 --     Leads                                         what is left to put, in a loop
 --     puts-all, puts-counts                         what a caller has of them
 --     uses-append, uses-one                         entries of sites
---     uses-answer                                   by the test that the walk lists a name they are that name's row
 use mathlib.Core.Path.{_≡_, refl, sym, ap, ap₂, subst, _∙_}
 use mathlib.Core.Bool.{Bool, true, false, cond}
 use mathlib.Core.List.{List, [], _∷_, _++_, map, append-assoc}
@@ -15,16 +14,9 @@ use lib.Dec.{ltb}
 use lib.ListN.{length, set, drop, length-append}
 use lib.Seq.{sets, length-sets, sets-eq}
 use Rattle.refusals.specs.Lists.{flat}
-use Rattle.format.specs.Forest.{Forest}
-use Rattle.format.specs.Node.{Node}
-use Rattle.format.specs.Book.{Definition}
-use Rattle.judgement.specs.Environment.{aliasEnd, methodsAt}
-use Rattle.judgement.specs.Actor.{classArguments, belowClass}
-use Rattle.listing.specs.Chase.{chaseTypes}
 use Rattle.refusals.specs.Handed.{Use, numbers}
-use Rattle.listing.specs.Sites.{Site, classSites, methodSites, typeOf, sites}
-use Rattle.listing.specs.Uses.{isListed, usesOf, kept, entryOf}
-use Rattle.listing.proofs.Uses.{uses-kept}
+use Rattle.listing.specs.Sites.{Site}
+use Rattle.listing.specs.Uses.{kept, entryOf}
 use Rattle.analysis.specs.Entries.{Test, usesBy, put, putAll, Puts}
 
 -- ---- One entry
@@ -160,14 +152,3 @@ module _ (used : Test) where
       ∙ ap (λ (l : List Use). oneUse s ++ l) (uses-append ss rest)
       ∙ sym (append-assoc (oneUse s) (usesBy used ss) (usesBy used rest))
       ∙ ap (λ (l : List Use). l ++ usesBy used rest) (sym (uses-one s ss))
-
--- What a name's row is, by the test that the walk lists the name.
-abbrev pub listedAt : List Definition → ℕ → Test
-listedAt ds n t = isListed n (chaseTypes ds t)
-
--- So the entries of an actor's arguments and methods are what the question answers.
-pub uses-answer : (ds : List Definition) (n : ℕ) (actor arguments methods : Forest Node) → arguments ≡ classArguments (typeOf (aliasEnd ds actor)) →
-    methods ≡ methodsAt (aliasEnd ds (belowClass (typeOf (aliasEnd ds actor)))) → usesBy (listedAt ds n) (classSites 0 arguments ++ methodSites ds 0 methods) ≡ usesOf ds actor n
-unfolding usesOf sites usesBy
-uses-answer ds n actor arguments methods a m =
-    sym (uses-kept ds n (sites ds actor) ∙ ap₂ (λ (f g : Forest Node). usesBy (listedAt ds n) (classSites 0 f ++ methodSites ds 0 g)) (sym a) (sym m))

@@ -1,6 +1,6 @@
 -- What a walk that is over answers. Assumes nothing.
---     hand-stopped                          the walk was stopped: the question is refused
---     hand-given, hand-short, hand-wide     it was not: the question is answered by the names listed, for which there was room
+--     hand-stopped              the walk was stopped: the question is refused
+--     hand-given, hand-short    it was not: the question is answered by the names listed, for which there was room
 use mathlib.Core.Path.{_≡_, sym, ap, _∙_}
 use mathlib.Core.Bool.{true, false}
 use mathlib.Core.List.{List}
@@ -29,6 +29,3 @@ module _ (ds : List Definition) (s : State) (r : Walk) (h : Holds ds 0 s r) wher
 
     pub hand-short : length ds ≤ 512 → r .len ≤ 512
     hand-short few = let g = holds-goes ds 0 s r h f in omega (arith, g .goes .slack, goes-short ds 0 (g .goes))
-
-    pub hand-wide : length (r .list) ≡ 512
-    hand-wide = holds-goes ds 0 s r h f .goes .room

@@ -13,13 +13,6 @@ use Rattle.book.proofs.Parts.{reading-broken, reading-whole, nodesIn, d
 use borrow.Author.Needs.{needs}
 use Rattle.book.proofs.layout.Statement.{statement}
 use Rattle.book.proofs.layout.Tie as tie
-use Rattle.book.proofs.layout.Reads as reads
-use Rattle.book.proofs.layout.Lts as lts
-use Rattle.book.proofs.contents.Reads as contents-reads
-use Rattle.book.proofs.rules.definitions.Reads as definitions-reads
-use Rattle.book.proofs.rules.files.Reads as files-reads
-use Rattle.book.proofs.rules.names_fine.Reads as names-fine-reads
-use Rattle.book.proofs.rules.trees.Reads as trees-reads
 
 -- places that are far back
 abbrev entry-after-rows : tie.After-rows → tie.Start

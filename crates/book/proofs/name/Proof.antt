@@ -6,10 +6,6 @@ use Rattle.book.proofs.Named.{book-of, name-broken, name-outside, has-n
 use borrow.Author.Needs.{needs}
 use Rattle.book.proofs.name.Statement.{statement}
 use Rattle.book.proofs.name.Tie as tie
-use Rattle.book.proofs.name.Reads as reads
-use Rattle.book.proofs.name.Lts as lts
-use Rattle.book.proofs.layout.Reads as layout-reads
-use Rattle.book.proofs.read.name_at.Reads as name-at-reads
 
 layout-requires : tie.Need-layout-requires
 layout-requires c κs = search needs

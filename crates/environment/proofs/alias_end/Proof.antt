@@ -5,9 +5,6 @@ use native.Mathlib.Omega.{arith}
 use Rattle.environment.proofs.Links.{ChainLeft, chain-start, row-within, name-small, alias-ends, alias-unbound, alias-circle, chain-step, in-table}
 use Rattle.environment.proofs.alias_end.Statement.{statement}
 use Rattle.environment.proofs.alias_end.Tie as tie
-use Rattle.environment.proofs.alias_end.Reads as reads
-use Rattle.environment.proofs.alias_end.Lts as lts
-use Rattle.book.proofs.read.Node.at.Reads as at-reads
 
 abbrev Inv-loop : tie.InvT-loop
 Inv-loop rows roots names nodes left node at₀ k₀ at k = ChainLeft rows roots nodes left node at k

@@ -9,9 +9,6 @@ use Rattle.environment.proofs.EndKinds.{is-other, is-none, is-end}
 use borrow.Author.Needs.{needs}
 use Rattle.environment.proofs.as_func.Statement.{statement}
 use Rattle.environment.proofs.as_func.Tie as tie
-use Rattle.environment.proofs.as_func.Reads as reads
-use Rattle.environment.proofs.as_func.Lts as lts
-use Rattle.book.proofs.read.Node.at.Reads as at-reads
 
 -- places that are far back
 abbrev entry-after-at2 : tie.After-at2 → tie.Start

@@ -2,8 +2,6 @@
 use Rattle.environment.proofs.Ends.{begun-none, begun-open}
 use Rattle.environment.proofs.end_before.Statement.{statement}
 use Rattle.environment.proofs.end_before.Tie as tie
-use Rattle.environment.proofs.end_before.Reads as reads
-use Rattle.environment.proofs.end_before.Lts as lts
 
 returns : tie.Need-returns
 returns c = begun-none _ (c .if1 .taken)

@@ -6,9 +6,6 @@ use Rattle.environment.proofs.ChainEnds.{end-other, end-named, served-w
 use borrow.Author.Needs.{needs}
 use Rattle.environment.proofs.end_of.Statement.{statement}
 use Rattle.environment.proofs.end_of.Tie as tie
-use Rattle.environment.proofs.end_of.Reads as reads
-use Rattle.environment.proofs.end_of.Lts as lts
-use Rattle.book.proofs.read.Node.at.Reads as at-reads
 
 at-requires : tie.Need-at-requires
 at-requires c κs = served-within (c .before .before .pre)

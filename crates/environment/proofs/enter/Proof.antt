@@ -8,9 +8,6 @@ use Rattle.environment.proofs.RootTable.{TableLeft, table-start, table-
 use Rattle.book.proofs.Blank.{blank-length}
 use Rattle.environment.proofs.enter.Statement.{statement}
 use Rattle.environment.proofs.enter.Tie as tie
-use Rattle.environment.proofs.enter.Reads as reads
-use Rattle.environment.proofs.enter.Lts as lts
-use Rattle.book.proofs.read.Entry.at.Reads as at-reads
 
 abbrev Inv-loop : tie.InvT-loop
 Inv-loop entries names nodes from to roots₀ d₀ roots d = TableLeft entries names nodes from to roots d

@@ -7,11 +7,6 @@ use Rattle.book.proofs.Blank.{blank-length}
 use Rattle.environment.proofs.Ends.{EndsLeft, ends-start, ends-end, ends-circle, ends-on}
 use Rattle.environment.proofs.find_ends.Statement.{statement}
 use Rattle.environment.proofs.find_ends.Tie as tie
-use Rattle.environment.proofs.find_ends.Reads as reads
-use Rattle.environment.proofs.find_ends.Lts as lts
-use Rattle.environment.proofs.follow.Reads as follow-reads
-use Rattle.environment.proofs.note.Reads as note-reads
-use Rattle.environment.proofs.open_ends.Reads as open-ends-reads
 
 abbrev Inv-loop : tie.InvT-loop
 Inv-loop rows roots names nodes definitions ends₀ n₀ ends n = EndsLeft rows roots names nodes definitions ends n

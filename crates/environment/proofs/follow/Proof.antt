@@ -3,9 +3,6 @@ use native.Mathlib.Omega.{arith}
 use Rattle.environment.proofs.Names.{name-small, open-bound, root-within, next-inside, Follows, follow-start, follow-known, follow-never, follow-ends, follow-on}
 use Rattle.environment.proofs.follow.Statement.{statement}
 use Rattle.environment.proofs.follow.Tie as tie
-use Rattle.environment.proofs.follow.Reads as reads
-use Rattle.environment.proofs.follow.Lts as lts
-use Rattle.book.proofs.read.Node.at.Reads as at-reads
 
 abbrev Inv-loop : tie.InvT-loop
 Inv-loop rows roots ends names nodes definitions n m₀ k₀ m k = Follows rows roots names definitions n m k

@@ -4,9 +4,6 @@ use native.Mathlib.Omega.{arith}
 use Rattle.environment.proofs.Names.{name-small, open-bound, root-within, next-inside, toFind, Notes, note-start, note-inside, note-end, note-less, note-set, note-on}
 use Rattle.environment.proofs.note.Statement.{statement}
 use Rattle.environment.proofs.note.Tie as tie
-use Rattle.environment.proofs.note.Reads as reads
-use Rattle.environment.proofs.note.Lts as lts
-use Rattle.book.proofs.read.Node.at.Reads as at-reads
 
 abbrev Inv-loop : tie.InvT-loop
 Inv-loop rows roots names nodes n end ends₀ m₀ ends m = Notes rows roots names nodes n end ends₀ ends m

@@ -7,9 +7,6 @@ use Rattle.book.proofs.Blank.{blank-length}
 use Rattle.environment.proofs.Ends.{Begun, begun-start, begun-end, begun-on}
 use Rattle.environment.proofs.open_ends.Statement.{statement}
 use Rattle.environment.proofs.open_ends.Tie as tie
-use Rattle.environment.proofs.open_ends.Reads as reads
-use Rattle.environment.proofs.open_ends.Lts as lts
-use Rattle.environment.proofs.end_before.Reads as end-before-reads
 
 abbrev Inv-loop : tie.InvT-loop
 Inv-loop roots names ends₀ n₀ ends n = Begun roots names ends n

@@ -3,10 +3,6 @@ use Rattle.exports.proofs.Codes.{passed-code, refused-code}
 use borrow.Author.Needs.{needs}
 use Rattle.exports.proofs.code.Statement.{statement}
 use Rattle.exports.proofs.code.Tie as tie
-use Rattle.exports.proofs.code.Reads as reads
-use Rattle.exports.proofs.code.Lts as lts
-use Rattle.refusals.proofs.Refusal.name.Reads as name-reads
-use Rattle.refusals.proofs.Refusal.number.Reads as number-reads
 
 enum-told : tie.Need-enum-told
 enum-told c = search needs

@@ -4,11 +4,6 @@ use Rattle.exports.proofs.Codes.{needed-low, name-low}
 use borrow.Author.Needs.{needs}
 use Rattle.exports.proofs.low.Statement.{statement}
 use Rattle.exports.proofs.low.Tie as tie
-use Rattle.exports.proofs.low.Reads as reads
-use Rattle.exports.proofs.low.Lts as lts
-use Rattle.refusals.proofs.Refusal.name.Reads as name-reads
-use Rattle.refusals.proofs.Refusal.needed.Reads as needed-reads
-use Rattle.refusals.proofs.Refusal.number.Reads as number-reads
 
 number-requires : tie.Need-number-requires
 number-requires c κs = search needs

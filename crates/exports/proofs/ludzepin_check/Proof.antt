@@ -4,10 +4,6 @@ use Rattle.exports.specs.Coded.{coded}
 use borrow.Author.Needs.{needs}
 use Rattle.exports.proofs.ludzepin_check.Statement.{statement}
 use Rattle.exports.proofs.ludzepin_check.Tie as tie
-use Rattle.exports.proofs.ludzepin_check.Reads as reads
-use Rattle.exports.proofs.ludzepin_check.Lts as lts
-use Rattle.exports.proofs.code.Reads as code-reads
-use Rattle.questions.proofs.check.Reads as check-reads
 
 check-requires : tie.Need-check-requires
 check-requires c κs = search needs

@@ -4,10 +4,6 @@ use Rattle.exports.specs.Coded.{coded}
 use borrow.Author.Needs.{needs}
 use Rattle.exports.proofs.ludzepin_init_check.Statement.{statement}
 use Rattle.exports.proofs.ludzepin_init_check.Tie as tie
-use Rattle.exports.proofs.ludzepin_init_check.Reads as reads
-use Rattle.exports.proofs.ludzepin_init_check.Lts as lts
-use Rattle.exports.proofs.code.Reads as code-reads
-use Rattle.questions.proofs.init_check.Reads as init-check-reads
 
 init-check-requires : tie.Need-init-check-requires
 init-check-requires c κs = search needs

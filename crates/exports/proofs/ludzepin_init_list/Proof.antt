@@ -1,25 +1,19 @@
 -- `ludzepin_init_list` meets its contract. Assumes nothing.
 use mathlib.Core.Path.{sym, ap, subst, _∙_}
 use native.Mathlib.Omega.{arith}
-use lib.ListN.{length}
 use Rattle.exports.specs.Coded.{codedAnswer, Below, small}
 use Rattle.exports.proofs.Small.{most-below}
 use Rattle.listing.proofs.InitList.{init-list-bytes-most}
 use borrow.Author.Needs.{needs}
 use Rattle.exports.proofs.ludzepin_init_list.Statement.{statement}
 use Rattle.exports.proofs.ludzepin_init_list.Tie as tie
-use Rattle.exports.proofs.ludzepin_init_list.Reads as reads
-use Rattle.exports.proofs.ludzepin_init_list.Lts as lts
-use Rattle.exports.proofs.answer_code.Reads as answer-code-reads
-use Rattle.questions.proofs.init_list.Reads as init-list-reads
 
 init-list-requires : tie.Need-init-list-requires
 init-list-requires c κs = search needs
 
 answer-code-requires : tie.Need-answer-code-requires
 answer-code-requires c κs =
-    let start = c .before .before .before .before .before .before .args in
-    subst (Below small) (sym (c .before .before .init-list .ensures .answer)) (most-below small 512 (omega arith) _ (init-list-bytes-most (start .book .now) (length (start .out .now))))
+    subst (Below small) (sym (c .before .before .init-list .ensures .answer)) (most-below small 512 (omega arith) _ (init-list-bytes-most _ _))
 
 same-length : tie.Need-same-length
 same-length c = search needs

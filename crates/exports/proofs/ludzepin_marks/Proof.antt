@@ -1,17 +1,12 @@
 -- `ludzepin_marks` meets its contract. Assumes nothing.
 use mathlib.Core.Path.{sym, ap, subst, _∙_}
 use native.Mathlib.Omega.{arith}
-use lib.ListN.{length}
 use Rattle.exports.specs.Coded.{codedAnswer, Below, small}
 use Rattle.exports.proofs.Small.{most-below}
 use Rattle.listing.proofs.Marks.{marks-bytes-most}
 use borrow.Author.Needs.{needs}
 use Rattle.exports.proofs.ludzepin_marks.Statement.{statement}
 use Rattle.exports.proofs.ludzepin_marks.Tie as tie
-use Rattle.exports.proofs.ludzepin_marks.Reads as reads
-use Rattle.exports.proofs.ludzepin_marks.Lts as lts
-use Rattle.exports.proofs.answer_code.Reads as answer-code-reads
-use Rattle.questions.proofs.marks.Reads as marks-reads
 
 marks-requires : tie.Need-marks-requires
 marks-requires c κs = search needs
@@ -20,7 +15,7 @@ answer-code-requires : tie.Need-answer-code-requires
 answer-code-requires c κs =
     let start = c .before .before .before .before .before .before .before .args in
     subst (Below small) (sym (c .before .before .marks .ensures .answer))
-    (most-below small 512 (omega arith) _ (marks-bytes-most (start .book .now) (length (start .out .now)) (start .list .now)))
+    (most-below small 512 (omega arith) _ (marks-bytes-most _ _ (start .list .now)))
 
 same-length : tie.Need-same-length
 same-length c = search needs

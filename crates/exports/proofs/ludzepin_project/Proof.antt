@@ -1,17 +1,12 @@
 -- `ludzepin_project` meets its contract. Assumes nothing.
 use mathlib.Core.Path.{sym, ap, subst, _∙_}
 use native.Mathlib.Omega.{arith}
-use lib.ListN.{length}
 use Rattle.exports.specs.Coded.{codedAnswer, Below, small}
 use Rattle.exports.proofs.Small.{most-below}
 use Rattle.listing.proofs.Project.{project-bytes-most}
 use borrow.Author.Needs.{needs}
 use Rattle.exports.proofs.ludzepin_project.Statement.{statement}
 use Rattle.exports.proofs.ludzepin_project.Tie as tie
-use Rattle.exports.proofs.ludzepin_project.Reads as reads
-use Rattle.exports.proofs.ludzepin_project.Lts as lts
-use Rattle.exports.proofs.answer_code.Reads as answer-code-reads
-use Rattle.questions.proofs.project.Reads as project-reads
 
 project-requires : tie.Need-project-requires
 project-requires c κs = search needs
@@ -20,7 +15,7 @@ answer-code-requires : tie.Need-answer-code-requires
 answer-code-requires c κs =
     let start = c .before .before .before .before .before .before .before .args in
     subst (Below small) (sym (c .before .before .project .ensures .answer))
-    (most-below small 4096 (omega arith) _ (project-bytes-most (start .book .now) (length (start .out .now)) (start .asked .now)))
+    (most-below small 4096 (omega arith) _ (project-bytes-most _ _ (start .asked .now)))
 
 same-length : tie.Need-same-length
 same-length c = search needs

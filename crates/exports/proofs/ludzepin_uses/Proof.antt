@@ -1,18 +1,12 @@
 -- `ludzepin_uses` meets its contract. Assumes nothing.
 use mathlib.Core.Path.{sym, ap, subst, _∙_}
-use Prim.Native.Nat.{_/_}
 use native.Mathlib.Omega.{arith}
-use lib.ListN.{length}
 use Rattle.exports.specs.Coded.{codedUses, Below, wide}
 use Rattle.exports.proofs.Small.{most-below}
 use Rattle.listing.proofs.Uses.{uses-bytes-most}
 use borrow.Author.Needs.{needs}
 use Rattle.exports.proofs.ludzepin_uses.Statement.{statement}
 use Rattle.exports.proofs.ludzepin_uses.Tie as tie
-use Rattle.exports.proofs.ludzepin_uses.Reads as reads
-use Rattle.exports.proofs.ludzepin_uses.Lts as lts
-use Rattle.exports.proofs.uses_code.Reads as uses-code-reads
-use Rattle.questions.proofs.uses.Reads as uses-reads
 
 uses-requires : tie.Need-uses-requires
 uses-requires c κs = search needs
@@ -20,7 +14,7 @@ uses-requires c κs = search needs
 uses-code-requires : tie.Need-uses-code-requires
 uses-code-requires c κs =
     let start = c .before .before .before .before .before .before .args in
-    subst (Below wide) (sym (c .before .before .uses .ensures .answer)) (most-below wide 16781313 (omega arith) _ (uses-bytes-most (start .book .now) (length (start .out .now) / 3) (start .name)))
+    subst (Below wide) (sym (c .before .before .uses .ensures .answer)) (most-below wide 16781313 (omega arith) _ (uses-bytes-most _ _ (start .name)))
 
 same-length : tie.Need-same-length
 same-length c = search needs

@@ -3,10 +3,6 @@ use Rattle.exports.proofs.Codes.{given-code, answer-refused}
 use borrow.Author.Needs.{needs}
 use Rattle.exports.proofs.uses_code.Statement.{statement}
 use Rattle.exports.proofs.uses_code.Tie as tie
-use Rattle.exports.proofs.uses_code.Reads as reads
-use Rattle.exports.proofs.uses_code.Lts as lts
-use Rattle.refusals.proofs.Refusal.number.Reads as number-reads
-use Rattle.exports.proofs.low.Reads as low-reads
 
 enum-known-a : tie.Need-enum-known-a
 enum-known-a c = search needs

@@ -6,10 +6,6 @@ use Rattle.questions.proofs.Asking.{unadmitted, answered, handed-refuse
 use borrow.Author.Needs.{needs}
 use Rattle.questions.proofs.draft_list.Statement.{statement}
 use Rattle.questions.proofs.draft_list.Tie as tie
-use Rattle.questions.proofs.draft_list.Reads as reads
-use Rattle.questions.proofs.draft_list.Lts as lts
-use Rattle.admission.proofs.admit.Reads as admit-reads
-use Rattle.questions.proofs.passed.draft_list.draft_list_admitted.Reads as draft-list-admitted-reads
 
 admit-requires : tie.Need-admit-requires
 admit-requires c κs = search needs

@@ -6,11 +6,6 @@ use Rattle.listing.proofs.Empty.{emptiness-after}
 use borrow.Author.Needs.{needs}
 use Rattle.questions.proofs.emptiness.Statement.{statement}
 use Rattle.questions.proofs.emptiness.Tie as tie
-use Rattle.questions.proofs.emptiness.Reads as reads
-use Rattle.questions.proofs.emptiness.Lts as lts
-use Rattle.book.proofs.tables.blank.Reads as blank-reads
-use Rattle.questions.proofs.passed.empty.emptiness_passed.Reads as emptiness-passed-reads
-use Rattle.questions.proofs.stages.pass.Reads as pass-reads
 
 blank-requires : tie.Need-blank-requires
 blank-requires c κs = search needs

@@ -6,12 +6,6 @@ use Rattle.questions.proofs.Asking.{init-stops, init-goes}
 use borrow.Author.Needs.{needs}
 use Rattle.questions.proofs.init_check.Statement.{statement}
 use Rattle.questions.proofs.init_check.Tie as tie
-use Rattle.questions.proofs.init_check.Reads as reads
-use Rattle.questions.proofs.init_check.Lts as lts
-use Rattle.book.proofs.tables.blank.Reads as blank-reads
-use Rattle.questions.proofs.stages.pass.Reads as pass-reads
-use Rattle.refusals.proofs.Verdict.passed.Reads as passed-reads
-use Rattle.typing.proofs.init.check_init_args.Reads as check-init-args-reads
 
 blank-requires : tie.Need-blank-requires
 blank-requires c κs = search needs

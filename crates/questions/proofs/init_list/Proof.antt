@@ -6,11 +6,6 @@ use Rattle.listing.proofs.InitList.{init-list-after}
 use borrow.Author.Needs.{needs}
 use Rattle.questions.proofs.init_list.Statement.{statement}
 use Rattle.questions.proofs.init_list.Tie as tie
-use Rattle.questions.proofs.init_list.Reads as reads
-use Rattle.questions.proofs.init_list.Lts as lts
-use Rattle.book.proofs.tables.blank.Reads as blank-reads
-use Rattle.questions.proofs.passed.init_list.init_list_passed.Reads as init-list-passed-reads
-use Rattle.questions.proofs.stages.pass.Reads as pass-reads
 
 blank-requires : tie.Need-blank-requires
 blank-requires c κs = search needs

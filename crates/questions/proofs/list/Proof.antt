@@ -6,11 +6,6 @@ use Rattle.listing.proofs.List.{list-after}
 use borrow.Author.Needs.{needs}
 use Rattle.questions.proofs.list.Statement.{statement}
 use Rattle.questions.proofs.list.Tie as tie
-use Rattle.questions.proofs.list.Reads as reads
-use Rattle.questions.proofs.list.Lts as lts
-use Rattle.book.proofs.tables.blank.Reads as blank-reads
-use Rattle.questions.proofs.passed.list.list_passed.Reads as list-passed-reads
-use Rattle.questions.proofs.stages.pass.Reads as pass-reads
 
 blank-requires : tie.Need-blank-requires
 blank-requires c κs = search needs

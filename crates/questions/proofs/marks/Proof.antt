@@ -5,11 +5,6 @@ use Rattle.listing.proofs.Marks.{marks-after}
 use borrow.Author.Needs.{needs}
 use Rattle.questions.proofs.marks.Statement.{statement}
 use Rattle.questions.proofs.marks.Tie as tie
-use Rattle.questions.proofs.marks.Reads as reads
-use Rattle.questions.proofs.marks.Lts as lts
-use Rattle.book.proofs.tables.blank.Reads as blank-reads
-use Rattle.questions.proofs.passed.marks.marks_passed.Reads as marks-passed-reads
-use Rattle.questions.proofs.stages.pass.Reads as pass-reads
 
 blank-requires : tie.Need-blank-requires
 blank-requires c κs = search needs

@@ -5,11 +5,6 @@ use Rattle.listing.proofs.Project.{project-after}
 use borrow.Author.Needs.{needs}
 use Rattle.questions.proofs.project.Statement.{statement}
 use Rattle.questions.proofs.project.Tie as tie
-use Rattle.questions.proofs.project.Reads as reads
-use Rattle.questions.proofs.project.Lts as lts
-use Rattle.book.proofs.tables.blank.Reads as blank-reads
-use Rattle.questions.proofs.passed.project.project_passed.Reads as project-passed-reads
-use Rattle.questions.proofs.stages.pass.Reads as pass-reads
 
 blank-requires : tie.Need-blank-requires
 blank-requires c κs = search needs

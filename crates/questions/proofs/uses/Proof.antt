@@ -5,11 +5,6 @@ use Rattle.listing.proofs.Uses.{uses-after}
 use borrow.Author.Needs.{needs}
 use Rattle.questions.proofs.uses.Statement.{statement}
 use Rattle.questions.proofs.uses.Tie as tie
-use Rattle.questions.proofs.uses.Reads as reads
-use Rattle.questions.proofs.uses.Lts as lts
-use Rattle.book.proofs.tables.blank.Reads as blank-reads
-use Rattle.questions.proofs.stages.pass.Reads as pass-reads
-use Rattle.questions.proofs.passed.uses.uses_passed.Reads as uses-passed-reads
 
 blank-requires : tie.Need-blank-requires
 blank-requires c κs = search needs

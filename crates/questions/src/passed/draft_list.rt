@@ -43,7 +43,7 @@ fn draft_list_written(book: &[u8], c: Contents, root: u16, out: &mut [u16]) -> A
 }
 
 // Of an admitted book.
-pub fn draft_list_admitted(book: &[u8], c: Contents, out: &mut [u16]) -> Answer
+pub(crate) fn draft_list_admitted(book: &[u8], c: Contents, out: &mut [u16]) -> Answer
     requires { ⌜ Admitted (now book) c ⌝ }
     ensures { λ r. ⌜ ((a : Admitted (now (book .entry)) c) → HandedAs (draftList (a .book)) (now (out .entry)) (now (out .exit)) r) ⌝ }
 {

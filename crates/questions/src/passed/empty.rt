@@ -6,7 +6,7 @@ use refusals::Answer;
 use typing::prog::Passed;
 
 // Of a book that passed.
-pub fn emptiness_passed(
+pub(crate) fn emptiness_passed(
     book: &[u8],
     p: Passed,
     roots: &[u16],

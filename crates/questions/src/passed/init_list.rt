@@ -7,7 +7,7 @@ use refusals::Verdict;
 use typing::prog::Passed;
 
 // Of a book that passed the check.
-pub fn init_list_passed(
+pub(crate) fn init_list_passed(
     book: &[u8],
     p: Passed,
     roots: &[u16],

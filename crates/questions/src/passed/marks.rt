@@ -7,7 +7,7 @@ use refusals::Refusal;
 use typing::prog::Passed;
 
 // Of a book that passed.
-pub fn marks_passed(
+pub(crate) fn marks_passed(
     book: &[u8],
     p: Passed,
     roots: &[u16],

@@ -49,7 +49,7 @@ fn hand_uses(rows: &[u8], ends: &[u16], near: &[u16], offer: Interface, out: &mu
 }
 
 // Of a book that passed.
-pub fn uses_passed(
+pub(crate) fn uses_passed(
     book: &[u8],
     p: Passed,
     roots: &[u16],

@@ -3,8 +3,6 @@ use Rattle.typing.proofs.Modes.{no-mode, many-modes, other-mode, oneway
 use borrow.Author.Needs.{needs}
 use Rattle.typing.proofs.check_modes.Statement.{statement}
 use Rattle.typing.proofs.check_modes.Tie as tie
-use Rattle.typing.proofs.check_modes.Reads as reads
-use Rattle.typing.proofs.check_modes.Lts as lts
 
 returns : tie.Need-returns
 returns c = no-mode _ _ (c .if1 .taken)

@@ -8,8 +8,6 @@ use Rattle.typing.specs.Walk.{boundVerdict}
 use borrow.Author.Needs.{needs}
 use Rattle.typing.proofs.check_var.Statement.{statement}
 use Rattle.typing.proofs.check_var.Tie as tie
-use Rattle.typing.proofs.check_var.Reads as reads
-use Rattle.typing.proofs.check_var.Lts as lts
 
 mul-if1 : tie.Need-mul-if1
 mul-if1 c = search needs

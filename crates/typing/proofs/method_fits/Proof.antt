@@ -2,9 +2,6 @@
 use borrow.Author.Needs.{needs}
 use Rattle.typing.proofs.method_fits.Statement.{statement}
 use Rattle.typing.proofs.method_fits.Tie as tie
-use Rattle.typing.proofs.method_fits.Reads as reads
-use Rattle.typing.proofs.method_fits.Lts as lts
-use Rattle.environment.proofs.as_func.Reads as as-func-reads
 
 returns : tie.Need-returns
 returns c = search needs

@@ -10,10 +10,6 @@ use Rattle.analysis.proofs.chase.Rows.{root-few, body-within, body-smal
 use Rattle.analysis.proofs.chase.Rows.{last-on, last-few, last-end, last-within, list-room, last-small, rows-back}
 use Rattle.analysis.proofs.chase.chase.Statement.{statement}
 use Rattle.analysis.proofs.chase.chase.Tie as tie
-use Rattle.analysis.proofs.chase.chase.Lts as lts
-use Rattle.analysis.proofs.chase.next_new.Reads as next-new-reads
-use Rattle.analysis.proofs.chase.no_stack.Reads as no-stack-reads
-use Rattle.book.proofs.read.Node.at.Reads as at-reads
 
 abbrev Inv-loop : tie.InvT-loop
 Inv-loop rows roots from until seen₀ list₀ len₀ stack₀ ends₀ depth₀ at₀ end₀ seen list len stack ends depth at end =

@@ -8,11 +8,6 @@ use Rattle.analysis.proofs.BookNodes.{here-whole, here-within, here-sma
 use Rattle.analysis.proofs.chase.Actor.{ServicesLeft, services-start, services-started, services-on, actor-written, actor-merged, interface-root, interface-arguments, walked-same}
 use Rattle.analysis.proofs.chase.chase_actor.Statement.{statement}
 use Rattle.analysis.proofs.chase.chase_actor.Tie as tie
-use Rattle.analysis.proofs.chase.chase_actor.Lts as lts
-use Rattle.analysis.proofs.chase.chase.Reads as chase-reads
-use Rattle.analysis.proofs.chase.chase_types.Reads as chase-types-reads
-use Rattle.analysis.proofs.chase.chase_written.Reads as chase-written-reads
-use Rattle.book.proofs.read.Node.at.Reads as at-reads
 
 abbrev Inv-loop : tie.InvT-loop
 Inv-loop rows roots interface definitions v₀ services k₀ v k = ServicesLeft rows roots definitions (interface .root) (interface .count) services v k

@@ -3,9 +3,6 @@ use Rattle.analysis.proofs.chase.Actor.{fresh-started, fresh-chased}
 use borrow.Author.Needs.{needs}
 use Rattle.analysis.proofs.chase.chase_types.Statement.{statement}
 use Rattle.analysis.proofs.chase.chase_types.Tie as tie
-use Rattle.analysis.proofs.chase.chase_types.Lts as lts
-use Rattle.analysis.proofs.chase.chase.Reads as chase-reads
-use Rattle.analysis.proofs.chase.fresh.Reads as fresh-reads
 
 fresh-requires : tie.Need-fresh-requires
 fresh-requires c κs = search needs

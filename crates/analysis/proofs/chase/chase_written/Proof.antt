@@ -8,10 +8,6 @@ use Rattle.analysis.proofs.chase.Actor.{fresh-none, walked-same, writte
 use borrow.Author.Needs.{needs}
 use Rattle.analysis.proofs.chase.chase_written.Statement.{statement}
 use Rattle.analysis.proofs.chase.chase_written.Tie as tie
-use Rattle.analysis.proofs.chase.chase_written.Lts as lts
-use Rattle.analysis.proofs.chase.chase_types.Reads as chase-types-reads
-use Rattle.analysis.proofs.chase.fresh.Reads as fresh-reads
-use Rattle.book.proofs.read.Node.at.Reads as at-reads
 
 fresh-requires : tie.Need-fresh-requires
 fresh-requires c κs = search needs

@@ -4,7 +4,6 @@ use Rattle.book.specs.Tables.{noFlags}
 use Rattle.analysis.specs.Walking.{noList, nothingMet}
 use Rattle.analysis.proofs.chase.fresh.Statement.{statement}
 use Rattle.analysis.proofs.chase.fresh.Tie as tie
-use Rattle.analysis.proofs.chase.fresh.Lts as lts
 
 returns : tie.Need-returns
 unfolding nothingMet noFlags noList

@@ -3,8 +3,6 @@ use Rattle.analysis.proofs.chase.NewNames.{scan-within, new-other, name
 use borrow.Author.Needs.{needs}
 use Rattle.analysis.proofs.chase.is_new.Statement.{statement}
 use Rattle.analysis.proofs.chase.is_new.Tie as tie
-use Rattle.analysis.proofs.chase.is_new.Lts as lts
-use Rattle.book.proofs.read.Node.at.Reads as at-reads
 
 at-requires : tie.Need-at-requires
 at-requires c κs = scan-within _ (c .before .before .pre)

@@ -5,8 +5,6 @@ use native.Mathlib.Omega.{arith}
 use Rattle.analysis.proofs.chase.NewNames.{ScanLeft, scan-start, scan-end, scan-here, scan-found, scan-on}
 use Rattle.analysis.proofs.chase.next_new.Statement.{statement}
 use Rattle.analysis.proofs.chase.next_new.Tie as tie
-use Rattle.analysis.proofs.chase.next_new.Lts as lts
-use Rattle.analysis.proofs.chase.is_new.Reads as is-new-reads
 
 abbrev Inv-loop : tie.InvT-loop
 Inv-loop rows seen from until i₀ i = ScanLeft rows seen from until i

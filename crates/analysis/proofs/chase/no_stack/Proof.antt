@@ -3,7 +3,6 @@ use mathlib.Core.Path.{refl}
 use Rattle.analysis.specs.Walking.{noList}
 use Rattle.analysis.proofs.chase.no_stack.Statement.{statement}
 use Rattle.analysis.proofs.chase.no_stack.Tie as tie
-use Rattle.analysis.proofs.chase.no_stack.Lts as lts
 
 returns : tie.Need-returns
 unfolding noList

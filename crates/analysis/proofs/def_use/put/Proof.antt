@@ -7,8 +7,6 @@ use Rattle.analysis.proofs.def_use.Entries.{put-out, put-stored}
 use borrow.Author.Needs.{needs}
 use Rattle.analysis.proofs.def_use.put.Statement.{statement}
 use Rattle.analysis.proofs.def_use.put.Tie as tie
-use Rattle.analysis.proofs.def_use.put.Reads as reads
-use Rattle.analysis.proofs.def_use.put.Lts as lts
 
 returns : tie.Need-returns
 returns c = sym (put-out _ _ _ _ (c .if1 .taken))

@@ -3,10 +3,6 @@ use Rattle.format.proofs.Rows.{node-within}
 use Rattle.analysis.proofs.def_use.Methods.{most-none, end-puts-none, end-puts-other, end-puts}
 use Rattle.analysis.proofs.def_use.put_end.Statement.{statement}
 use Rattle.analysis.proofs.def_use.put_end.Tie as tie
-use Rattle.analysis.proofs.def_use.put_end.Reads as reads
-use Rattle.analysis.proofs.def_use.put_end.Lts as lts
-use Rattle.analysis.proofs.def_use.put_func.Reads as put-func-reads
-use Rattle.book.proofs.read.Node.at.Reads as at-reads
 
 returns : tie.Need-returns
 returns c =

@@ -9,11 +9,6 @@ use Rattle.analysis.proofs.def_use.Methods.{func-most, func-puts}
 use borrow.Author.Needs.{needs}
 use Rattle.analysis.proofs.def_use.put_func.Statement.{statement}
 use Rattle.analysis.proofs.def_use.put_func.Tie as tie
-use Rattle.analysis.proofs.def_use.put_func.Reads as reads
-use Rattle.analysis.proofs.def_use.put_func.Lts as lts
-use Rattle.analysis.proofs.def_use.put_trees.Reads as put-trees-reads
-use Rattle.analysis.proofs.def_use.skip.Reads as skip-reads
-use Rattle.book.proofs.read.Node.at.Reads as at-reads
 
 at-requires : tie.Need-at-requires
 at-requires c κs = node-within (c .before .before .before .pre .0)

@@ -7,11 +7,6 @@ use Rattle.environment.proofs.ChainEnds.{served-whole, served-within, served-sm
 use Rattle.analysis.proofs.def_use.Methods.{MethodsLeft, methods-start, methods-few, method-within, method-next, methods-on, methods-most, methods-counted, methods-puts}
 use Rattle.analysis.proofs.def_use.put_methods.Statement.{statement}
 use Rattle.analysis.proofs.def_use.put_methods.Tie as tie
-use Rattle.analysis.proofs.def_use.put_methods.Reads as reads
-use Rattle.analysis.proofs.def_use.put_methods.Lts as lts
-use Rattle.environment.proofs.end_of.Reads as end-of-reads
-use Rattle.analysis.proofs.def_use.put_end.Reads as put-end-reads
-use Rattle.book.proofs.read.Node.at.Reads as at-reads
 
 abbrev Inv-loop : tie.InvT-loop
 Inv-loop rows ends near service first k places out₀ until i₀ m₀ at₀ out i m at = MethodsLeft rows ends near service until first k places out₀ out i m at

@@ -4,9 +4,6 @@ use Rattle.analysis.proofs.def_use.Trees.{tree-out, tree-in}
 use borrow.Author.Needs.{needs}
 use Rattle.analysis.proofs.def_use.put_tree.Statement.{statement}
 use Rattle.analysis.proofs.def_use.put_tree.Tie as tie
-use Rattle.analysis.proofs.def_use.put_tree.Reads as reads
-use Rattle.analysis.proofs.def_use.put_tree.Lts as lts
-use Rattle.analysis.proofs.def_use.put.Reads as put-reads
 
 mul-if1 : tie.Need-mul-if1
 mul-if1 c = search needs

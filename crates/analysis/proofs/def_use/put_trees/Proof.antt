@@ -4,10 +4,6 @@ use native.Mathlib.Omega.{arith}
 use Rattle.analysis.proofs.def_use.Trees.{TreesLeft, trees-start, trees-most, trees-end, trees-within, trees-next, trees-on}
 use Rattle.analysis.proofs.def_use.put_trees.Statement.{statement}
 use Rattle.analysis.proofs.def_use.put_trees.Tie as tie
-use Rattle.analysis.proofs.def_use.put_trees.Reads as reads
-use Rattle.analysis.proofs.def_use.put_trees.Lts as lts
-use Rattle.analysis.proofs.def_use.put_tree.Reads as put-tree-reads
-use Rattle.book.proofs.read.Node.at.Reads as at-reads
 
 abbrev Inv-loop : tie.InvT-loop
 Inv-loop rows near from until method result k places out₀ i₀ index₀ at₀ out i index at = TreesLeft rows near method result from until k places out₀ out i index at

@@ -4,10 +4,6 @@ use native.Mathlib.Omega.{arith}
 use Rattle.analysis.proofs.def_use.Methods.{ServicesLeft, services-start, services-on, uses-most, uses-end}
 use Rattle.analysis.proofs.def_use.put_uses.Statement.{statement}
 use Rattle.analysis.proofs.def_use.put_uses.Tie as tie
-use Rattle.analysis.proofs.def_use.put_uses.Reads as reads
-use Rattle.analysis.proofs.def_use.put_uses.Lts as lts
-use Rattle.analysis.proofs.def_use.put_methods.Reads as put-methods-reads
-use Rattle.analysis.proofs.def_use.put_trees.Reads as put-trees-reads
 
 abbrev Inv-loop : tie.InvT-loop
 Inv-loop rows ends near from until count places out₀ services at₀ m₀ s₀ out at m s = ServicesLeft rows ends near services from until count places at₀ out₀ out at m s

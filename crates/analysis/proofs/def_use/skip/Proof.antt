@@ -5,9 +5,6 @@ use native.Mathlib.Omega.{arith}
 use Rattle.analysis.proofs.def_use.Trees.{SkipLeft, skip-start, skip-stop, skip-end, skip-within, skip-next, skip-on}
 use Rattle.analysis.proofs.def_use.skip.Statement.{statement}
 use Rattle.analysis.proofs.def_use.skip.Tie as tie
-use Rattle.analysis.proofs.def_use.skip.Reads as reads
-use Rattle.analysis.proofs.def_use.skip.Lts as lts
-use Rattle.book.proofs.read.Node.at.Reads as at-reads
 
 abbrev Inv-loop : tie.InvT-loop
 Inv-loop rows from until count i₀ left₀ i left = SkipLeft rows from until count i left

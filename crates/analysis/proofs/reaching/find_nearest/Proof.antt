@@ -8,15 +8,6 @@ use Rattle.analysis.proofs.reaching.Near.{places-length, places-at}
 use borrow.Author.Needs.{needs}
 use Rattle.analysis.proofs.reaching.find_nearest.Statement.{statement}
 use Rattle.analysis.proofs.reaching.find_nearest.Tie as tie
-use Rattle.analysis.proofs.reaching.find_nearest.Reads as reads
-use Rattle.analysis.proofs.reaching.find_nearest.Lts as lts
-use Rattle.analysis.proofs.reaching.link.Reads as link-reads
-use Rattle.analysis.proofs.reaching.nearest.Reads as nearest-reads
-use Rattle.analysis.proofs.reaching.no_rows.Reads as no-rows-reads
-use Rattle.analysis.proofs.reaching.owners.Reads as owners-reads
-use Rattle.analysis.proofs.reaching.reaching.Reads as reaching-reads
-use Rattle.book.proofs.tables.no_flags.Reads as no-flags-reads
-use Rattle.book.proofs.tables.no_links.Reads as no-links-reads
 
 no-rows-requires : tie.Need-no-rows-requires
 no-rows-requires c κs = search needs

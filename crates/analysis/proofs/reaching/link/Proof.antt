@@ -8,9 +8,6 @@ use Rattle.analysis.proofs.reaching.Near.{name-small}
 use Rattle.analysis.proofs.reaching.Links.{LinksLeft, links-start, links-end, links-skip, links-on}
 use Rattle.analysis.proofs.reaching.link.Statement.{statement}
 use Rattle.analysis.proofs.reaching.link.Tie as tie
-use Rattle.analysis.proofs.reaching.link.Reads as reads
-use Rattle.analysis.proofs.reaching.link.Lts as lts
-use Rattle.book.proofs.read.Node.at.Reads as at-reads
 
 abbrev Inv-loop : tie.InvT-loop
 Inv-loop rows nodes head₀ next₀ j₀ head next j = LinksLeft rows nodes next₀ head next j

@@ -3,9 +3,6 @@ use native.Mathlib.Omega.{arith}
 use Rattle.analysis.proofs.reaching.Near.{name-small, other-kind, not-set, is-set}
 use Rattle.analysis.proofs.reaching.nearer.Statement.{statement}
 use Rattle.analysis.proofs.reaching.nearer.Tie as tie
-use Rattle.analysis.proofs.reaching.nearer.Reads as reads
-use Rattle.analysis.proofs.reaching.nearer.Lts as lts
-use Rattle.book.proofs.read.Node.at.Reads as at-reads
 
 at-requires : tie.Need-at-requires
 at-requires c κs = record { held = omega (arith, c .before .before .pre .0 .known .within .held, c .before .before .pre .2); few = c .before .before .pre .0 .known .within .few }

@@ -3,9 +3,6 @@ use native.Mathlib.Omega.{arith}
 use Rattle.analysis.proofs.reaching.Near.{NearLeft, near-start, near-here, near-on, near-end, near-rest}
 use Rattle.analysis.proofs.reaching.nearest.Statement.{statement}
 use Rattle.analysis.proofs.reaching.nearest.Tie as tie
-use Rattle.analysis.proofs.reaching.nearest.Reads as reads
-use Rattle.analysis.proofs.reaching.nearest.Lts as lts
-use Rattle.analysis.proofs.reaching.nearer.Reads as nearer-reads
 
 abbrev Inv-loop : tie.InvT-loop
 Inv-loop rows nodes flags near₀ last₀ i₀ near last i = NearLeft rows flags nodes near₀ near last i

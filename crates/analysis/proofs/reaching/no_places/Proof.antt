@@ -3,8 +3,6 @@ use mathlib.Core.Path.{refl}
 use Rattle.analysis.specs.Reaching.{noPlaces}
 use Rattle.analysis.proofs.reaching.no_places.Statement.{statement}
 use Rattle.analysis.proofs.reaching.no_places.Tie as tie
-use Rattle.analysis.proofs.reaching.no_places.Reads as reads
-use Rattle.analysis.proofs.reaching.no_places.Lts as lts
 
 returns : tie.Need-returns
 unfolding noPlaces

@@ -3,8 +3,6 @@ use mathlib.Core.Path.{refl}
 use Rattle.analysis.specs.Reaching.{noRows}
 use Rattle.analysis.proofs.reaching.no_rows.Statement.{statement}
 use Rattle.analysis.proofs.reaching.no_rows.Tie as tie
-use Rattle.analysis.proofs.reaching.no_rows.Reads as reads
-use Rattle.analysis.proofs.reaching.no_rows.Lts as lts
 
 returns : tie.Need-returns
 unfolding noRows

@@ -6,10 +6,6 @@ use lib.ListN.{length}
 use Rattle.analysis.proofs.reaching.Ownership.{OwnersLeft, BodyLeft, owners-start, owners-end, root-inside, name-inside, until-inside, body-start, body-on, body-end, rows-length}
 use Rattle.analysis.proofs.reaching.owners.Statement.{statement}
 use Rattle.analysis.proofs.reaching.owners.Tie as tie
-use Rattle.analysis.proofs.reaching.owners.Reads as reads
-use Rattle.analysis.proofs.reaching.owners.Lts as lts
-use Rattle.book.proofs.read.Entry.at.Reads as read-Entry-at-reads
-use Rattle.book.proofs.read.Node.at.Reads as read-Node-at-reads
 
 abbrev Inv-loop2 : tie.InvT-loop2
 Inv-loop2 entries rows names nodes definitions owner₀ d e root until i₀ owner i = BodyLeft rows entries owner d until i

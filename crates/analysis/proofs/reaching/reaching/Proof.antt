@@ -9,9 +9,6 @@ use Rattle.analysis.proofs.reaching.Ownership.{owner-small, owner-most}
 use Rattle.analysis.proofs.reaching.Worklist.{WorkLeft, NameLeft, flags-length, work-most, work-room, left-start, name-start, name-end, name-skip, name-met, name-new, next-most, work-end}
 use Rattle.analysis.proofs.reaching.reaching.Statement.{statement}
 use Rattle.analysis.proofs.reaching.reaching.Tie as tie
-use Rattle.analysis.proofs.reaching.reaching.Reads as reads
-use Rattle.analysis.proofs.reaching.reaching.Lts as lts
-use Rattle.book.proofs.tables.no_links.Reads as no-links-reads
 
 abbrev Inv-loop2 : tie.InvT-loop2
 Inv-loop2 owner head next wanted flags₀ queue₀ len₀ q m x₀ flags queue len x = (y : Linked owner head next) → NameLeft (y .rows) (y .entries) owner (y .nodes) (y .definitions) wanted flags queue len q m x

@@ -2,9 +2,6 @@ use Rattle.format.specs.Layout.{le16}
 use borrow.Author.Needs.{needs}
 use Rattle.book.proofs.read.half.Statement.{statement}
 use Rattle.book.proofs.read.half.Tie as tie
-use Rattle.book.proofs.read.half.Reads as reads
-use Rattle.book.proofs.read.half.Lts as lts
-use Rattle.book.proofs.read.wide.Reads as wide-reads
 
 -- src/read.rt:22:11
 shared-slice-read-wide : tie.Need-shared-slice-read-wide

@@ -4,8 +4,6 @@ use native.Mathlib.Omega.{arith}
 use Rattle.book.proofs.Named.{Sought, sought-start, sought-here, sought-fits, sought-on, sought-found}
 use Rattle.book.proofs.read.name_at.Statement.{statement}
 use Rattle.book.proofs.read.name_at.Tie as tie
-use Rattle.book.proofs.read.name_at.Reads as reads
-use Rattle.book.proofs.read.name_at.Lts as lts
 
 abbrev Inv-loop : tie.InvT-loop
 Inv-loop names number at₀ left₀ at left = Sought names number at left

@@ -2,9 +2,6 @@ use Rattle.format.specs.Layout.{le32}
 use borrow.Author.Needs.{needs}
 use Rattle.book.proofs.read.word.Statement.{statement}
 use Rattle.book.proofs.read.word.Tie as tie
-use Rattle.book.proofs.read.word.Reads as reads
-use Rattle.book.proofs.read.word.Lts as lts
-use Rattle.book.proofs.read.wide.Reads as wide-reads
 
 -- src/read.rt:30:10
 shared-slice-read-wide : tie.Need-shared-slice-read-wide

@@ -8,8 +8,6 @@ use Rattle.format.specs.Fits.{before}
 use Rattle.book.proofs.Tests.{before-longer, before-differs, before-on, before-ends}
 use Rattle.book.proofs.rules.before.Statement.{statement}
 use Rattle.book.proofs.rules.before.Tie as tie
-use Rattle.book.proofs.rules.before.Reads as reads
-use Rattle.book.proofs.rules.before.Lts as lts
 
 abbrev Inv-loop : tie.InvT-loop
 Inv-loop a b i₀ i = before (drop i a) (drop i b) ≡ before a b

@@ -4,9 +4,6 @@ use Rattle.book.proofs.Entries.{definition-tests, definition-none, defi
 use borrow.Author.Needs.{needs}
 use Rattle.book.proofs.rules.definition.Statement.{statement}
 use Rattle.book.proofs.rules.definition.Tie as tie
-use Rattle.book.proofs.rules.definition.Reads as reads
-use Rattle.book.proofs.rules.definition.Lts as lts
-use Rattle.book.proofs.read.Node.at.Reads as at-reads
 
 -- places that are far back
 abbrev entry-after-else4 : tie.Else4 → tie.Start

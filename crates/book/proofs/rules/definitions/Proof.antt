@@ -7,10 +7,6 @@ use Rattle.book.specs.Steps.{DefinitionAs}
 use Rattle.book.proofs.Entries.{DefinitionsLeft, definitions-start, definitions-stop, definitions-on, definitions-end}
 use Rattle.book.proofs.rules.definitions.Statement.{statement}
 use Rattle.book.proofs.rules.definitions.Tie as tie
-use Rattle.book.proofs.rules.definitions.Reads as reads
-use Rattle.book.proofs.rules.definitions.Lts as lts
-use Rattle.book.proofs.read.Entry.at.Reads as at-reads
-use Rattle.book.proofs.rules.definition.Reads as definition-reads
 
 abbrev Inv-loop : tie.InvT-loop
 Inv-loop entries rows names files count nodes d₀ file₀ next₀ d file next = DefinitionsLeft names files count nodes entries rows d file next

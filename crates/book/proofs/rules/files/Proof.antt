@@ -8,10 +8,6 @@ use Rattle.book.specs.Steps.{FileAs}
 use Rattle.book.proofs.Entries.{FilesLeft, files-start, files-stop, files-on, files-end}
 use Rattle.book.proofs.rules.files.Statement.{statement}
 use Rattle.book.proofs.rules.files.Tie as tie
-use Rattle.book.proofs.rules.files.Reads as reads
-use Rattle.book.proofs.rules.files.Lts as lts
-use Rattle.book.proofs.read.Entry.at.Reads as at-reads
-use Rattle.book.proofs.rules.file.Reads as file-reads
 
 abbrev Inv-loop : tie.InvT-loop
 Inv-loop entries rows names count nodes from f₀ next₀ f next = FilesLeft names count nodes from entries rows f next

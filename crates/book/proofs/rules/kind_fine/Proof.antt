@@ -7,9 +7,6 @@ use Rattle.book.proofs.Tests.{value-zero}
 use borrow.Author.Needs.{needs}
 use Rattle.book.proofs.rules.kind_fine.Statement.{statement}
 use Rattle.book.proofs.rules.kind_fine.Tie as tie
-use Rattle.book.proofs.rules.kind_fine.Reads as reads
-use Rattle.book.proofs.rules.kind_fine.Lts as lts
-use Rattle.book.proofs.rules.modes_fine.Reads as modes-fine-reads
 
 returns : tie.Need-returns
 unfolding goodKind

@@ -4,9 +4,6 @@ use Rattle.format.specs.Rules.{goodLabel}
 use borrow.Author.Needs.{needs}
 use Rattle.book.proofs.rules.label_fine.Statement.{statement}
 use Rattle.book.proofs.rules.label_fine.Tie as tie
-use Rattle.book.proofs.rules.label_fine.Reads as reads
-use Rattle.book.proofs.rules.label_fine.Lts as lts
-use Rattle.book.proofs.rules.unlabelled.Reads as unlabelled-reads
 
 enum-told : tie.Need-enum-told
 enum-told c = search needs

@@ -5,8 +5,6 @@ use Rattle.format.specs.Rules.{goodModes}
 use Rattle.book.proofs.Tests.{modes-none, modes-stop, modes-on}
 use Rattle.book.proofs.rules.modes_fine.Statement.{statement}
 use Rattle.book.proofs.rules.modes_fine.Tie as tie
-use Rattle.book.proofs.rules.modes_fine.Reads as reads
-use Rattle.book.proofs.rules.modes_fine.Lts as lts
 
 abbrev Inv-loop : tie.InvT-loop
 Inv-loop modes m₀ left₀ m left = goodModes left m ≡ goodModes 8 modes

@@ -7,9 +7,6 @@ use lib.ListN.{length}
 use Rattle.book.proofs.Names.{NamesLeft, names-start, names-short, names-fall, names-on, names-end}
 use Rattle.book.proofs.rules.names_fine.Statement.{statement}
 use Rattle.book.proofs.rules.names_fine.Tie as tie
-use Rattle.book.proofs.rules.names_fine.Reads as reads
-use Rattle.book.proofs.rules.names_fine.Lts as lts
-use Rattle.book.proofs.rules.rises.Reads as rises-reads
 
 abbrev Inv-loop : tie.InvT-loop
 Inv-loop bytes count at₀ seen₀ last₀ last-end₀ at seen last last-end = NamesLeft count bytes at seen last last-end

@@ -5,11 +5,6 @@ use Rattle.format.specs.Rules.{goodRow}
 use borrow.Author.Needs.{needs}
 use Rattle.book.proofs.rules.node_fine.Statement.{statement}
 use Rattle.book.proofs.rules.node_fine.Tie as tie
-use Rattle.book.proofs.rules.node_fine.Reads as reads
-use Rattle.book.proofs.rules.node_fine.Lts as lts
-use Rattle.book.proofs.rules.kind_fine.Reads as kind-fine-reads
-use Rattle.book.proofs.rules.label_fine.Reads as label-fine-reads
-use Rattle.book.proofs.rules.place_fine.Reads as place-fine-reads
 
 kind-fine-requires : tie.Need-kind-fine-requires
 kind-fine-requires c κs = search needs

@@ -2,8 +2,6 @@ use Rattle.format.specs.Rules.{goodPlace}
 use borrow.Author.Needs.{needs}
 use Rattle.book.proofs.rules.place_fine.Statement.{statement}
 use Rattle.book.proofs.rules.place_fine.Tie as tie
-use Rattle.book.proofs.rules.place_fine.Reads as reads
-use Rattle.book.proofs.rules.place_fine.Lts as lts
 
 -- src/rules.rt:76:24
 enum-told : tie.Need-enum-told

@@ -6,9 +6,6 @@ use Rattle.book.proofs.Tests.{rises-after}
 use borrow.Author.Needs.{needs}
 use Rattle.book.proofs.rules.rises.Statement.{statement}
 use Rattle.book.proofs.rules.rises.Tie as tie
-use Rattle.book.proofs.rules.rises.Reads as reads
-use Rattle.book.proofs.rules.rises.Lts as lts
-use Rattle.book.proofs.rules.before.Reads as before-reads
 
 returns : tie.Need-returns
 unfolding risesTo

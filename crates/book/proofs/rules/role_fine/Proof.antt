@@ -3,8 +3,6 @@ use borrow.Author.Tests.{ne-eqb}
 use Rattle.format.specs.Rules.{goodRole}
 use Rattle.book.proofs.rules.role_fine.Statement.{statement}
 use Rattle.book.proofs.rules.role_fine.Tie as tie
-use Rattle.book.proofs.rules.role_fine.Reads as reads
-use Rattle.book.proofs.rules.role_fine.Lts as lts
 
 returns : tie.Need-returns
 unfolding goodRole

@@ -2,8 +2,6 @@ use borrow.Author.Tests.{ne-eqb}
 use Rattle.format.specs.Rules.{goodLabel}
 use Rattle.book.proofs.rules.unlabelled.Statement.{statement}
 use Rattle.book.proofs.rules.unlabelled.Tie as tie
-use Rattle.book.proofs.rules.unlabelled.Reads as reads
-use Rattle.book.proofs.rules.unlabelled.Lts as lts
 
 -- src/rules.rt:88:9
 returns : tie.Need-returns

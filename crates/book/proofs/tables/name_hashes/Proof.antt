@@ -7,10 +7,6 @@ use Rattle.book.proofs.Named.{sought-here, sought-fits}
 use Rattle.book.proofs.Blank.{HashesLeft, hashes-start, hashes-end, name-sought, hashes-on}
 use Rattle.book.proofs.tables.name_hashes.Statement.{statement}
 use Rattle.book.proofs.tables.name_hashes.Tie as tie
-use Rattle.book.proofs.tables.name_hashes.Reads as reads
-use Rattle.book.proofs.tables.name_hashes.Lts as lts
-use Rattle.book.proofs.tables.zeros.Reads as zeros-reads
-use Rattle.labels.proofs.idl_hash.Reads as idl-hash-reads
 
 abbrev Inv-loop : tie.InvT-loop
 Inv-loop names count hashes₀ at₀ n₀ hashes at n = HashesLeft names count hashes at n

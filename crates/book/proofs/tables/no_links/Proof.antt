@@ -3,8 +3,6 @@ use mathlib.Core.Path.{refl}
 use Rattle.book.specs.Tables.{zeroTable}
 use Rattle.book.proofs.tables.no_links.Statement.{statement}
 use Rattle.book.proofs.tables.no_links.Tie as tie
-use Rattle.book.proofs.tables.no_links.Reads as reads
-use Rattle.book.proofs.tables.no_links.Lts as lts
 
 returns : tie.Need-returns
 unfolding zeroTable

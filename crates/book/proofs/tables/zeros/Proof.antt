@@ -3,8 +3,6 @@ use mathlib.Core.Path.{refl}
 use Rattle.book.specs.Tables.{zeroTable}
 use Rattle.book.proofs.tables.zeros.Statement.{statement}
 use Rattle.book.proofs.tables.zeros.Tie as tie
-use Rattle.book.proofs.tables.zeros.Reads as reads
-use Rattle.book.proofs.tables.zeros.Lts as lts
 
 returns : tie.Need-returns
 unfolding zeroTable

@@ -3,8 +3,6 @@ use borrow.Author.Tests.{ne-eqb}
 use Rattle.environment.specs.Merging.{eitherRoot}
 use Rattle.environment.proofs.merge.either_root.Statement.{statement}
 use Rattle.environment.proofs.merge.either_root.Tie as tie
-use Rattle.environment.proofs.merge.either_root.Reads as reads
-use Rattle.environment.proofs.merge.either_root.Lts as lts
 
 returns : tie.Need-returns
 unfolding eitherRoot

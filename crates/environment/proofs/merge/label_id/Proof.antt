@@ -4,8 +4,6 @@ use Rattle.environment.proofs.merge.Labels.{id-named, id-number}
 use borrow.Author.Needs.{needs}
 use Rattle.environment.proofs.merge.label_id.Statement.{statement}
 use Rattle.environment.proofs.merge.label_id.Tie as tie
-use Rattle.environment.proofs.merge.label_id.Reads as reads
-use Rattle.environment.proofs.merge.label_id.Lts as lts
 
 mul-result : tie.Need-mul-result
 mul-result c = search needs

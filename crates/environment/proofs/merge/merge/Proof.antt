@@ -5,9 +5,6 @@ use borrow.Author.Tests.{not-true, not-false}
 use Rattle.environment.proofs.merge.Tables.{MergeLeft, merge-start, merge-end, roots-at, merge-differs, merge-on}
 use Rattle.environment.proofs.merge.merge.Statement.{statement}
 use Rattle.environment.proofs.merge.merge.Tie as tie
-use Rattle.environment.proofs.merge.merge.Reads as reads
-use Rattle.environment.proofs.merge.merge.Lts as lts
-use Rattle.environment.proofs.merge.same_roots.Reads as same-roots-reads
 
 abbrev Inv-loop : tie.InvT-loop
 Inv-loop rows hashes init main names n₀ n = MergeLeft rows hashes init main names n

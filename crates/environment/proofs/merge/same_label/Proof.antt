@@ -5,9 +5,6 @@ use Rattle.format.specs.Labels.{sameLabel}
 use borrow.Author.Needs.{needs}
 use Rattle.environment.proofs.merge.same_label.Statement.{statement}
 use Rattle.environment.proofs.merge.same_label.Tie as tie
-use Rattle.environment.proofs.merge.same_label.Reads as reads
-use Rattle.environment.proofs.merge.same_label.Lts as lts
-use Rattle.environment.proofs.merge.label_id.Reads as label-id-reads
 
 enum-told : tie.Need-enum-told
 enum-told c = search needs

@@ -2,9 +2,6 @@
 use Rattle.environment.proofs.merge.Labels.{row-label, node-kind, node-value, node-same}
 use Rattle.environment.proofs.merge.same_node.Statement.{statement}
 use Rattle.environment.proofs.merge.same_node.Tie as tie
-use Rattle.environment.proofs.merge.same_node.Reads as reads
-use Rattle.environment.proofs.merge.same_node.Lts as lts
-use Rattle.environment.proofs.merge.same_label.Reads as same-label-reads
 
 returns : tie.Need-returns
 returns c = λ names a. node-kind (c .before .before .before .before .pre .1) (c .before .before .before .before .pre .2) names _ (c .if1 .taken)

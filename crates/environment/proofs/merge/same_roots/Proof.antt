@@ -3,10 +3,6 @@ use native.Mathlib.Omega.{arith}
 use Rattle.environment.proofs.merge.Tables.{first-none, second-none, first-root, second-root, roots-compared, roots-same}
 use Rattle.environment.proofs.merge.same_roots.Statement.{statement}
 use Rattle.environment.proofs.merge.same_roots.Tie as tie
-use Rattle.environment.proofs.merge.same_roots.Reads as reads
-use Rattle.environment.proofs.merge.same_roots.Lts as lts
-use Rattle.book.proofs.read.Node.at.Reads as at-reads
-use Rattle.environment.proofs.merge.same_trees.Reads as same-trees-reads
 
 returns : tie.Need-returns
 returns c = λ names a. first-none names _ _ _ (c .if1 .taken)

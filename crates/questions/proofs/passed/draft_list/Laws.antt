@@ -127,9 +127,6 @@ module _ {bs : List ℕ} {c : Contents} (a : Admitted bs c) where
           table : Roots roots (count (trees b))
           table = d .table (sym (d .twice-is) ∙ h)
 
-          pub draft-table : length roots ≡ 1024
-          draft-table = table .long
-
           tabled : Tabled rows roots k (draftDefinitions b)
           tabled =
               rw draft-definitions-are

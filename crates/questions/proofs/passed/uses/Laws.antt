@@ -40,7 +40,6 @@ use Rattle.typing.specs.Passing.{PassedAs}
 use Rattle.typing.proofs.prog.Book.{fits, tabled, names-are, nodes-are}
 use Rattle.book.specs.declared.kinds.Contents.{Contents}
 use Rattle.book.specs.Reading.{Admitted}
-use Rattle.judgement.specs.Check.{check}
 use Rattle.questions.proofs.Asking.{lacks-actor}
 use Rattle.questions.proofs.passed.uses.Sites.{followed, usedBy, used-says, used-hits, kept-same}
 use Rattle.analysis.proofs.reaching.Ownership.{admitted-defining}

@@ -5,12 +5,6 @@ use Rattle.questions.proofs.Asking.{pass-refused, pass-goes}
 use borrow.Author.Needs.{needs}
 use Rattle.questions.proofs.stages.pass.Statement.{statement}
 use Rattle.questions.proofs.stages.pass.Tie as tie
-use Rattle.questions.proofs.stages.pass.Reads as reads
-use Rattle.questions.proofs.stages.pass.Lts as lts
-use Rattle.admission.proofs.admit.Reads as admit-reads
-use Rattle.questions.proofs.stages.no_contents.Reads as no-contents-reads
-use Rattle.typing.proofs.prog.check_prog.Reads as check-prog-reads
-use Rattle.typing.proofs.prog.nothing.Reads as nothing-reads
 
 admit-requires : tie.Need-admit-requires
 admit-requires c κs = search needs

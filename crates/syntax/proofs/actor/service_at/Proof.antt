@@ -5,9 +5,6 @@ use Rattle.format.specs.Encode.{Row}
 use borrow.Author.Needs.{needs}
 use Rattle.syntax.proofs.actor.service_at.Statement.{statement}
 use Rattle.syntax.proofs.actor.service_at.Tie as tie
-use Rattle.syntax.proofs.actor.service_at.Reads as reads
-use Rattle.syntax.proofs.actor.service_at.Lts as lts
-use Rattle.book.proofs.read.Node.at.Reads as at-reads
 
 at-requires : tie.Need-at-requires
 at-requires c κs = search needs

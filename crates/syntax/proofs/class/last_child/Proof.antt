@@ -7,9 +7,6 @@ use Rattle.format.proofs.Rows.{opens, node-within}
 use Rattle.syntax.proofs.class.Laws.{LastLeft, last-start, next-within, next-later, next-ends, last-on, last-end}
 use Rattle.syntax.proofs.class.last_child.Statement.{statement}
 use Rattle.syntax.proofs.class.last_child.Tie as tie
-use Rattle.syntax.proofs.class.last_child.Reads as reads
-use Rattle.syntax.proofs.class.last_child.Lts as lts
-use Rattle.book.proofs.read.Node.at.Reads as at-reads
 
 abbrev Inv-loop : tie.InvT-loop
 Inv-loop rows from until last₀ next₀ last next = LastLeft rows from until last next

@@ -6,9 +6,6 @@ use Rattle.syntax.specs.Files.{initAt}
 use borrow.Author.Needs.{needs}
 use Rattle.syntax.proofs.files.init_number.Statement.{statement}
 use Rattle.syntax.proofs.files.init_number.Tie as tie
-use Rattle.syntax.proofs.files.init_number.Reads as reads
-use Rattle.syntax.proofs.files.init_number.Lts as lts
-use Rattle.book.proofs.read.Entry.at.Reads as at-reads
 
 sub-last : tie.Need-sub-last
 sub-last c = search needs

@@ -2,8 +2,6 @@
 use borrow.Author.Tests.{ne-eqb}
 use Rattle.syntax.proofs.files.lacks_actor.Statement.{statement}
 use Rattle.syntax.proofs.files.lacks_actor.Tie as tie
-use Rattle.syntax.proofs.files.lacks_actor.Reads as reads
-use Rattle.syntax.proofs.files.lacks_actor.Lts as lts
 
 returns : tie.Need-returns
 returns c = rw (ne-eqb _ 2 (c .if1 .taken))

@@ -8,9 +8,6 @@ use Rattle.format.specs.Encode.{Entry}
 use Rattle.format.specs.Layout.{entryAt}
 use Rattle.syntax.proofs.files.main_definitions.Statement.{statement}
 use Rattle.syntax.proofs.files.main_definitions.Tie as tie
-use Rattle.syntax.proofs.files.main_definitions.Reads as reads
-use Rattle.syntax.proofs.files.main_definitions.Lts as lts
-use Rattle.book.proofs.read.Entry.at.Reads as at-reads
 
 abbrev Inv-loop : tie.InvT-loop
 Inv-loop entries count init d₀ d = (d ≤ count) × ((k : ℕ) → k < d → entryAt entries k .owner ≡ init → ⊥)

@@ -5,8 +5,6 @@ use borrow.Author.Needs.{needs}
 use Rattle.syntax.proofs.hashes.Buckets.{Sought, sought-start, sought-end, place-inside, link-inside, sought-found, sought-less, sought-on}
 use Rattle.syntax.proofs.hashes.has.Statement.{statement}
 use Rattle.syntax.proofs.hashes.has.Tie as tie
-use Rattle.syntax.proofs.hashes.has.Reads as reads
-use Rattle.syntax.proofs.hashes.has.Lts as lts
 
 abbrev Inv-loop : tie.InvT-loop
 Inv-loop met link last hash x₀ x = Sought met hash x

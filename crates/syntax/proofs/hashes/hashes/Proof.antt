@@ -11,12 +11,6 @@ use Rattle.syntax.proofs.hashes.Buckets.{bucket-small}
 use Rattle.syntax.proofs.hashes.Methods.{service-within, service-ends, HashesLeft, hashes-start, hashes-few, ServiceLeft, restMethods, services-end, service-start, service-end, name-small, method-same, method-room, method-on}
 use Rattle.syntax.proofs.hashes.hashes.Statement.{statement}
 use Rattle.syntax.proofs.hashes.hashes.Tie as tie
-use Rattle.syntax.proofs.hashes.hashes.Reads as reads
-use Rattle.syntax.proofs.hashes.hashes.Lts as lts
-use Rattle.book.proofs.read.Node.at.Reads as at-reads
-use Rattle.book.proofs.tables.zeros.Reads as zeros-reads
-use Rattle.syntax.proofs.hashes.has.Reads as has-reads
-use Rattle.book.proofs.tables.no_links.Reads as no-links-reads
 
 abbrev Inv-loop2 : tie.InvT-loop2
 Inv-loop2 rows table count services met₀ link₀ last₀ k₀ s n until i₀ met link last k i = ServiceLeft rows table (methodsIn rows (take count services)) (restMethods rows services count (s + 1)) met last link k i until

@@ -3,8 +3,6 @@ use mathlib.Core.Path.{refl}
 use Rattle.syntax.specs.Interfaces.{noServices}
 use Rattle.syntax.proofs.interface.no_services.Statement.{statement}
 use Rattle.syntax.proofs.interface.no_services.Tie as tie
-use Rattle.syntax.proofs.interface.no_services.Reads as reads
-use Rattle.syntax.proofs.interface.no_services.Lts as lts
 
 returns : tie.Need-returns
 unfolding noServices

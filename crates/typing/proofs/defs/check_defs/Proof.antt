@@ -7,11 +7,6 @@ use borrow.Author.Tests.{not-true, not-false}
 use Rattle.typing.proofs.defs.Entries.{left-start, entry-within, body-trees, body-some, BodiesLeft, bodies-end, bodies-stop, bodies-on}
 use Rattle.typing.proofs.defs.check_defs.Statement.{statement}
 use Rattle.typing.proofs.defs.check_defs.Tie as tie
-use Rattle.typing.proofs.defs.check_defs.Reads as reads
-use Rattle.typing.proofs.defs.check_defs.Lts as lts
-use Rattle.book.proofs.read.Entry.at.Reads as at-reads
-use Rattle.refusals.proofs.Verdict.passed.Reads as passed-reads
-use Rattle.typing.proofs.check_type.Reads as check-type-reads
 
 abbrev Inv-loop : tie.InvT-loop
 Inv-loop entries rows roots ends from to d₀ d = BodiesLeft entries rows roots ends from to d

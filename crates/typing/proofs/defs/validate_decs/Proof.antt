@@ -10,11 +10,6 @@ use Rattle.typing.proofs.defs.Entries.{left-start, entry-within, body-t
 use Rattle.typing.proofs.defs.Fits.{BodiesFitLeft, bodies-fit-end, bodies-fit-stop, bodies-fit-on}
 use Rattle.typing.proofs.defs.validate_decs.Statement.{statement}
 use Rattle.typing.proofs.defs.validate_decs.Tie as tie
-use Rattle.typing.proofs.defs.validate_decs.Reads as reads
-use Rattle.typing.proofs.defs.validate_decs.Lts as lts
-use Rattle.book.proofs.read.Entry.at.Reads as read-Entry-at-reads
-use Rattle.book.proofs.read.Node.at.Reads as read-Node-at-reads
-use Rattle.typing.proofs.defs.validate_type.Reads as validate-type-reads
 
 abbrev Inv-loop : tie.InvT-loop
 Inv-loop entries rows ends from to d₀ d = BodiesFitLeft entries rows ends from to d

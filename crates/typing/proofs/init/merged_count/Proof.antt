@@ -7,9 +7,6 @@ use Rattle.format.specs.Encode.{Entry}
 use Rattle.typing.proofs.init.Laws.{CountLeft, table-read, count-start, count-end, count-more, count-same}
 use Rattle.typing.proofs.init.merged_count.Statement.{statement}
 use Rattle.typing.proofs.init.merged_count.Tie as tie
-use Rattle.typing.proofs.init.merged_count.Reads as reads
-use Rattle.typing.proofs.init.merged_count.Lts as lts
-use Rattle.book.proofs.read.Entry.at.Reads as at-reads
 
 abbrev Inv-loop : tie.InvT-loop
 Inv-loop entries init names nodes count main n₀ d₀ n d = CountLeft init entries count main n d

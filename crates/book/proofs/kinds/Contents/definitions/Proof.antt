@@ -3,8 +3,6 @@ use Rattle.format.specs.Layout.{part}
 use Rattle.book.proofs.Opened.{bounds, definitions-here}
 use Rattle.book.proofs.kinds.Contents.definitions.Statement.{statement}
 use Rattle.book.proofs.kinds.Contents.definitions.Tie as tie
-use Rattle.book.proofs.kinds.Contents.definitions.Reads as reads
-use Rattle.book.proofs.kinds.Contents.definitions.Lts as lts
 
 sub-result : tie.Need-sub-result
 sub-result c = bounds (c .pre) .three

@@ -4,8 +4,6 @@ use Rattle.book.proofs.Opened.{bounds, files-here}
 use borrow.Author.Needs.{needs}
 use Rattle.book.proofs.kinds.Contents.files.Statement.{statement}
 use Rattle.book.proofs.kinds.Contents.files.Tie as tie
-use Rattle.book.proofs.kinds.Contents.files.Reads as reads
-use Rattle.book.proofs.kinds.Contents.files.Lts as lts
 
 sub-result : tie.Need-sub-result
 sub-result c = bounds (c .pre) .four

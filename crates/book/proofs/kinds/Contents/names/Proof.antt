@@ -4,8 +4,6 @@ use Rattle.format.specs.Layout.{part}
 use Rattle.book.proofs.Opened.{bounds, names-here}
 use Rattle.book.proofs.kinds.Contents.names.Statement.{statement}
 use Rattle.book.proofs.kinds.Contents.names.Tie as tie
-use Rattle.book.proofs.kinds.Contents.names.Reads as reads
-use Rattle.book.proofs.kinds.Contents.names.Lts as lts
 
 sub-result : tie.Need-sub-result
 sub-result c = bounds (c .pre) .one

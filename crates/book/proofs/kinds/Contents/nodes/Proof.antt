@@ -4,8 +4,6 @@ use Rattle.format.specs.Layout.{part}
 use Rattle.book.proofs.Opened.{bounds, nodes-here}
 use Rattle.book.proofs.kinds.Contents.nodes.Statement.{statement}
 use Rattle.book.proofs.kinds.Contents.nodes.Tie as tie
-use Rattle.book.proofs.kinds.Contents.nodes.Reads as reads
-use Rattle.book.proofs.kinds.Contents.nodes.Lts as lts
 
 sub-result : tie.Need-sub-result
 sub-result c = bounds (c .pre) .two

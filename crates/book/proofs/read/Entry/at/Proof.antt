@@ -2,9 +2,6 @@ use Rattle.format.specs.Layout.{entryAt}
 use borrow.Author.Needs.{needs}
 use Rattle.book.proofs.read.Entry.at.Statement.{statement}
 use Rattle.book.proofs.read.Entry.at.Tie as tie
-use Rattle.book.proofs.read.Entry.at.Reads as reads
-use Rattle.book.proofs.read.Entry.at.Lts as lts
-use Rattle.book.proofs.read.half.Reads as half-reads
 
 -- src/read.rt:85:18
 mul-at : tie.Need-mul-at

@@ -2,10 +2,6 @@ use Rattle.format.specs.Layout.{rowAt}
 use borrow.Author.Needs.{needs}
 use Rattle.book.proofs.read.Node.at.Statement.{statement}
 use Rattle.book.proofs.read.Node.at.Tie as tie
-use Rattle.book.proofs.read.Node.at.Reads as reads
-use Rattle.book.proofs.read.Node.at.Lts as lts
-use Rattle.book.proofs.read.half.Reads as half-reads
-use Rattle.book.proofs.read.word.Reads as word-reads
 
 -- src/read.rt:54:18
 mul-at : tie.Need-mul-at

@@ -4,11 +4,6 @@ use Rattle.questions.proofs.passed.draft_list.Laws.{files-first, main-r
 use borrow.Author.Needs.{needs}
 use Rattle.questions.proofs.passed.draft_list.draft_list_admitted.Statement.{statement}
 use Rattle.questions.proofs.passed.draft_list.draft_list_admitted.Tie as tie
-use Rattle.questions.proofs.passed.draft_list.draft_list_admitted.Reads as reads
-use Rattle.questions.proofs.passed.draft_list.draft_list_admitted.Lts as lts
-use Rattle.book.proofs.kinds.Contents.files.Reads as files-reads
-use Rattle.book.proofs.read.Entry.at.Reads as at-reads
-use Rattle.questions.proofs.passed.draft_list.draft_list_written.Reads as draft-list-written-reads
 
 files-requires : tie.Need-files-requires
 files-requires c κs = search needs

@@ -7,15 +7,6 @@ use Rattle.questions.proofs.passed.draft_list.Laws.{entered, draft-twic
 use borrow.Author.Needs.{needs}
 use Rattle.questions.proofs.passed.draft_list.draft_list_written.Statement.{statement}
 use Rattle.questions.proofs.passed.draft_list.draft_list_written.Tie as tie
-use Rattle.questions.proofs.passed.draft_list.draft_list_written.Reads as reads
-use Rattle.questions.proofs.passed.draft_list.draft_list_written.Lts as lts
-use Rattle.analysis.proofs.chase.chase_written.Reads as chase-written-reads
-use Rattle.book.proofs.kinds.Contents.definitions.Reads as definitions-reads
-use Rattle.book.proofs.kinds.Contents.nodes.Reads as nodes-reads
-use Rattle.book.proofs.tables.blank.Reads as blank-reads
-use Rattle.environment.proofs.enter.Reads as enter-reads
-use Rattle.questions.proofs.passed.draft_list.own_definitions.Reads as own-definitions-reads
-use Rattle.questions.proofs.passed.hand.hand_walk.Reads as hand-walk-reads
 
 definitions-requires : tie.Need-definitions-requires
 definitions-requires c κs = search needs

@@ -7,9 +7,6 @@ use Rattle.format.specs.Encode.{Entry}
 use Rattle.format.specs.Layout.{entryAt}
 use Rattle.questions.proofs.passed.draft_list.own_definitions.Statement.{statement}
 use Rattle.questions.proofs.passed.draft_list.own_definitions.Tie as tie
-use Rattle.questions.proofs.passed.draft_list.own_definitions.Reads as reads
-use Rattle.questions.proofs.passed.draft_list.own_definitions.Lts as lts
-use Rattle.book.proofs.read.Entry.at.Reads as at-reads
 
 abbrev Inv-loop : tie.InvT-loop
 Inv-loop entries count d₀ d = (d ≤ count) × ((k : ℕ) → k < d → entryAt entries k .owner ≡ 0)

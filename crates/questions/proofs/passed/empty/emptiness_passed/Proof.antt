@@ -23,12 +23,6 @@ use Rattle.questions.proofs.Asking.{handed-as}
 use borrow.Author.Needs.{needs}
 use Rattle.questions.proofs.passed.empty.emptiness_passed.Statement.{statement}
 use Rattle.questions.proofs.passed.empty.emptiness_passed.Tie as tie
-use Rattle.questions.proofs.passed.empty.emptiness_passed.Reads as reads
-use Rattle.questions.proofs.passed.empty.emptiness_passed.Lts as lts
-use Rattle.analysis.proofs.hand.hand_names.Reads as hand-names-reads
-use Rattle.analysis.proofs.hand.names_of.Reads as names-of-reads
-use Rattle.book.proofs.kinds.Contents.nodes.Reads as nodes-reads
-use Rattle.inhabitants.proofs.empty.replace_empty.Reads as replace-empty-reads
 
 -- ---- The empty names of a book that passed, as the code has them
 module _ {bs : List ℕ} {c : Contents} {a : Admitted bs c} {roots ends′ : List ℕ} {p : Passed} (x : PassedAs a roots ends′ p) where

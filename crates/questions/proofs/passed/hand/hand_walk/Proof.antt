@@ -7,9 +7,6 @@ use Rattle.syntax.proofs.Lists.{plain-length}
 use Rattle.questions.proofs.Asking.{handed-refused, handed-as}
 use Rattle.questions.proofs.passed.hand.hand_walk.Statement.{statement}
 use Rattle.questions.proofs.passed.hand.hand_walk.Tie as tie
-use Rattle.questions.proofs.passed.hand.hand_walk.Reads as reads
-use Rattle.questions.proofs.passed.hand.hand_walk.Lts as lts
-use Rattle.refusals.proofs.hand.Reads as hand-reads
 
 returns : tie.Need-returns
 returns c = λ o x. handed-refused _ (x .stops (c .if1 .taken))

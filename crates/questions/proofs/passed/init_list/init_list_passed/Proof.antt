@@ -29,13 +29,6 @@ use Rattle.questions.proofs.Asking.{handed-refused}
 use borrow.Author.Needs.{needs}
 use Rattle.questions.proofs.passed.init_list.init_list_passed.Statement.{statement}
 use Rattle.questions.proofs.passed.init_list.init_list_passed.Tie as tie
-use Rattle.questions.proofs.passed.init_list.init_list_passed.Reads as reads
-use Rattle.questions.proofs.passed.init_list.init_list_passed.Lts as lts
-use Rattle.analysis.proofs.chase.chase_types.Reads as chase-types-reads
-use Rattle.book.proofs.kinds.Contents.nodes.Reads as nodes-reads
-use Rattle.book.proofs.tables.blank.Reads as blank-reads
-use Rattle.questions.proofs.passed.hand.hand_walk.Reads as hand-walk-reads
-use Rattle.typing.proofs.init.check_init_args.Reads as check-init-args-reads
 
 -- ---- The init list of a book that passed, as the code has it
 module _ {bs : List ℕ} {c : Contents} {a : Admitted bs c} {roots ends′ : List ℕ} {p : Passed} (x : PassedAs a roots ends′ p)

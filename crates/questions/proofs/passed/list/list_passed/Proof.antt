@@ -13,7 +13,6 @@ use Rattle.book.specs.declared.kinds.Contents.{Contents}
 use Rattle.book.specs.Reading.{Admitted}
 use Rattle.judgement.specs.Environment.{mainDefinitions}
 use Rattle.judgement.specs.Actor.{classArguments}
-use Rattle.judgement.specs.Check.{check}
 use Rattle.typing.specs.declared.prog.Passed.{Passed}
 use Rattle.syntax.specs.Interfaces.{interfaceTree}
 use Rattle.typing.specs.Passing.{PassedAs}
@@ -31,12 +30,6 @@ use borrow.Author.Tests.{not-true, not-false}
 use borrow.Author.Needs.{needs}
 use Rattle.questions.proofs.passed.list.list_passed.Statement.{statement}
 use Rattle.questions.proofs.passed.list.list_passed.Tie as tie
-use Rattle.questions.proofs.passed.list.list_passed.Reads as reads
-use Rattle.questions.proofs.passed.list.list_passed.Lts as lts
-use Rattle.analysis.proofs.chase.chase_actor.Reads as chase-actor-reads
-use Rattle.book.proofs.kinds.Contents.nodes.Reads as nodes-reads
-use Rattle.questions.proofs.passed.hand.hand_walk.Reads as hand-walk-reads
-use Rattle.syntax.proofs.interface.has_actor.Reads as has-actor-reads
 
 -- ---- The list of a book that passed, as the code has it
 module _ {bs : List ℕ} {c : Contents} {a : Admitted bs c} {roots ends′ : List ℕ} {p : Passed} (x : PassedAs a roots ends′ p) where

@@ -29,12 +29,6 @@ use Rattle.questions.proofs.Asking.{handed-refused, handed-as}
 use borrow.Author.Needs.{needs}
 use Rattle.questions.proofs.passed.marks.marks_passed.Statement.{statement}
 use Rattle.questions.proofs.passed.marks.marks_passed.Tie as tie
-use Rattle.questions.proofs.passed.marks.marks_passed.Reads as reads
-use Rattle.questions.proofs.passed.marks.marks_passed.Lts as lts
-use Rattle.analysis.proofs.hand.hand_names.Reads as hand-names-reads
-use Rattle.analysis.proofs.hand.names_of.Reads as names-of-reads
-use Rattle.analysis.proofs.recursive.infer_rec.Reads as infer-rec-reads
-use Rattle.book.proofs.kinds.Contents.nodes.Reads as nodes-reads
 
 -- ---- The marks of a book that passed, as the code has them
 module _ {bs : List ℕ} {c : Contents} {a : Admitted bs c} {roots ends′ : List ℕ} {p : Passed} (x : PassedAs a roots ends′ p) where

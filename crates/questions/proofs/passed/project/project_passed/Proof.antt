@@ -12,7 +12,6 @@ use Rattle.refusals.specs.Handed.{HandedAs}
 use Rattle.format.specs.Layout.{nodesPart}
 use Rattle.book.specs.declared.kinds.Contents.{Contents}
 use Rattle.book.specs.Reading.{Admitted}
-use Rattle.judgement.specs.Check.{check}
 use Rattle.typing.specs.declared.prog.Passed.{Passed}
 use Rattle.typing.specs.Passing.{PassedAs}
 use Rattle.syntax.specs.Interfaces.{methodsIn}
@@ -25,11 +24,6 @@ use borrow.Author.Tests.{not-true, not-false}
 use borrow.Author.Needs.{needs}
 use Rattle.questions.proofs.passed.project.project_passed.Statement.{statement}
 use Rattle.questions.proofs.passed.project.project_passed.Tie as tie
-use Rattle.questions.proofs.passed.project.project_passed.Reads as reads
-use Rattle.questions.proofs.passed.project.project_passed.Lts as lts
-use Rattle.analysis.proofs.project.project.Reads as project-reads
-use Rattle.book.proofs.kinds.Contents.nodes.Reads as nodes-reads
-use Rattle.syntax.proofs.interface.has_actor.Reads as has-actor-reads
 
 -- ---- The projection of a book that passed, as the code has it
 module _ {bs : List ℕ} {c : Contents} {a : Admitted bs c} {roots ends′ : List ℕ} {p : Passed} (x : PassedAs a roots ends′ p)

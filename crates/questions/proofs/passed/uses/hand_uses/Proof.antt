@@ -3,9 +3,6 @@ use Rattle.questions.proofs.passed.uses.Laws.{hands-short, hands-given}
 use borrow.Author.Needs.{needs}
 use Rattle.questions.proofs.passed.uses.hand_uses.Statement.{statement}
 use Rattle.questions.proofs.passed.uses.hand_uses.Tie as tie
-use Rattle.questions.proofs.passed.uses.hand_uses.Reads as reads
-use Rattle.questions.proofs.passed.uses.hand_uses.Lts as lts
-use Rattle.analysis.proofs.def_use.put_uses.Reads as put-uses-reads
 
 put-uses-requires : tie.Need-put-uses-requires
 put-uses-requires c κs = search needs

@@ -6,14 +6,6 @@ use Rattle.questions.proofs.passed.uses.Laws.{uses-lacks, outside, defi
 use borrow.Author.Needs.{needs}
 use Rattle.questions.proofs.passed.uses.uses_passed.Statement.{statement}
 use Rattle.questions.proofs.passed.uses.uses_passed.Tie as tie
-use Rattle.questions.proofs.passed.uses.uses_passed.Reads as reads
-use Rattle.questions.proofs.passed.uses.uses_passed.Lts as lts
-use Rattle.analysis.proofs.reaching.find_nearest.Reads as find-nearest-reads
-use Rattle.analysis.proofs.reaching.no_places.Reads as no-places-reads
-use Rattle.book.proofs.kinds.Contents.definitions.Reads as definitions-reads
-use Rattle.book.proofs.kinds.Contents.nodes.Reads as nodes-reads
-use Rattle.questions.proofs.passed.uses.hand_uses.Reads as hand-uses-reads
-use Rattle.syntax.proofs.interface.has_actor.Reads as has-actor-reads
 
 has-actor-requires : tie.Need-has-actor-requires
 has-actor-requires c κs = search needs
