@@ -1,39 +1,18 @@
--- What admission answers, and what is known of a book that it admits. Assumes nothing.
---     admission-of                          admission goes by the reading
---     admission-refuses, admission-gives    what its answer says of the bytes
-use mathlib.Core.Path.{_≡_, refl, ap, _∙_}
+-- What the answer of admission says of the bytes, whatever it refuses. Assumes nothing.
+use mathlib.Core.Path.{_≡_, refl, ap}
 use mathlib.Core.List.{List}
 use Prim.Native.Nat.{ℕ}
 use native.Mathlib.Omega.{arith}
 use Rattle.refusals.specs.declared.Refusal.{Refusal}
-use Rattle.refusals.specs.declared.Refusal.the-variants.{Broken as BrokenBook}
 use Rattle.refusals.specs.Outcome.{Outcome, refused, given}
 use Rattle.format.specs.Book.{Book}
-use Rattle.format.specs.Layout.{Layout, broken, whole, layout}
-use Rattle.format.specs.Admission.{admittedBy, admitted}
+use Rattle.format.specs.Admission.{admitted}
 use Rattle.format.proofs.Admission.{admitted-laid}
 use Rattle.book.specs.declared.kinds.Contents.{Contents}
-use Rattle.book.specs.declared.Reading.{Reading}
-use Rattle.book.specs.declared.Reading.the-variants.{Broken, Whole}
-use Rattle.book.specs.Reading.{asReading, reading}
 use Rattle.book.specs.Reading as read
-use Rattle.admission.specs.declared.Admission.{Admission}
 use Rattle.admission.specs.declared.Admission.the-variants.{Refused, Admitted}
 use Rattle.admission.specs.Admitting.{admissionOf}
 
-abbrev answer : Reading → Admission
-answer Broken = Refused BrokenBook
-answer (Whole c) = Admitted c
-
-pub admission-of : (bs : List ℕ) (r : Reading) → r ≡ reading bs → answer r ≡ admissionOf (admitted bs)
-unfolding reading admitted admittedBy admissionOf
-admission-of bs r e = ap answer e ∙ go (layout bs)
-  where
-    go : (l : Layout) → answer (asReading l) ≡ admissionOf (admittedBy l)
-    go broken = refl
-    go (whole b) = refl
-
--- ---- By the answer
 module _ (bs : List ℕ) where
   pub admission-refuses : {r : Refusal} → Refused r ≡ admissionOf (admitted bs) → admitted bs ≡ refused r
   unfolding admissionOf

@@ -145,8 +145,8 @@ pub fn chase_types(
     chase(rows, roots, from, until, fresh())
 }
 
-// An actor as written, where there is one.
-pub fn chase_written(rows: &[u8], roots: &[u16], root: u16, definitions: usize) -> Walk
+// An actor as written, where there is one. A second caller would keep the compiler from inlining it, and the list pay a copy of the walk.
+fn chase_written(rows: &[u8], roots: &[u16], root: u16, definitions: usize) -> Walk
     requires { ⌜ RootIn (now rows) (now roots) root × Counted (now rows) (now roots) definitions ⌝ }
     ensures { λ r. ⌜ WalkedAs (now (rows .entry)) (now (roots .entry)) definitions (actorAt (now (rows .entry)) root) r ⌝ }
 {

@@ -96,11 +96,11 @@ pub(crate) fn reply(question: Question, book: &[u8], names: &[u16], out: &mut [u
 }
 
 // A number of an answer, at this place of the list, as what it is: a use is three numbers with points between.
-pub(crate) fn print_number(question: Question, place: usize, number: u16, book: &[u8], names: u16) {
+pub(crate) fn print_number(question: Question, place: usize, number: u16, book: &[u8]) {
     match question {
         Question::Uses => crate::asking::print_of_use(place % 3 == 0, number),
         Question::Projection => crate::lines::counts(b" ", number as usize),
-        _ => crate::lines::name(crate::lines::name_in(book, names, number)),
+        _ => crate::lines::name(book::name(book, number)),
     }
 }
 
@@ -135,9 +135,9 @@ pub(crate) fn print_counted(place: usize) {
 pub(crate) fn replay(source: &[u8], book: &[u8], tally: &mut [u32]) {
     let names = ask_layout(source, book, tally);
     ask_name(source, book, names, tally);
-    ask_checks(source, book, names, tally);
-    let listed = ask_list(source, book, names, tally);
-    ask_others(source, book, names, tally);
+    ask_checks(source, book, tally);
+    let listed = ask_list(source, book, tally);
+    ask_others(source, book, tally);
     ask_of_names(source, book, names, listed, tally);
 }
 
@@ -145,7 +145,7 @@ pub(crate) fn replay(source: &[u8], book: &[u8], tally: &mut [u32]) {
 fn ask_layout(source: &[u8], book: &[u8], tally: &mut [u32]) -> u16 {
     crate::lines::asks(source, b"layout", b"");
     let Reading::Whole(c) = book::layout(book) else {
-        crate::asking::refuse(Refusal::Broken, book, 0, tally);
+        crate::asking::refuse(Refusal::Broken, book, tally);
         return 0;
     };
     crate::lines::whole(c);
@@ -172,21 +172,20 @@ fn ask_name(source: &[u8], book: &[u8], names: u16, tally: &mut [u32]) {
     crate::tally::count(Question::NAME, tally);
 }
 
-fn ask_checks(source: &[u8], book: &[u8], names: u16, tally: &mut [u32]) {
+fn ask_checks(source: &[u8], book: &[u8], tally: &mut [u32]) {
     crate::lines::asks(source, b"check", b"");
-    crate::asking::judge(questions::check(book), Question::CHECK, book, names, tally);
+    crate::asking::judge(questions::check(book), Question::CHECK, book, tally);
     crate::lines::asks(source, b"init-check", b"");
     crate::asking::judge(
         questions::init_check(book),
         Question::INIT_CHECK,
         book,
-        names,
         tally,
     );
 }
 
 // The definition list, and the marks over it, over no names where it is refused. Answers how many are listed.
-fn ask_list(source: &[u8], book: &[u8], names: u16, tally: &mut [u32]) -> usize {
+fn ask_list(source: &[u8], book: &[u8], tally: &mut [u32]) -> usize {
     let mut out = crate::asking::room();
     let none = [0u16; 0];
     let listed = crate::asking::ask_both(
@@ -195,32 +194,22 @@ fn ask_list(source: &[u8], book: &[u8], names: u16, tally: &mut [u32]) -> usize 
         Question::MainList,
         false,
         book,
-        names,
         &none,
         &mut out,
         tally,
     );
     let end = crate::asking::within(listed, &out);
-    ask_marks(source, book, names, &out[..end], tally);
+    ask_marks(source, book, &out[..end], tally);
     listed
 }
 
 // The marks over a list, over it from its end, and over it and then a number that is no name's.
-fn ask_marks(source: &[u8], book: &[u8], names: u16, list: &[u16], tally: &mut [u32]) {
-    crate::asking::ask_again(
-        source,
-        b"marks",
-        Question::Marks,
-        false,
-        book,
-        names,
-        list,
-        tally,
-    );
-    ask_marks_turned(source, book, names, list, tally);
+fn ask_marks(source: &[u8], book: &[u8], list: &[u16], tally: &mut [u32]) {
+    crate::asking::ask_again(source, b"marks", Question::Marks, false, book, list, tally);
+    ask_marks_turned(source, book, list, tally);
 }
 
-fn ask_marks_turned(source: &[u8], book: &[u8], names: u16, list: &[u16], tally: &mut [u32]) {
+fn ask_marks_turned(source: &[u8], book: &[u8], list: &[u16], tally: &mut [u32]) {
     let mut back = crate::asking::room_for_names();
     let end = crate::asking::within(crate::asking::put_backwards(list, &mut back), &back);
     crate::asking::ask(
@@ -229,7 +218,6 @@ fn ask_marks_turned(source: &[u8], book: &[u8], names: u16, list: &[u16], tally:
         Question::Marks,
         false,
         book,
-        names,
         &back[..end],
         tally,
     );
@@ -245,14 +233,13 @@ fn ask_marks_turned(source: &[u8], book: &[u8], names: u16, list: &[u16], tally:
         Question::Marks,
         false,
         book,
-        names,
         &more[..last],
         tally,
     );
 }
 
 // The other questions that are asked with no names.
-fn ask_others(source: &[u8], book: &[u8], names: u16, tally: &mut [u32]) {
+fn ask_others(source: &[u8], book: &[u8], tally: &mut [u32]) {
     let none = [0u16; 0];
     crate::asking::ask_again(
         source,
@@ -260,7 +247,6 @@ fn ask_others(source: &[u8], book: &[u8], names: u16, tally: &mut [u32]) {
         Question::InitList,
         false,
         book,
-        names,
         &none,
         tally,
     );
@@ -270,7 +256,6 @@ fn ask_others(source: &[u8], book: &[u8], names: u16, tally: &mut [u32]) {
         Question::DraftList,
         false,
         book,
-        names,
         &none,
         tally,
     );
@@ -280,7 +265,6 @@ fn ask_others(source: &[u8], book: &[u8], names: u16, tally: &mut [u32]) {
         Question::Emptiness,
         false,
         book,
-        names,
         &none,
         tally,
     );
@@ -298,13 +282,13 @@ fn ask_of_names(source: &[u8], book: &[u8], names: u16, listed: usize, tally: &m
         &numbers,
     );
     let mut taken = crate::asking::room_for_names();
-    let count = ask_of_each(source, book, names, &numbers[..end], &mut taken, tally);
-    ask_outside(source, book, names, tally);
+    let count = ask_of_each(source, book, &numbers[..end], &mut taken, tally);
+    ask_outside(source, book, tally);
     let last = crate::asking::within(count, &taken);
     ask_together(source, book, names, &taken[..last], tally);
 }
 
-fn ask_outside(source: &[u8], book: &[u8], names: u16, tally: &mut [u32]) {
+fn ask_outside(source: &[u8], book: &[u8], tally: &mut [u32]) {
     let outside = [Asked::OUTSIDE];
     crate::asking::ask(
         source,
@@ -312,7 +296,6 @@ fn ask_outside(source: &[u8], book: &[u8], names: u16, tally: &mut [u32]) {
         Question::Uses,
         false,
         book,
-        names,
         &outside,
         tally,
     );
@@ -322,7 +305,6 @@ fn ask_outside(source: &[u8], book: &[u8], names: u16, tally: &mut [u32]) {
         Question::Projection,
         false,
         book,
-        names,
         &outside,
         tally,
     );
@@ -332,7 +314,6 @@ fn ask_outside(source: &[u8], book: &[u8], names: u16, tally: &mut [u32]) {
         Question::Projection,
         false,
         book,
-        names,
         &outside[..0],
         tally,
     );
@@ -348,7 +329,6 @@ fn ask_together(source: &[u8], book: &[u8], names: u16, taken: &[u16], tally: &m
         Question::Projection,
         false,
         book,
-        names,
         &back[..last],
         tally,
     );
@@ -365,7 +345,6 @@ fn ask_together(source: &[u8], book: &[u8], names: u16, taken: &[u16], tally: &m
         Question::Projection,
         false,
         book,
-        names,
         &turned[..next],
         tally,
     );
@@ -375,7 +354,6 @@ fn ask_together(source: &[u8], book: &[u8], names: u16, taken: &[u16], tally: &m
 fn ask_of_each(
     source: &[u8],
     book: &[u8],
-    names: u16,
     numbers: &[u16],
     taken: &mut [u16],
     tally: &mut [u32],
@@ -383,7 +361,7 @@ fn ask_of_each(
     let mut end = 0;
     let mut i = 0;
     while i < numbers.len() {
-        let has_method = ask_of(source, book, names, numbers[i], tally);
+        let has_method = ask_of(source, book, numbers[i], tally);
         end = crate::asking::put(has_method, numbers[i], taken, end);
         i += 1;
     }
@@ -391,26 +369,16 @@ fn ask_of_each(
 }
 
 // The questions about a name. Answers whether it has a method.
-fn ask_of(source: &[u8], book: &[u8], names: u16, number: u16, tally: &mut [u32]) -> bool {
+fn ask_of(source: &[u8], book: &[u8], number: u16, tally: &mut [u32]) -> bool {
     let once = [number];
     let twice = [number, number];
-    crate::asking::ask_again(
-        source,
-        b"uses",
-        Question::Uses,
-        true,
-        book,
-        names,
-        &once,
-        tally,
-    );
+    crate::asking::ask_again(source, b"uses", Question::Uses, true, book, &once, tally);
     let taken = crate::asking::ask(
         source,
         b"project",
         Question::Projection,
         true,
         book,
-        names,
         &once,
         tally,
     );
@@ -420,7 +388,6 @@ fn ask_of(source: &[u8], book: &[u8], names: u16, number: u16, tally: &mut [u32]
         Question::Projection,
         true,
         book,
-        names,
         &twice,
         tally,
     );

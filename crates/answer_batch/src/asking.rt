@@ -30,13 +30,12 @@ pub(crate) fn ask(
     question: Question,
     of_name: bool,
     book: &[u8],
-    names: u16,
     asked: &[u16],
     tally: &mut [u32],
 ) -> usize {
     let mut out = room();
-    begin(source, word, b"", of_name, book, names, asked);
-    answer(question, book, names, asked, &mut out, tally)
+    begin(source, word, b"", of_name, book, asked);
+    answer(question, book, asked, &mut out, tally)
 }
 
 // The same and, where it has entries, once more with one place less.
@@ -46,7 +45,6 @@ pub(crate) fn ask_again(
     question: Question,
     of_name: bool,
     book: &[u8],
-    names: u16,
     asked: &[u16],
     tally: &mut [u32],
 ) {
@@ -57,7 +55,6 @@ pub(crate) fn ask_again(
         question,
         of_name,
         book,
-        names,
         asked,
         &mut out,
         tally,
@@ -71,36 +68,27 @@ pub(crate) fn ask_both(
     question: Question,
     of_name: bool,
     book: &[u8],
-    names: u16,
     asked: &[u16],
     out: &mut [u16],
     tally: &mut [u32],
 ) -> usize {
-    begin(source, word, b"", of_name, book, names, asked);
-    let end = answer(question, book, names, asked, out, tally);
+    begin(source, word, b"", of_name, book, asked);
+    let end = answer(question, book, asked, out, tally);
     let width = question.width();
     if end < width {
         return 0;
     }
-    begin(source, word, b"-short", of_name, book, names, asked);
+    begin(source, word, b"-short", of_name, book, asked);
     let short = within(end - width, out);
-    answer_short(question, book, names, asked, &mut out[..short], tally);
+    answer_short(question, book, asked, &mut out[..short], tally);
     end
 }
 
 // The beginning of a line.
-fn begin(
-    source: &[u8],
-    word: &[u8],
-    more: &[u8],
-    of_name: bool,
-    book: &[u8],
-    names: u16,
-    asked: &[u16],
-) {
+fn begin(source: &[u8], word: &[u8], more: &[u8], of_name: bool, book: &[u8], asked: &[u16]) {
     crate::lines::asks(source, word, more);
     if of_name {
-        crate::lines::about(crate::lines::name_in(book, names, first_of(asked)));
+        crate::lines::about(book::name(book, first_of(asked)));
     }
 }
 
@@ -108,20 +96,19 @@ fn begin(
 fn answer(
     question: Question,
     book: &[u8],
-    names: u16,
     asked: &[u16],
     out: &mut [u16],
     tally: &mut [u32],
 ) -> usize {
     match crate::asked::reply(question, book, asked, out) {
         Answer::Refused(why) => {
-            refuse(why, book, names, tally);
+            refuse(why, book, tally);
             0
         }
         Answer::Given(entries) => {
             let end = within(question.numbers(entries), out);
             crate::lines::counts(b"given ", entries);
-            print_entries(question, &out[..end], book, names);
+            print_entries(question, &out[..end], book);
             crate::tally::count_given(question.place(), entries, tally);
             end
         }
@@ -132,7 +119,6 @@ fn answer(
 fn answer_short(
     question: Question,
     book: &[u8],
-    names: u16,
     asked: &[u16],
     out: &mut [u16],
     tally: &mut [u32],
@@ -141,7 +127,7 @@ fn answer_short(
         Answer::Refused(why) => {
             crate::lines::counts(b"needs ", why.needed() as usize);
             crate::lines::write(b" ");
-            refuse(why, book, names, tally);
+            refuse(why, book, tally);
         }
         Answer::Given(entries) => crate::lines::counts(b"given ", entries),
     }
@@ -175,18 +161,18 @@ pub(crate) fn first_of(asked: &[u16]) -> u16 {
     u16::MAX
 }
 
-pub(crate) fn judge(found: Verdict, place: usize, book: &[u8], names: u16, tally: &mut [u32]) {
+pub(crate) fn judge(found: Verdict, place: usize, book: &[u8], tally: &mut [u32]) {
     match found {
         Verdict::Passed => {
             crate::lines::write(b"passed\n");
             crate::tally::count(place, tally);
         }
-        Verdict::Refused(why) => refuse(why, book, names, tally),
+        Verdict::Refused(why) => refuse(why, book, tally),
     }
 }
 
-pub(crate) fn refuse(why: Refusal, book: &[u8], names: u16, tally: &mut [u32]) {
-    crate::lines::refusal(why, crate::lines::name_in(book, names, why.name()));
+pub(crate) fn refuse(why: Refusal, book: &[u8], tally: &mut [u32]) {
+    crate::lines::refusal(why, book::name(book, why.name()));
     crate::tally::count_refusal(why, tally);
 }
 
@@ -199,10 +185,10 @@ pub(crate) fn print_of_use(is_first: bool, number: u16) {
     crate::lines::counts(b".", number as usize);
 }
 
-fn print_entries(question: Question, numbers: &[u16], book: &[u8], names: u16) {
+fn print_entries(question: Question, numbers: &[u16], book: &[u8]) {
     let mut i = 0;
     while i < numbers.len() {
-        crate::asked::print_number(question, i, numbers[i], book, names);
+        crate::asked::print_number(question, i, numbers[i], book);
         i += 1;
     }
     crate::lines::write(b"\n");

@@ -1,6 +1,6 @@
 // The pieces of which lines are made, each written at once, so that no buffer limits a line.
 ghost use mathlib.Core.Path.{_≡_};
-ghost use Prim.Native.Nat.{_≤_, _<_};
+ghost use Prim.Native.Nat.{_<_};
 ghost use lib.ListN.{length};
 ghost use Rattle.io.specs.Counts.{Counts};
 use book::kinds::Contents;
@@ -90,39 +90,4 @@ pub(crate) fn wide(b: u8) -> usize
     ensures { λ r. ⌜ r < 256 ⌝ }
 {
     b as usize
-}
-
-// The place after the name at a place of the book; the book's end where that comes first.
-fn after(book: &[u8], at: usize) -> usize
-    ensures { λ r. ⌜ r ≤ length (now (book .entry)) ⌝ }
-{
-    if book.len() <= at {
-        return book.len();
-    }
-    let from = at + 1;
-    let size = wide(book[at]);
-    if book.len() - from < size {
-        return book.len();
-    }
-    from + size
-}
-
-// The name of a number in a book that has so many, by a walk over its table; nothing for a number outside. `book::name` reads the whole
-// layout each time.
-pub(crate) fn name_in(book: &[u8], names: u16, number: u16) -> &[u8] {
-    if names <= number {
-        return &book[0..0];
-    }
-    let mut at = Contents::SIZE;
-    let mut left = number;
-    while 0 < left {
-        at = after(book, at);
-        left -= 1;
-    }
-    let end = after(book, at);
-    if end <= at {
-        return &book[0..0];
-    }
-    let from = at + 1;
-    &book[from..end]
 }

@@ -5,6 +5,7 @@ ghost use Rattle.listing.specs.DraftList.{draftList};
 ghost use Rattle.questions.specs.Drafts.{OwnAs, MainWritten};
 use book::kinds::Contents;
 use book::read::Entry;
+use book::read::Node;
 use environment::Table;
 use refusals::Answer;
 use refusals::Refusal;
@@ -38,7 +39,9 @@ fn draft_list_written(book: &[u8], c: Contents, root: u16, out: &mut [u16]) -> A
         return Answer::Refused(Refusal::Twice(twice));
     }
     let rows = c.nodes(book);
-    let w = analysis::chase::chase_written(rows, &roots, root, own);
+    let n = root as usize;
+    let t = Node::at(rows, n);
+    let w = analysis::chase::chase_types(rows, &roots, n, n + t.size, own);
     crate::passed::hand::hand_walk(w, out)
 }
 

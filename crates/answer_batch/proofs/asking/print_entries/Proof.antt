@@ -6,10 +6,10 @@ use Rattle.answer_batch.proofs.asking.print_entries.Statement.{statemen
 use Rattle.answer_batch.proofs.asking.print_entries.Tie as tie
 
 abbrev Inv-loop : tie.InvT-loop
-Inv-loop question numbers book names i₀ t6 i = Unit {0}
+Inv-loop question numbers book i₀ t6 i = Unit {0}
 
 abbrev μ-loop : tie.MeasureT-loop
-μ-loop question numbers book names i₀ t6 i = length numbers - i
+μ-loop question numbers book i₀ t6 i = length numbers - i
 
 loop-holds : tie.Need-loop-holds Inv-loop μ-loop
 loop-holds c = search needs

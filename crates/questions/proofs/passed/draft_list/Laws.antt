@@ -136,7 +136,7 @@ module _ {bs : List ℕ} {c : Contents} (a : Admitted bs c) where
           few = omega (arith, s .within, few-definitions bs (a .laid))
 
           module _ {ns : List ℕ} (nodes-here : ns ≡ rows) where
-            -- what `chase_written` asks, and what it says
+            -- what the walk over the tree as written asks, and what it says
             pub written : RootIn ns roots root × Counted ns roots k
             written = rw nodes-here (root-in table, walks.counted (draftDefinitions b) tabled few)
 

@@ -4,6 +4,11 @@ use Rattle.book.proofs.Opened.{definitions-count}
 use Rattle.questions.proofs.Asking.{handed-refused}
 use Rattle.questions.proofs.Walks.{walk-short}
 use Rattle.questions.proofs.passed.draft_list.Laws.{entered, draft-twice, written, draft-walks, draft-says}
+use mathlib.Core.Path.{ap}
+use native.Mathlib.Omega.{arith}
+use Rattle.format.specs.Encode.{Row}
+use Rattle.analysis.proofs.BookNodes.{here-within, here-small, here-readable}
+use Rattle.analysis.proofs.chase.Actor.{walked-same, written-is}
 use borrow.Author.Needs.{needs}
 use Rattle.questions.proofs.passed.draft_list.draft_list_written.Statement.{statement}
 use Rattle.questions.proofs.passed.draft_list.draft_list_written.Tie as tie
@@ -29,26 +34,50 @@ returns c = λ a. handed-refused _ (draft-twice a (c .before .before .before .be
 nodes-requires : tie.Need-nodes-requires
 nodes-requires c κs = search needs
 
-slice-aggregate-chase-written : tie.Need-slice-aggregate-chase-written
-slice-aggregate-chase-written c = search needs
+at-requires : tie.Need-at-requires
+at-requires c κs =
+    let at-if1 = c .before in
+    let start = at-if1 .before .before .before .before .before .before .before .before .before in
+    let ready = written (start .pre .0) (start .pre .1) (at-if1 .before .before .before .before .before .before .definitions .ensures) (at-if1 .before .before .before .before .before .own-definitions .ensures) (at-if1 .before .before .enter .ensures) (at-if1 .if1 .left) (c .nodes .ensures) in
+    here-within (ready .0 .rooted) (ready .0 .node (start .pre .1 .some))
 
-chase-written-requires : tie.Need-chase-written-requires
-chase-written-requires c κs =
-    let at-if1 = c .before .before in
-    written (at-if1 .before .before .before .before .before .before .before .before .before .pre .0) (at-if1 .before .before .before .before .before .before .before .before .before .pre .1) (at-if1 .before .before .before .before .before .before .definitions .ensures) (at-if1 .before .before .before .before .before .own-definitions .ensures) (at-if1 .before .before .enter .ensures) (at-if1 .if1 .left) (c .before .nodes .ensures)
+slice-aggregate-chase-types : tie.Need-slice-aggregate-chase-types
+slice-aggregate-chase-types c = search needs
+
+add-chase-types : tie.Need-add-chase-types
+add-chase-types c =
+    let at-nodes = c .before .before .before in
+    let at-if1 = at-nodes .before in
+    let start = at-if1 .before .before .before .before .before .before .before .before .before in
+    let ready = written (start .pre .0) (start .pre .1) (at-if1 .before .before .before .before .before .before .definitions .ensures) (at-if1 .before .before .before .before .before .own-definitions .ensures) (at-if1 .before .before .enter .ensures) (at-if1 .if1 .left) (at-nodes .nodes .ensures) in
+    omega (arith, here-small (ready .0 .rooted) (ready .0 .node (start .pre .1 .some)) (ap (λ (q : Row). q .size) (c .before .before .at .ensures)))
+
+chase-types-requires : tie.Need-chase-types-requires
+chase-types-requires c κs =
+    let at-nodes = c .before .before .before in
+    let at-if1 = at-nodes .before in
+    let start = at-if1 .before .before .before .before .before .before .before .before .before in
+    let ready = written (start .pre .0) (start .pre .1) (at-if1 .before .before .before .before .before .before .definitions .ensures) (at-if1 .before .before .before .before .before .own-definitions .ensures) (at-if1 .before .before .enter .ensures) (at-if1 .if1 .left) (at-nodes .nodes .ensures) in
+    (here-readable (ready .0 .rooted) (ready .0 .node (start .pre .1 .some)) (ap (λ (q : Row). q .size) (c .before .before .at .ensures)), ready .1)
 
 hand-walk-requires : tie.Need-hand-walk-requires
 hand-walk-requires c κs =
-    let at-if1 = c .before .before .before .before in
-    walk-short (draft-walks (at-if1 .before .before .before .before .before .before .before .before .before .pre .0) (at-if1 .before .before .before .before .before .before .before .before .before .pre .1) (at-if1 .before .before .before .before .before .before .definitions .ensures) (at-if1 .before .before .before .before .before .own-definitions .ensures) (at-if1 .before .before .enter .ensures) (at-if1 .if1 .left) (c .before .before .before .nodes .ensures) (c .before .chase-written .ensures))
+    let at-nodes = c .before .before .before .before .before in
+    let at-if1 = at-nodes .before in
+    let start = at-if1 .before .before .before .before .before .before .before .before .before in
+    let ready = written (start .pre .0) (start .pre .1) (at-if1 .before .before .before .before .before .before .definitions .ensures) (at-if1 .before .before .before .before .before .own-definitions .ensures) (at-if1 .before .before .enter .ensures) (at-if1 .if1 .left) (at-nodes .nodes .ensures) in
+    walk-short (draft-walks (start .pre .0) (start .pre .1) (at-if1 .before .before .before .before .before .before .definitions .ensures) (at-if1 .before .before .before .before .before .own-definitions .ensures) (at-if1 .before .before .enter .ensures) (at-if1 .if1 .left) (at-nodes .nodes .ensures) (walked-same (ready .1) _ (written-is _ _ (c .before .before .before .before .at .ensures) (start .pre .1 .some)) (c .before .chase-types .ensures)))
 
 same-length : tie.Need-same-length
 same-length c = search needs
 
 returns-2 : tie.Need-returns-2
 returns-2 c =
-    let at-if1 = c .before .before .before .before .before .before .before in
-    λ a. c .before .before .hand-walk .ensures _ (draft-says a (at-if1 .before .before .before .before .before .before .before .before .before .pre .1) (at-if1 .before .before .before .before .before .before .definitions .ensures) (at-if1 .before .before .before .before .before .own-definitions .ensures) (at-if1 .before .before .enter .ensures) (at-if1 .if1 .left) (c .before .before .before .before .before .before .nodes .ensures) (c .before .before .before .before .chase-written .ensures))
+    let at-nodes = c .before .before .before .before .before .before .before .before in
+    let at-if1 = at-nodes .before in
+    let start = at-if1 .before .before .before .before .before .before .before .before .before in
+    let ready = written (start .pre .0) (start .pre .1) (at-if1 .before .before .before .before .before .before .definitions .ensures) (at-if1 .before .before .before .before .before .own-definitions .ensures) (at-if1 .before .before .enter .ensures) (at-if1 .if1 .left) (at-nodes .nodes .ensures) in
+    λ a. c .before .before .hand-walk .ensures _ (draft-says a (start .pre .1) (at-if1 .before .before .before .before .before .before .definitions .ensures) (at-if1 .before .before .before .before .before .own-definitions .ensures) (at-if1 .before .before .enter .ensures) (at-if1 .if1 .left) (at-nodes .nodes .ensures) (walked-same (ready .1) _ (written-is _ _ (c .before .before .before .before .before .before .before .at .ensures) (start .pre .1 .some)) (c .before .before .before .before .chase-types .ensures)))
 
 pub draft-list-written-spec : {M : Type 1} → statement M
 draft-list-written-spec =
@@ -61,8 +90,10 @@ draft-list-written-spec =
     enter-requires
     returns
     nodes-requires
-    slice-aggregate-chase-written
-    chase-written-requires
+    at-requires
+    slice-aggregate-chase-types
+    add-chase-types
+    chase-types-requires
     hand-walk-requires
     same-length
     returns-2)
