@@ -36,15 +36,15 @@ use Rattle.typing.specs.Init.{InitFoundAs}
 use Rattle.typing.proofs.prog.Book.{no-actor, some-actor}
 use Rattle.listing.specs.Room.{AfterCheck, needsActor}
 use Rattle.listing.proofs.Room as rooms
-use Rattle.questions.specs.Stages.{BookPassed, PassAs}
+use Rattle.questions.specs.Stages.{noContents, contentsIn, BookPassed, PassAs}
 
 -- ---- What `pass` finds
 module _ (bs roots ends′ : List ℕ) where
-  pub pass-refused : {why : Refusal} {c : Contents} {r : Found} → NotAdmitted why ≡ admissionOf (admitted bs) → r ≡ foundNone c (Refused why) → PassAs bs roots ends′ r
+  pub pass-refused : {why : Refusal} {c : Contents} {r : Found} → NotAdmitted why ≡ admissionOf (admitted bs) → c ≡ noContents → r ≡ foundNone c (Refused why) → PassAs bs roots ends′ r
   unfolding checkBytes judged
-  pass-refused e f =
+  pass-refused {why} e n f =
       rw (f)
-      (record { verdict = rw (admission-refuses bs e); passed = λ q. refused-passed q; refused = λ g. refl })
+      (record { verdict = rw (admission-refuses bs e); passed = λ q. refused-passed q; refused = λ g. ap (λ (d : Contents). foundNone d (Refused why)) (n ∙ sym (ap contentsIn (admission-refuses bs e))) })
 
   -- the contents are those that admission found
   book-passed : {p : Passed} {c : Contents} (a : Admitted bs c) → PassedAs a roots ends′ p → admitted bs ≡ given (a .book) → BookPassed bs roots ends′ p
@@ -60,7 +60,7 @@ module _ (bs roots ends′ : List ℕ) where
       record {
         verdict = x .verdict ∙ sym (ap (judged check) (g .is));
         passed = λ q. book-passed (g .read) (x .passed q) (g .is);
-        refused = λ h. let z = x .refused h in z ∙ ap (λ (d : Contents). foundNone d (r .verdict)) (sym (ap (λ (y : Found). y .passed .contents) z));
+        refused = λ h. x .refused h ∙ ap (λ (d : Contents). foundNone d (r .verdict)) (sym (g .read .table) ∙ sym (ap contentsIn (g .is)));
       }
 
 -- ---- 17

@@ -5,9 +5,11 @@ use mathlib.Core.List.{List}
 use Prim.Native.Nat.{ℕ}
 use Rattle.refusals.specs.declared.Verdict.the-variants.{Passed as passes}
 use Rattle.refusals.specs.Verdict.{isPassed}
-use Rattle.refusals.specs.Outcome.{given}
+use Rattle.refusals.specs.Outcome.{Outcome, refused, given}
+use Rattle.format.specs.Book.{Book}
 use Rattle.format.specs.Admission.{admitted}
 use Rattle.book.specs.declared.kinds.Contents.{Contents}
+use Rattle.book.specs.Reading.{contentsOf}
 use Rattle.judgement.specs.Check.{checkBytes}
 use Rattle.typing.specs.declared.prog.Passed.{Passed}
 use Rattle.typing.specs.declared.prog.Found.{Found}
@@ -18,6 +20,11 @@ abbrev pub noContents : Contents
 noContents =
     record { names = 0; «nodes_at» = 0; nodes = 0; «definitions_at» = 0; definitions = 0; «files_at» = 0; files = 0 }
 
+-- What admission leaves of contents: those of the book, if there is one.
+abbrev pub contentsIn : Outcome Book → Contents
+contentsIn (refused r) = noContents
+contentsIn (given b) = contentsOf b
+
 -- Bytes that were admitted and passed, with what the check hands on.
 pub record BookPassed (bs roots ends′ : List ℕ) (p : Passed) : Type 0 where
   pub book : PassedBook bs roots ends′ p
@@ -27,4 +34,4 @@ pub record BookPassed (bs roots ends′ : List ℕ) (p : Passed) : Type 0 where
 pub record PassAs (bs roots ends′ : List ℕ) (r : Found) : Type 0 where
   pub verdict : r .verdict ≡ checkBytes bs
   pub passed : r .verdict ≡ passes → BookPassed bs roots ends′ (r .passed)
-  pub refused : isPassed (r .verdict) ≡ false → r ≡ foundNone (r .passed .contents) (r .verdict)
+  pub refused : isPassed (r .verdict) ≡ false → r ≡ foundNone (contentsIn (admitted bs)) (r .verdict)
