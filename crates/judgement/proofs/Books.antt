@@ -13,8 +13,7 @@ use Rattle.format.specs.Fits.{every, isInitRole, definitionFits, fileFits, fore
 use Rattle.format.proofs.Logic.{both, says}
 use Rattle.format.proofs.Encoded.{fit-parts}
 use Rattle.judgement.specs.Environment.{keep, mainDefinitions, initDefinitions}
-use Rattle.judgement.specs.Actor.{isServiceImport, serviceImports, firstActor, mainActor}
-use Rattle.judgement.specs.Check.{initTree}
+use Rattle.judgement.specs.Actor.{isServiceImport, serviceImports, firstActor, mainActor, initTree}
 use Rattle.judgement.proofs.Lookup.{keep-says}
 use Rattle.judgement.proofs.Fitting.{Fitting}
 use Rattle.judgement.proofs.Decs.{FitDefinitions}

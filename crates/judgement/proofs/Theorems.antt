@@ -25,8 +25,8 @@ use Rattle.refusals.specs.declared.Verdict.{Verdict}
 use Rattle.refusals.specs.declared.Verdict.the-variants.{Passed, Refused}
 use Rattle.refusals.specs.Refusal.{numberOf}
 use Rattle.judgement.specs.Environment.{roleAt, mainDefinitions, initDefinitions, findType, mergeDefinitions, kidsOf}
-use Rattle.judgement.specs.Actor.{serviceImports, mainActor, resolveActor}
-use Rattle.judgement.specs.Check.{checkForest, member, onceVerdict, bodiesVerdict, eachName, circleVerdict, bodiesFit, decsVerdict, importsVerdict, resolveVerdict, actorVerdict, check, sameVerdict, mergeVerdict, initTree, initVerdict, initCheck, checkBytes, initCheckBytes}
+use Rattle.judgement.specs.Actor.{serviceImports, mainActor, resolveActor, initTree}
+use Rattle.judgement.specs.Check.{checkForest, member, onceVerdict, bodiesVerdict, eachName, circleVerdict, bodiesFit, decsVerdict, importsVerdict, resolveVerdict, actorVerdict, check, sameVerdict, mergeVerdict, initVerdict, initCheck, checkBytes, initCheckBytes}
 use Rattle.format.specs.Distinct.{Distinct}
 use Rattle.judgement.specs.WellFormed.{definedName, WellFormed, Rust, WellFormedInit, RustInit}
 use Rattle.judgement.specs.Rows.{DefinitionsRow, TreesRow, ActorRow, CheckRow, checkRows, MergeRow, InitRow, twice, unbound, class, modes, oneway, circle, noFunction, methodNoFunction, noService, importWithoutActor, importNoService, sameHash, differs}

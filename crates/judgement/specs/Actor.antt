@@ -4,6 +4,7 @@ use mathlib.Core.List.{List, [], _∷_}
 use Rattle.format.specs.Forest.{Forest, end, tree, beside}
 use Rattle.format.specs.Node.{Kind, PrimT, VarT, OptT, VecT, RecordT, VariantT, FuncT, ServT, ClassT, InitT, unlabelled, Node}
 use Rattle.format.specs.Book.{Definition, Role, Main, TypeImport, ServiceImport, InitArgs, File, Book}
+use Rattle.format.specs.Fits.{isInitRole}
 use Rattle.judgement.specs.Environment.{mainDefinitions, aliasEnd, kidsOf, methodsAt}
 
 -- ---- Files by role
@@ -24,6 +25,11 @@ firstActor (f ∷ fs) = f .actor
 
 unfoldable pub mainActor : Book → Forest Node
 mainActor b = firstActor (b .files)
+
+-- The init file's argument list; `end` where there is no init file.
+unfoldable pub initTree : List File → Forest Node
+initTree [] = end
+initTree (f ∷ fs) = cond (isInitRole (f .role)) (f .actor) (initTree fs)
 
 -- ---- A class: its arguments, and its service, which is the last child
 unfoldable pub isClassKind : Kind → Bool

@@ -9,7 +9,6 @@ use Rattle.format.specs.declared.Place.the-variants.{Root}
 use Rattle.format.specs.Forest.{Forest, end, tree, breadth}
 use Rattle.format.specs.Node.{Kind, PrimT, VarT, OptT, VecT, RecordT, VariantT, FuncT, ServT, ClassT, InitT, FuncMode, Oneway, Query, CompositeQuery, Node, labelValue}
 use Rattle.format.specs.Book.{Definition, File, Book}
-use Rattle.format.specs.Fits.{isInitRole}
 use Rattle.format.specs.Rules.{noTrees}
 use Rattle.format.specs.Admission.{admitted, Source}
 use Rattle.refusals.specs.declared.Refusal.{Refusal}
@@ -19,7 +18,7 @@ use Rattle.refusals.specs.declared.Verdict.the-variants.{Passed, Refused}
 use Rattle.refusals.specs.Verdict.{andThen, unless}
 use Rattle.refusals.specs.Outcome.{judged}
 use Rattle.judgement.specs.Environment.{mainDefinitions, initDefinitions, mergeDefinitions, Found, missing, body, findType, End, unbound, circle, ends, aliasEnd, isServKind, rootPasses, asFunc, asService, kidsOf, sameForest}
-use Rattle.judgement.specs.Actor.{serviceImports, mainActor, isClass, belowClass, resolveActor}
+use Rattle.judgement.specs.Actor.{serviceImports, mainActor, initTree, isClass, belowClass, resolveActor}
 
 -- ---- Types: `check_type`, `check_fields`, `check_meths`
 
@@ -176,11 +175,6 @@ sameVerdict names n (body t) (body u) = unless (sameForest names Root t u) (refu
 
 unfoldable pub mergeVerdict : List (List ℕ) → List Definition → List Definition → Verdict
 mergeVerdict names init main = eachName (λ n. sameVerdict names n (findType init n) (findType main n)) 0 (length names)
-
--- The init file's argument list; `end` where there is no init file.
-unfoldable pub initTree : List File → Forest Node
-initTree [] = end
-initTree (f ∷ fs) = cond (isInitRole (f .role)) (f .actor) (initTree fs)
 
 -- `check_init_args`: the init file's own definitions, the merge, and its arguments under both.
 unfoldable pub initVerdict : Book → Verdict

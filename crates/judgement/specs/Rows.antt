@@ -14,8 +14,7 @@ use Rattle.format.specs.References.{references}
 use Rattle.refusals.specs.declared.Refusal.{Refusal}
 use Rattle.refusals.specs.declared.Refusal.the-variants.{Twice, Unbound, Class, Modes, Oneway as OnewayResults, Circle, NoFunction, MethodNoFunction, NoService, Differs, ImportWithoutActor, ImportNoService, SameHash}
 use Rattle.judgement.specs.Environment.{mainDefinitions, initDefinitions, mergeDefinitions, named, head, isFuncKind, isServKind, kidsOf, sameForest}
-use Rattle.judgement.specs.Actor.{serviceImports, mainActor, belowClass, resolveActor}
-use Rattle.judgement.specs.Check.{initTree}
+use Rattle.judgement.specs.Actor.{serviceImports, mainActor, belowClass, resolveActor, initTree}
 use Rattle.format.specs.Occurs.{Occurs, Beside}
 use Rattle.judgement.specs.WellFormed.{definedName, Defined, StandsFor, belowTop, methodHashes}
 use Rattle.format.specs.Labels.{methodNames}

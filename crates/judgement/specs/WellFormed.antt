@@ -16,8 +16,7 @@ use Rattle.format.specs.References.{references}
 use Rattle.judgement.specs.Environment.{mainDefinitions, initDefinitions, mergeDefinitions, named, other, head, isFuncKind, isServKind, kidsOf, sameForest}
 use Rattle.format.specs.Occurs.{Occurs, Beside}
 use Rattle.format.specs.Distinct.{Distinct}
-use Rattle.judgement.specs.Actor.{serviceImports, mainActor, isClass, belowClass, resolveActor}
-use Rattle.judgement.specs.Check.{initTree}
+use Rattle.judgement.specs.Actor.{serviceImports, mainActor, isClass, belowClass, resolveActor, initTree}
 
 -- ---- Names
 abbrev pub definedName : Definition → ℕ

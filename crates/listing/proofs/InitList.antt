@@ -20,7 +20,8 @@ use Rattle.format.proofs.Encoded.{fit-parts}
 use Rattle.refusals.specs.declared.Refusal.{Refusal}
 use Rattle.refusals.specs.declared.Verdict.the-variants.{Passed, Refused}
 use Rattle.judgement.specs.Environment.{roleAt, keep, mainDefinitions, initDefinitions, mergeDefinitions, findType, isMissing, kidsOf}
-use Rattle.judgement.specs.Check.{check, initCheck, initTree}
+use Rattle.judgement.specs.Check.{check, initCheck}
+use Rattle.judgement.specs.Actor.{initTree}
 use Rattle.format.specs.Distinct.{Distinct}
 use Rattle.judgement.specs.WellFormed.{definedName, Bound, WellFormed, WellFormedInit}
 use Rattle.judgement.proofs.Lookup.{merge-listed, merge-says, merge-distinct}

@@ -8,7 +8,8 @@ use Rattle.refusals.specs.declared.Refusal.the-variants.{Short}
 use Rattle.refusals.specs.Outcome.{Outcome, after}
 use Rattle.format.specs.Book.{Book}
 use Rattle.judgement.specs.Environment.{mainDefinitions, initDefinitions, mergeDefinitions, kidsOf}
-use Rattle.judgement.specs.Check.{initCheck, initTree}
+use Rattle.judgement.specs.Check.{initCheck}
+use Rattle.judgement.specs.Actor.{initTree}
 use Rattle.judgement.specs.Rows.{CheckRow, InitRow, checkRows}
 use Rattle.listing.specs.Chase.{chaseTypes, walked}
 use Rattle.listing.specs.References.{Reachable}

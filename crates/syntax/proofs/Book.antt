@@ -36,8 +36,7 @@ use Rattle.book.specs.Reading.{EntryWithin, Admitted}
 use Rattle.book.specs.Tables.{NamesIn, HashesAgree, HashesOf}
 use Rattle.book.proofs.Opened.{names-count, nodes-count, definitions-count, files-count}
 use Rattle.judgement.specs.Environment.{roleAt, keep, mainDefinitions, initDefinitions}
-use Rattle.judgement.specs.Actor.{firstActor, mainActor}
-use Rattle.judgement.specs.Check.{initTree}
+use Rattle.judgement.specs.Actor.{firstActor, mainActor, initTree}
 use Rattle.judgement.proofs.Lookup.{keep-first, keep-last}
 use Rattle.judgement.proofs.Books.{definition-fits}
 use Rattle.judgement.proofs.Theorems.{NoInit, no-init-definitions, no-init-tree}

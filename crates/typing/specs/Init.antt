@@ -14,7 +14,8 @@ use Rattle.refusals.specs.declared.Verdict.{Verdict}
 use Rattle.refusals.specs.declared.Verdict.the-variants.{Passed}
 use Rattle.refusals.specs.Verdict.{isPassed}
 use Rattle.judgement.specs.Environment.{keep, findType, mainDefinitions, initDefinitions, mergeDefinitions, kidsOf}
-use Rattle.judgement.specs.Check.{eachName, circleVerdict, checkForest, decsVerdict, mergeVerdict, initTree, initVerdict}
+use Rattle.judgement.specs.Check.{eachName, circleVerdict, checkForest, decsVerdict, mergeVerdict, initVerdict}
+use Rattle.judgement.specs.Actor.{initTree}
 use Rattle.environment.specs.Tables.{Roots, Binds, definitionsIn}
 use Rattle.environment.specs.Merging.{MergedAs}
 use Rattle.typing.specs.declared.init.InitFound.{InitFound}

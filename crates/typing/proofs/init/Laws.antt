@@ -27,7 +27,8 @@ use Rattle.refusals.specs.declared.Verdict.the-variants.{Passed, Refused}
 use Rattle.book.specs.Reading.{EntryWithin, Admitted}
 use Rattle.refusals.specs.Verdict.{isPassed}
 use Rattle.judgement.specs.Environment.{keep, findType, isMissing, mainDefinitions, initDefinitions, mergeDefinitions, kidsOf}
-use Rattle.judgement.specs.Check.{decsVerdict, mergeVerdict, initTree, initVerdict, checkForest, eachName, circleVerdict}
+use Rattle.judgement.specs.Check.{decsVerdict, mergeVerdict, initVerdict, checkForest, eachName, circleVerdict}
+use Rattle.judgement.specs.Actor.{initTree}
 use Rattle.judgement.proofs.Books.{init-definitions-fit}
 use Rattle.judgement.proofs.MergeChains.{merged-no-circle}
 use Rattle.judgement.proofs.Lookup.{keep-last}
