@@ -4,3 +4,5 @@ pub mod Actor
 pub mod Check
 pub mod WellFormed
 pub mod Rows
+pub mod Meaning
+pub mod Order
