@@ -33,7 +33,8 @@ use Rattle.judgement.specs.Environment.{mainDefinitions, End, unbound, c
 use Rattle.judgement.specs.Actor.{serviceImports, mainActor, isClassKind, isClass, lastTree, classArguments, belowClass, serviceOf, classOf, methodsOf, importedMethods, mergedActor, resolveWith, resolveActor}
 use Rattle.judgement.specs.Check.{checkForest, importsVerdict, serviceVerdict, importedVerdict, hashesVerdict, mainVerdict, resolveVerdict, actorVerdict}
 use Rattle.format.specs.Distinct.{Distinct}
-use Rattle.judgement.specs.WellFormed.{definedName, Leads, arrived, onward, RootIs, StandsFor, WellFormedTrees, OneMode, belowTop, methodHashes}
+use Rattle.judgement.specs.WellFormed.{definedName, Leads, arrived, onward, RootIs, StandsFor, WellFormedTrees, belowTop}
+use Rattle.judgement.specs.Rust.{OneMode, methodHashes}
 use Rattle.format.specs.Labels.{methodNames}
 use Rattle.judgement.specs.Rows.{TreesRow, MeetsUnbound, HashRepeated, ActorRow, noService, importWithoutActor, importNoService, sameHash}
 use Rattle.judgement.specs.Rows as rows

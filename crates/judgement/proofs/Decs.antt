@@ -24,7 +24,8 @@ use Rattle.refusals.specs.Verdict.{andThen, unless}
 use Rattle.judgement.specs.Environment.{Found, missing, body, findType, aliasEnd, isFuncKind, asFunc}
 use Rattle.judgement.specs.Check.{checkForest, onceVerdict, bodiesVerdict, eachName, isCircle, circleVerdict, methodsFit, bodiesFit, decsVerdict}
 use Rattle.format.specs.Distinct.{Distinct}
-use Rattle.judgement.specs.WellFormed.{definedName, Defined, StandsFor, MethodsAreFunctions, WellFormedTrees, OneMode, WellFormedDefinitions, OneModeDefinitions}
+use Rattle.judgement.specs.WellFormed.{definedName, Defined, StandsFor, MethodsAreFunctions, WellFormedTrees, WellFormedDefinitions}
+use Rattle.judgement.specs.Rust.{OneMode, OneModeDefinitions}
 use Rattle.judgement.specs.Rows.{Repeated, NeverEnds, DefinitionsRow, twice, circle, noFunction}
 use Rattle.refusals.proofs.Verdicts.{passed-refused, both-pass, pass-both, which-refused, unless-passed, passed-unless, unless-refused, unless-both, not-says}
 use Rattle.judgement.proofs.Lookup.{found-cases, not-both-found, find-body, found-defined, find-defined, find-listed}

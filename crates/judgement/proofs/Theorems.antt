@@ -28,7 +28,8 @@ use Rattle.judgement.specs.Environment.{roleAt, mainDefinitions, initDef
 use Rattle.judgement.specs.Actor.{serviceImports, mainActor, resolveActor, initTree}
 use Rattle.judgement.specs.Check.{checkForest, member, onceVerdict, bodiesVerdict, eachName, circleVerdict, bodiesFit, decsVerdict, importsVerdict, resolveVerdict, actorVerdict, check, sameVerdict, mergeVerdict, initVerdict, initCheck, checkBytes, initCheckBytes}
 use Rattle.format.specs.Distinct.{Distinct}
-use Rattle.judgement.specs.WellFormed.{definedName, WellFormed, Rust, WellFormedInit, RustInit}
+use Rattle.judgement.specs.WellFormed.{definedName, WellFormed, WellFormedInit}
+use Rattle.judgement.specs.Rust.{Rust, RustInit}
 use Rattle.judgement.specs.Rows.{DefinitionsRow, TreesRow, ActorRow, CheckRow, checkRows, MergeRow, InitRow, twice, unbound, class, modes, oneway, circle, noFunction, methodNoFunction, noService, importWithoutActor, importNoService, sameHash, differs}
 use Rattle.refusals.proofs.Verdicts.{both-pass, pass-both, which-refused, and-passed}
 use Rattle.judgement.proofs.Lookup.{member-says, keep-none, merge-distinct}

@@ -28,7 +28,8 @@ use Rattle.refusals.specs.Verdict.{andThen}
 use Rattle.judgement.specs.Environment.{Found, missing, body, findType, isFuncKind, isServKind, asFunc}
 use Rattle.judgement.specs.Check.{nameVerdict, isOneway, modesVerdict, kindVerdict, methodVerdict, checkForest, methodsFit}
 use Rattle.format.specs.Occurs.{Occurs, here, Beside, first, later}
-use Rattle.judgement.specs.WellFormed.{Defined, StandsFor, Bound, NoClass, OnewayWithoutResults, MethodsAreFunctions, OneMode, WellFormedTrees}
+use Rattle.judgement.specs.WellFormed.{Defined, StandsFor, Bound, NoClass, OnewayWithoutResults, MethodsAreFunctions, WellFormedTrees}
+use Rattle.judgement.specs.Rust.{OneMode}
 use Rattle.judgement.specs.Rows.{HasMethod, DefinitionsRow, TreesRow}
 use Rattle.judgement.specs.Rows as rows
 use Rattle.refusals.proofs.Verdicts.{refused-passed, passed-refused, both-pass, pass-both, which-refused, unless-passed, passed-unless, unless-refused, fails-not}

@@ -1,8 +1,9 @@
--- When a declaration passes. Read in this order: Environment, Actor, Check; then WellFormed and Rows, which pin them from outside.
+-- When a declaration passes. Read in this order: Environment, Actor, Check; then what pins them from outside: WellFormed, Meaning, Rust, Rows, Order.
 pub mod Environment
 pub mod Actor
 pub mod Check
 pub mod WellFormed
-pub mod Rows
 pub mod Meaning
+pub mod Rust
+pub mod Rows
 pub mod Order

@@ -6,9 +6,8 @@ use mathlib.Core.Logic.{_⊎_}
 use mathlib.Core.Bool.{Bool, true, false, _&&_}
 use mathlib.Core.List.{List, [], _∷_, _++_, map, List·Memᴰ}
 use Prim.Native.Nat.{ℕ, _<_}
-use lib.ListN.{length, getD}
+use lib.ListN.{length}
 use lib.Dec.{T}
-use Rattle.labels.specs.Number.{labelNumber}
 use Rattle.format.specs.Forest.{Forest, end, tree, breadth}
 use Rattle.format.specs.Node.{VarT, FuncT, ClassT, FuncMode, Oneway, Node, labelValue}
 use Rattle.format.specs.Book.{Definition, File, Book}
@@ -18,7 +17,8 @@ use Rattle.refusals.specs.declared.Refusal.{Refusal}
 use Rattle.refusals.specs.declared.Refusal.the-variants.{Twice, Unbound, Class, Modes, Oneway as OnewayResults, Circle, NoFunction, MethodNoFunction, NoService, Differs, ImportWithoutActor, ImportNoService, SameHash}
 use Rattle.judgement.specs.Environment.{mainDefinitions, initDefinitions, mergeDefinitions, isFuncKind, isServKind, kidsOf}
 use Rattle.judgement.specs.Actor.{serviceImports, mainActor, initTree, belowClass}
-use Rattle.judgement.specs.WellFormed.{definedName, Defined, StandsFor, Bound, NoClass, OnewayWithoutResults, MethodsAreFunctions, OneMode, WellFormedDefinitions, OneModeDefinitions, belowTop}
+use Rattle.judgement.specs.WellFormed.{definedName, Defined, StandsFor, Bound, NoClass, OnewayWithoutResults, MethodsAreFunctions, WellFormedDefinitions, belowTop}
+use Rattle.judgement.specs.Rust.{OneMode, OneModeDefinitions, hashOf, Hashed}
 use Rattle.judgement.specs.Rows.{NeverEnds, HasMethod, InBodies, Disagree}
 use Rattle.judgement.specs.Meaning.{MeetsUnbound, LeadsElsewhere, Together, services, ActorOf}
 
@@ -101,22 +101,12 @@ MainServes b = (mainActor b ≡ end) ⊎ StandsFor isServKind (mainDefinitions b
 abbrev pub Imported : Book → Type 0
 Imported b = serviceImports (b .files) ≡ [] → ⊥
 
--- A method's hash.
-abbrev pub hashOf : List (List ℕ) → ℕ → ℕ
-hashOf names n = labelNumber (getD names n [])
-
 pub data ResolvingRefuses (b : Book) : Refusal → Type 0 where
   main : {r : Refusal} → (mainActor b ≡ end → ⊥) → Unserved (mainDefinitions b) NoService (belowClass (mainActor b)) r → ResolvingRefuses b r
   imported : {r : Refusal} → MainServes b →
       First (λ f. StandsFor isServKind (mainDefinitions b) (f .actor)) (λ f. Unserved (mainDefinitions b) (ImportNoService (f .name)) (f .actor) r) (serviceImports (b .files)) →
       ResolvingRefuses b r
   sameHash : {methods : Forest Node} {n : ℕ} → Together (mainDefinitions b) (services b) methods → FirstRepeat (hashOf (b .names)) (methodNames methods) n → ResolvingRefuses b (SameHash n)
-
--- Methods of different hashes.
-pub record ResolvingPasses (b : Book) : Type 0 where
-  pub methods : Forest Node
-  pub together : Together (mainDefinitions b) (services b) methods
-  pub distinct : Distinct (map (hashOf (b .names)) (methodNames methods))
 
 -- ---- The walk of the actor, and 10
 pub data ActorRefuses (b : Book) : Refusal → Type 0 where
@@ -132,7 +122,7 @@ pub data CheckRefuses (b : Book) : Refusal → Type 0 where
   withoutActor : {n : ℕ} → First (λ f. f .actor ≡ end → ⊥) (λ f. (f .name ≡ n) × (f .actor ≡ end)) (serviceImports (b .files)) → CheckRefuses b (ImportWithoutActor n)
   definitions : {r : Refusal} → ImportsHaveActors b → DefinitionsRefuse (mainDefinitions b) r → CheckRefuses b r
   resolving : {r : Refusal} → ImportsHaveActors b → DefinitionsPass (mainDefinitions b) → Imported b → ResolvingRefuses b r → CheckRefuses b r
-  actor : {r : Refusal} → ImportsHaveActors b → DefinitionsPass (mainDefinitions b) → (Imported b → ResolvingPasses b) → ActorRefuses b r → CheckRefuses b r
+  actor : {r : Refusal} → ImportsHaveActors b → DefinitionsPass (mainDefinitions b) → (Imported b → Hashed b) → ActorRefuses b r → CheckRefuses b r
 
 -- ---- The init check goes on with the init file
 pub data InitRefuses (b : Book) : Refusal → Type 0 where

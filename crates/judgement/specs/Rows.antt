@@ -16,7 +16,8 @@ use Rattle.refusals.specs.declared.Refusal.the-variants.{Twice, Unbound, Class,
 use Rattle.judgement.specs.Environment.{mainDefinitions, initDefinitions, mergeDefinitions, named, head, isFuncKind, isServKind, kidsOf, sameForest}
 use Rattle.judgement.specs.Actor.{serviceImports, mainActor, belowClass, resolveActor, initTree}
 use Rattle.format.specs.Occurs.{Occurs, Beside}
-use Rattle.judgement.specs.WellFormed.{definedName, Defined, StandsFor, belowTop, methodHashes}
+use Rattle.judgement.specs.WellFormed.{definedName, Defined, StandsFor, belowTop}
+use Rattle.judgement.specs.Rust.{methodHashes}
 use Rattle.format.specs.Labels.{methodNames}
 
 -- ---- Rows that speak of trees and definitions alone

@@ -1,4 +1,4 @@
--- Well-formed declarations, as Candid.md states them, and what the Rust asks beyond. Predicates on trees and environments: none of them
+-- Well-formed declarations, as Candid.md states them. Predicates on trees and environments: none of them
 -- knows of the check or its verdicts (proofs/Theorems.antt joins the two). Definitions; assumes nothing.
 use mathlib.Core.Path.{_≡_}
 use mathlib.Core.Logic.{_⊎_}
@@ -64,18 +64,11 @@ pub record WellFormedTrees (ds : List Definition) (f : Forest Node) : Type 0 whe
   pub oneway : OnewayWithoutResults f
   pub methods : MethodsAreFunctions ds f
 
--- What the Rust asks of trees beyond: at most one mode.
-abbrev pub OneMode : Forest Node → Type 0
-OneMode f = (n : Node) (kids : Forest Node) (a : ℕ) (ms : List FuncMode) → Occurs n kids f → n .kind ≡ FuncT a ms → length ms ≤ 1
-
 -- ---- Definitions, all in one space
 pub record WellFormedDefinitions (ds : List Definition) : Type 0 where
   pub once : Distinct (map definedName ds)
   pub trees : (d : Definition) → List·Memᴰ d ds → WellFormedTrees ds (d .body)
   pub chains : (d : Definition) → List·Memᴰ d ds → StandsFor (λ k. true) ds (d .body)
-
-abbrev pub OneModeDefinitions : List Definition → Type 0
-OneModeDefinitions ds = (d : Definition) → List·Memᴰ d ds → OneMode (d .body)
 
 -- ---- The book
 
@@ -90,25 +83,7 @@ pub record WellFormed (b : Book) : Type 0 where
   pub actor : WellFormedTrees (mainDefinitions b) (belowTop (resolveActor b))
   pub service : (mainActor b ≡ end) ⊎ StandsFor isServKind (mainDefinitions b) (belowClass (mainActor b))
 
--- The methods of the resolved actor, by their hashes.
-unfoldable pub methodHashes : List (List ℕ) → Forest Node → List ℕ
-methodHashes names end = []
-methodHashes names (tree n kids next) = labelNumber (getD names (labelValue (n .label)) []) ∷ methodHashes names next
-
--- The Rust: at most one mode, a service import has an actor and it is a plain service, and with service imports all methods differ by hash.
-pub record Rust (b : Book) : Type 0 where
-  pub modes : OneModeDefinitions (mainDefinitions b)
-  pub actorModes : OneMode (belowTop (resolveActor b))
-  pub imports : (f : File) → List·Memᴰ f (serviceImports (b .files)) → StandsFor isServKind (mainDefinitions b) (f .actor)
-  pub hashes : (serviceImports (b .files) ≡ []) ⊎ Distinct (methodHashes (b .names) (kidsOf (belowClass (resolveActor b))))
-
 -- ---- Init arguments: definitions of their own, and arguments under these and main's
 pub record WellFormedInit (b : Book) : Type 0 where
   pub definitions : WellFormedDefinitions (initDefinitions b)
   pub arguments : WellFormedTrees (mergeDefinitions (initDefinitions b) (mainDefinitions b)) (kidsOf (initTree (b .files)))
-
--- The Rust: one mode, and what both files define is the same.
-pub record RustInit (b : Book) : Type 0 where
-  pub modes : OneModeDefinitions (initDefinitions b)
-  pub argumentModes : OneMode (kidsOf (initTree (b .files)))
-  pub merged : (d e : Definition) → List·Memᴰ d (initDefinitions b) → List·Memᴰ e (mainDefinitions b) → d .name ≡ e .name → T (sameForest (b .names) Root (d .body) (e .body))

@@ -20,7 +20,8 @@ use Rattle.judgement.specs.Environment.{mainDefinitions, Head, named, other, he
 use Rattle.judgement.specs.Actor.{isServiceImport, serviceImports, isClassKind, isClass, lastTree, allButLast, firstActor, mainActor, classArguments, belowClass, serviceOf, classOf, methodsOf, importedMethods, mergedActor, resolveWith, resolveActor}
 use Rattle.judgement.specs.Check.{check}
 use Rattle.format.specs.Distinct.{Distinct}
-use Rattle.judgement.specs.WellFormed.{Leads, arrived, onward, methodHashes}
+use Rattle.judgement.specs.WellFormed.{Leads, arrived, onward}
+use Rattle.judgement.specs.Rust.{methodHashes}
 use Rattle.format.proofs.Distinct.{pigeonhole}
 use Rattle.judgement.proofs.Lookup.{keep-says}
 use Rattle.judgement.proofs.Chains.{stops, run-end, end-leads, leads-keeps}

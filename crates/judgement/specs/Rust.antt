@@ -1,0 +1,54 @@
+-- What the Rust asks beyond Candid.md. Predicates: none of them knows of the check or its verdicts. Definitions; assumes nothing.
+use mathlib.Core.Path.{_≡_}
+use mathlib.Core.Logic.{_⊎_}
+use mathlib.Core.List.{List, [], _∷_, map, List·Memᴰ}
+use Prim.Native.Nat.{ℕ, _≤_}
+use lib.ListN.{length, getD}
+use lib.Dec.{T}
+use Rattle.labels.specs.Number.{labelNumber}
+use Rattle.format.specs.declared.Place.the-variants.{Root}
+use Rattle.format.specs.Forest.{Forest, end, tree}
+use Rattle.format.specs.Node.{FuncT, FuncMode, Node, labelValue}
+use Rattle.format.specs.Book.{Definition, File, Book}
+use Rattle.format.specs.Occurs.{Occurs}
+use Rattle.format.specs.Distinct.{Distinct}
+use Rattle.format.specs.Labels.{methodNames}
+use Rattle.judgement.specs.Environment.{mainDefinitions, initDefinitions, isServKind, kidsOf, sameForest}
+use Rattle.judgement.specs.Actor.{serviceImports, initTree, belowClass, resolveActor}
+use Rattle.judgement.specs.WellFormed.{StandsFor, belowTop}
+use Rattle.judgement.specs.Meaning.{Together, services}
+
+-- At most one mode.
+abbrev pub OneMode : Forest Node → Type 0
+OneMode f = (n : Node) (kids : Forest Node) (a : ℕ) (ms : List FuncMode) → Occurs n kids f → n .kind ≡ FuncT a ms → length ms ≤ 1
+
+abbrev pub OneModeDefinitions : List Definition → Type 0
+OneModeDefinitions ds = (d : Definition) → List·Memᴰ d ds → OneMode (d .body)
+
+-- A method's hash.
+abbrev pub hashOf : List (List ℕ) → ℕ → ℕ
+hashOf names n = labelNumber (getD names n [])
+
+-- The methods of all services together differ by hash.
+pub record Hashed (b : Book) : Type 0 where
+  pub methods : Forest Node
+  pub together : Together (mainDefinitions b) (services b) methods
+  pub distinct : Distinct (map (hashOf (b .names)) (methodNames methods))
+
+-- The methods of the resolved actor, by their hashes.
+unfoldable pub methodHashes : List (List ℕ) → Forest Node → List ℕ
+methodHashes names end = []
+methodHashes names (tree n kids next) = labelNumber (getD names (labelValue (n .label)) []) ∷ methodHashes names next
+
+-- The Rust: at most one mode, a service import has an actor and it is a plain service, and with service imports all methods differ by hash.
+pub record Rust (b : Book) : Type 0 where
+  pub modes : OneModeDefinitions (mainDefinitions b)
+  pub actorModes : OneMode (belowTop (resolveActor b))
+  pub imports : (f : File) → List·Memᴰ f (serviceImports (b .files)) → StandsFor isServKind (mainDefinitions b) (f .actor)
+  pub hashes : (serviceImports (b .files) ≡ []) ⊎ Distinct (methodHashes (b .names) (kidsOf (belowClass (resolveActor b))))
+
+-- The Rust: one mode, and what both files define is the same.
+pub record RustInit (b : Book) : Type 0 where
+  pub modes : OneModeDefinitions (initDefinitions b)
+  pub argumentModes : OneMode (kidsOf (initTree (b .files)))
+  pub merged : (d e : Definition) → List·Memᴰ d (initDefinitions b) → List·Memᴰ e (mainDefinitions b) → d .name ≡ e .name → T (sameForest (b .names) Root (d .body) (e .body))
