@@ -15,8 +15,8 @@ use lib.Dec.{T}
 use lib.ListN.{length, getD, length-map, length-append, List·getD-append}
 use lib.Seq.{getD-append-seam}
 use Rattle.format.specs.declared.Place.the-variants.{Method, Inner}
-use Rattle.format.specs.Forest.{Forest, end, tree, beside, breadth}
-use Rattle.format.specs.Node.{Kind, Node, labelValue}
+use Rattle.format.specs.Forest.{Forest, end, tree}
+use Rattle.format.specs.Node.{Node, labelValue}
 use Rattle.format.specs.Book.{Definition, File, Book}
 use Rattle.format.specs.Fits.{forestFits}
 use Rattle.format.specs.References as refer
@@ -33,7 +33,7 @@ use Rattle.judgement.specs.Actor.{serviceImports, mainActor, isClassKind
 use Rattle.judgement.specs.Check.{checkForest, importsVerdict, serviceVerdict, importedVerdict, hashesVerdict, mainVerdict, resolveVerdict, actorVerdict}
 use Rattle.format.specs.Distinct.{Distinct}
 use Rattle.judgement.specs.WellFormed.{definedName, arrived, StandsFor, WellFormedTrees, belowTop}
-use Rattle.judgement.specs.Rust.{OneMode, hashOf, methodHashes}
+use Rattle.judgement.specs.Rust.{OneMode, hashOf, hashesOf, methodHashes}
 use Rattle.format.specs.Labels.{methodNames}
 use Rattle.judgement.specs.Rows.{TreesRow, MeetsUnbound, HashRepeated, ActorRow, noService, importWithoutActor, importNoService, sameHash}
 use Rattle.judgement.specs.Rows as rows
@@ -46,11 +46,6 @@ use Rattle.judgement.proofs.Fitting.{Fitting, fitting-class, fitting-to
 use Rattle.judgement.proofs.Meaning.{foundMethods, MainStands, ImportsStand, some-tree, none-stands, merged-below}
 
 -- ---- 14: methods of the same hash
-
--- The hashes of methods.
-abbrev pub hashesOf : List (List ℕ) → Forest Node → List ℕ
-hashesOf names f = map (hashOf names) (methodNames f)
-
 hashes-repeats : (names : List (List ℕ)) (seen : List ℕ) (f : Forest Node) → hashesVerdict names seen f ≡ repeats (hashOf names) SameHash seen (methodNames f)
 unfolding hashesVerdict repeats methodNames
 hashes-repeats names seen end = refl
