@@ -1,11 +1,11 @@
--- The actor that is walked against the actors as written. With service imports one service of all methods is walked; each of these stands in an
--- actor as written or, where that is a name, in a definition. Assumes what stands in the sections' heads: that each name is defined once,
--- that definitions are well-formed, and that what is written fits.
---     GoodNode, good-says            well-formed trees of one mode, node by node
---     GoodMethods, together-good     the methods of types that are good are
---     good-together                  types are good where their methods are
---     top-good, merged-good          what is walked of an actor, and of the merged one
---     resolved-typed, typed-resolved the resolved actor passes exactly where what is written does
+-- The actor that is walked against the actors as written. With service imports one service of all methods is walked; each method stands in
+-- an actor as written or, where that is a name, in a definition. Assumes what stands in the last section's head: a book that fits, whose
+-- definitions are well-formed and of one mode.
+--     good-says                          well-formed trees of one mode, node by node
+--     together-good, good-together       types that lead to services are good, and so are their methods together
+--     top-parts, merged-parts            what is walked of an actor, and of the merged one
+--     merged-good, resolved-good         the actor that is walked is good exactly if each actor as written is
+--     resolved-typed, typed-resolved     the same in the words of Typed and Rust
 use mathlib.Core.Path.{_≡_, refl, sym, subst}
 use mathlib.Core.Logic.{_↔_, _⊎_, inl, inr, ⊎-elim}
 use mathlib.Core.Bool.{Bool, true, false, cond}
@@ -215,7 +215,7 @@ module _ (b : Book) (fits : Fits b) (formed : WellFormedDefinitions (mainDefinit
       hashed d =
           ⊎-elim inl
           (λ h. let together = merged-together ds (formed .once) main imports (r .service) (r .imported) in
-              inr record { methods = foundMethods ds main imports; together = together; distinct = rw (resolved-methods b (formed .once) h together) at d })
+          inr record { methods = foundMethods ds main imports; together = together; distinct = rw (resolved-methods b (formed .once) h together) at d })
           (none-imported imports)
 
   pub typed-resolved : Typed b → Rust b → Resolved (b .names) ds main imports
