@@ -6,6 +6,7 @@ pub mod Walks
 pub mod Each
 pub mod Decs
 pub mod Classes
+pub mod Methods
 pub mod Fitting
 pub mod Actors
 pub mod Books

@@ -267,7 +267,7 @@ module _ (ds : List Definition) where
 
     service-chase : {t methods : Forest Node} → Serves ds t methods → Functions ds methods → (rows : List MapEntry) →
         chaseService ds (aliasEnd ds t) rows ≡ chaseSites ds (methodSites ds 0 (methodsAt (aliasEnd ds t))) rows
-    unfolding chaseService rootPasses isServKind methodsAt kidsOf
+    unfolding chaseService rootPasses isServKind methodsAt
     service-chase {methods = methods} x fs rows = rw (leads-end ds once (x .leads), x .service) (methods-chase methods fs 0 rows)
 
     -- where an actor is one and its methods are functions

@@ -11,7 +11,7 @@ use Prim.Native.Nat.{ℕ}
 use native.Mathlib.Omega.{arith}
 use lib.Dec.{T}
 use lib.ListN.{length}
-use Rattle.format.specs.Forest.{Forest, end, tree, beside}
+use Rattle.format.specs.Forest.{Forest, end, tree, beside, breadth}
 use Rattle.format.specs.Node.{Kind, PrimT, VarT, OptT, VecT, RecordT, VariantT, FuncT, ServT, ClassT, InitT, FuncMode, Node}
 use Rattle.format.specs.Book.{Definition, Book}
 use Rattle.format.specs.Fits.{Fits}
@@ -31,7 +31,7 @@ use Rattle.judgement.proofs.Heads.{named-var}
 use Rattle.judgement.proofs.Walks.{is-service}
 use Rattle.judgement.proofs.Theorems.{check-says}
 use Rattle.listing.specs.Sites.{typeOf}
-use Rattle.listing.specs.Offers.{Serves, Function, Interface, service, class, Functions}
+use Rattle.listing.specs.Offers.{Serves, Function, Interface, service, class, Functions, functionBreadth}
 use Rattle.judgement.proofs.Classes.{is-class, last-beside, others-beside, beside-last, last-sole}
 
 -- ---- Kinds
@@ -67,6 +67,10 @@ module _ (ds : List Definition) (once : Distinct (map definedName ds)) where
   pub function-end : {t kids : Forest Node} {a : ℕ} (x : Function ds t a kids) → aliasEnd ds t ≡ ends (tree (x .node) kids (x .next))
   function-end x = leads-end ds once (x .leads)
 
+  pub function-breadth : {t kids : Forest Node} {a : ℕ} → Function ds t a kids → functionBreadth (aliasEnd ds t) ≡ breadth kids
+  unfolding functionBreadth isFuncKind
+  function-breadth x = rw (function-end x, x .function)
+
   pub function-unique : {t kids lids : Forest Node} {a c : ℕ} → Function ds t a kids → Function ds t c lids → (a ≡ c) × (kids ≡ lids)
   function-unique {kids = kids} {lids = lids} x y =
       let e : tree (x .node) kids (x .next) ≡ tree (y .node) lids (y .next) = leads-unique ds once (x .leads) (y .leads) in
@@ -76,8 +80,8 @@ module _ (ds : List Definition) (once : Distinct (map definedName ds)) where
       (cc, k)
 
   pub serves-methods : {t methods : Forest Node} → Serves ds t methods → methodsAt (aliasEnd ds t) ≡ methods
-  unfolding methodsAt kidsOf
-  serves-methods x = rw (leads-end ds once (x .leads))
+  unfolding methodsAt isServKind
+  serves-methods x = rw (leads-end ds once (x .leads), x .service)
 
   serves-no-class : {t methods : Forest Node} → Serves ds t methods → isClass t ≡ false
   serves-no-class {methods = methods} x = leads-no-class (x .leads) (service-no-class (x .node) methods (x .next) (x .service))

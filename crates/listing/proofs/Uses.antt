@@ -28,12 +28,13 @@ use Rattle.format.specs.Fits.{Fits}
 use Rattle.format.specs.References.{references}
 use Rattle.format.specs.References as refer
 use Rattle.refusals.specs.declared.Verdict.the-variants.{Passed}
-use Rattle.judgement.specs.Environment.{mainDefinitions, findType, Head, named, other, headKind, head, End, unbound, circle, ends, met, link, chainFrom, chain, aliasEnd, kidsOf, methodsAt}
+use Rattle.judgement.specs.Environment.{mainDefinitions, findType, Head, named, other, headKind, head, End, unbound, circle, ends, met, link, chainFrom, chain, aliasEnd, isServKind, kidsOf, methodsAt}
 use Rattle.judgement.specs.Actor.{isClassKind, isClass, lastTree, allButLast, classArguments, belowClass, resolveActor}
 use Rattle.judgement.specs.Check.{member, check}
 use Rattle.judgement.specs.WellFormed.{definedName, Defined, Leads, arrived, onward, Bound, belowTop}
 use Rattle.judgement.proofs.Chains.{stops, run-end, end-leads}
 use Rattle.judgement.proofs.Heads.{head-refers}
+use Rattle.judgement.proofs.Methods.{methods-keep}
 use Rattle.judgement.proofs.Lookup.{member-says}
 use Rattle.judgement.proofs.Books.{main-definitions-fit}
 use Rattle.judgement.proofs.Theorems.{check-says, check-numbers}
@@ -148,7 +149,7 @@ module _ (ds : List Definition) (P : Forest Node → Type 0) (passes : Inherited
   unfolding methodsAt typeOf
   end-methods (unbound n) p = p
   end-methods circle p = p
-  end-methods (ends t) p = kids-inherit t p
+  end-methods (ends t) p = methods-keep P (passes .none) t (kids-inherit t p)
 
   methods-inherit : (m : ℕ) (f : Forest Node) → P f → EachSite P (methodSites ds m f)
   unfolding methodSites
@@ -491,5 +492,5 @@ defining t = record { name = 0; file = 0; body = t } ∷ []
 -- `type f = func (nat) -> ()`: none; `type f = func (service { m : f }) -> ()`: one, since f is reachable from its own argument
 pub own-name : (usesOf (defining (tree (plain (FuncT 1 [])) (tree (plain (PrimT Nat)) end end) end)) withMethod 0 ≡ [])
     × (usesOf (defining (tree (plain (FuncT 1 [])) withMethod end)) withMethod 0 ≡ record { method = 0; result = 0; index = 0 } ∷ [])
-unfolding usesOf usesAt sites typeOf classSites methodSites endSites kindSites funcSites isListed aliasEnd chain chainFrom link met head headKind findType classArguments belowClass isClass isClassKind kidsOf methodsAt chaseTypes chase arm visit meetName push member
+unfolding usesOf usesAt sites typeOf classSites methodSites endSites kindSites funcSites isListed aliasEnd chain chainFrom link met head headKind findType classArguments belowClass isClass isClassKind isServKind kidsOf methodsAt chaseTypes chase arm visit meetName push member
 own-name = (refl, refl)
