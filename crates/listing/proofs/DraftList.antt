@@ -28,7 +28,7 @@ use Rattle.refusals.proofs.Verdicts.{both-pass, pass-both, which-refused}
 use Rattle.judgement.proofs.Decs.{once-says, once-refused}
 use Rattle.listing.specs.Chase.{Walk, going, unbound, chaseTypes, walked}
 use Rattle.refusals.specs.Outcome.{refused, given, after, fit}
-use Rattle.listing.specs.Room.{needsActor, EachOnce, ShortRow}
+use Rattle.listing.specs.Room.{needsActor, EachOnce, ShortRow, Most}
 use Rattle.listing.specs.DraftList.{draftDefinitions, draftList, DraftRow, draftRows, noActor, twice, short}
 use Rattle.listing.proofs.Leaves.{LeafyBodies, main-leafy, kept-leafy}
 use Rattle.listing.proofs.Chases.{Listed}
@@ -38,7 +38,7 @@ use Rattle.format.proofs.Admission.{asked-row, row-numbers}
 use Rattle.refusals.specs.Refusal.{numberOf}
 use Rattle.format.specs.Admission.{onBytes, admissionRows, InRow, Source}
 use Rattle.refusals.proofs.Outcomes.{given-refused, after-given, after-passed, after-refused, same-refusal}
-use Rattle.listing.proofs.Room.{passed-actor, actor-passed, actor-refused, fit-row, Most, fit-most, bytes-most}
+use Rattle.listing.proofs.Room.{passed-actor, actor-passed, actor-refused, fit-row, fit-most, bytes-most}
 use Rattle.listing.specs.DraftList as rows
 
 module _ (b : Book) (fits : Fits b) where

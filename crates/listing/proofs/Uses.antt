@@ -51,7 +51,7 @@ use Rattle.listing.proofs.Chase.{bound-defined, walk-lists, bound-walk}
 use Rattle.listing.proofs.List.{main-bodies}
 use Rattle.listing.specs.Offers.{Interface, SiteOf, argumentsAndResults}
 use Rattle.listing.proofs.Interface.{named-no-class, passed-once, passed-functions, passed-interface, interface-methods}
-use Rattle.listing.proofs.Room.{answered, actor-given, after-actor, fit-row, check-short, Most, fit-most, bytes-most, passed-actor, check-stops}
+use Rattle.listing.proofs.Room.{answered, actor-given, after-actor, fit-row, check-short, fit-most, bytes-most, passed-actor, check-stops}
 use Rattle.listing.proofs.Sites.{sites-are, methods-listed, sites-say, sites-length}
 use Rattle.format.proofs.Admission.{asked-row, row-numbers}
 use Rattle.refusals.specs.declared.Refusal.{Refusal}
@@ -59,7 +59,7 @@ use Rattle.refusals.specs.Refusal.{numberOf}
 use Rattle.format.specs.Admission.{onBytes, admissionRows, InRow, Source}
 use Rattle.refusals.proofs.Outcomes.{given-refused, after-given, same-given}
 use Rattle.format.proofs.Logic.{same-test}
-use Rattle.listing.specs.Room.{ShortRow, needsActor, AfterCheck}
+use Rattle.listing.specs.Room.{ShortRow, needsActor, AfterCheck, Most}
 use Rattle.refusals.specs.declared.Refusal.the-variants.{Short}
 use Rattle.listing.proofs.Methods.{Slim, methods-few, resolved-slim, results-few}
 use Rattle.refusals.proofs.Verdicts.{both-pass}
