@@ -4,6 +4,7 @@ pub mod Heads
 pub mod Chains
 pub mod Walks
 pub mod Each
+pub mod First
 pub mod Decs
 pub mod Classes
 pub mod Methods

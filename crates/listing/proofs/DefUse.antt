@@ -26,7 +26,7 @@ use Rattle.format.specs.Book.{Definition, Book}
 use Rattle.format.specs.Fits.{Fits}
 use Rattle.format.proofs.Logic.{is-false}
 use Rattle.refusals.specs.declared.Verdict.the-variants.{Passed}
-use Rattle.judgement.specs.Environment.{mainDefinitions, End, ends, aliasEnd, isFuncKind, isServKind, rootPasses, kidsOf, methodsAt}
+use Rattle.judgement.specs.Environment.{mainDefinitions, End, ends, aliasEnd, isFuncKind, isServKind, rootPasses, methodsAt}
 use Rattle.judgement.specs.Environment as environment
 use Rattle.judgement.specs.Actor.{isClass, allButLast, classArguments, belowClass, resolveActor}
 use Rattle.judgement.specs.Check.{member, check}
@@ -41,7 +41,6 @@ use Rattle.refusals.specs.Handed.{Use}
 use Rattle.listing.specs.Sites.{Site, classSites, funcSites, kindSites, endSites, methodSites, typeOf, sites}
 use Rattle.listing.specs.Uses.{isListed, usesAt, usesOf, uses, RowOf}
 use Rattle.listing.specs.DefUse.{MapEntry, usesFor, pushUse, pushUses, DefUse, made, unbound, circle, noService, noFunction, onMade, pushWalk, chaseSites, failed, chaseMethod, chaseMethods, chaseService, chaseActor, chaseDefUse, rowName, FromSite, Mapped, rowFor}
-use Rattle.listing.specs.References.{Reachable}
 use Rattle.refusals.specs.Outcome.{given}
 use Rattle.listing.specs.Offers.{Serves, Function, Interface, Functions}
 use Rattle.listing.proofs.Interface.{function-end, interface-serves, interface-end, none-serves, passed-interface, passed-once, passed-functions}

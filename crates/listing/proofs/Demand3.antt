@@ -15,7 +15,7 @@ use Rattle.refusals.specs.declared.Refusal.the-variants.{Unbound}
 use Rattle.refusals.specs.declared.Verdict.the-variants.{Passed}
 use Rattle.refusals.specs.declared.Answer.{Answer}
 use Rattle.refusals.specs.declared.Answer.the-variants.{Given, Refused}
-use Rattle.refusals.specs.Outcome.{Outcome, refused, given, fit}
+use Rattle.refusals.specs.Outcome.{Outcome, refused, given}
 use Rattle.refusals.specs.Handed.{HandedAs}
 use Rattle.refusals.proofs.Outcomes.{fit-given}
 use Rattle.format.specs.Forest.{Forest, end}

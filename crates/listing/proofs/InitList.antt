@@ -26,7 +26,7 @@ use Rattle.judgement.specs.WellFormed.{definedName, Bound, WellFormed, WellForm
 use Rattle.judgement.proofs.Lookup.{merge-listed, merge-says, merge-distinct}
 use Rattle.judgement.proofs.Theorems.{init-check-says, init-check-row, init-numbers, NoInit, no-init-tree, without-init}
 use Rattle.listing.specs.Chase.{chaseTypes, walked, chase}
-use Rattle.refusals.specs.Outcome.{Outcome, refused, given, after, fit}
+use Rattle.refusals.specs.Outcome.{refused, given, after, fit}
 use Rattle.listing.specs.InitList.{initList, InitAnswers, InitListRow, initListRows, checked, short}
 use Rattle.listing.proofs.Leaves.{LeafyBodies, init-leafy, kept-leafy}
 use Rattle.listing.proofs.Chases.{Listed}

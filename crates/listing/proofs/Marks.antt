@@ -23,7 +23,6 @@ use Rattle.refusals.specs.declared.Refusal.the-variants.{Unbound, Short}
 use Rattle.refusals.specs.declared.Verdict.the-variants.{Passed, Refused}
 use Rattle.judgement.specs.Environment.{mainDefinitions}
 use Rattle.judgement.specs.Check.{check}
-use Rattle.format.specs.Distinct.{Ascends}
 use Rattle.judgement.specs.WellFormed.{Defined, WellFormedDefinitions, definedName}
 use Rattle.judgement.specs.WellFormed as formed
 use Rattle.format.proofs.Distinct.{pigeonhole, ascends-distinct}
