@@ -1,14 +1,20 @@
 -- P1 of document 01, as it is read from its bytes, is a book and a draft as demand 3 speaks of. Assumes nothing.
---     p1-answers, p1-listed, p1-marked    the demand's sentences hold of it; its list is pair and tree, and tree is marked
---     p1-read, p1-admitted, p1-list, p1-marks          its bytes, and what is answered, by computation
---     p1-draft                            they hold of it as a draft
-use mathlib.Core.Path.{_≡_, refl, sym, ap, _∙_}
-use mathlib.Core.List.{[], _∷_, map, List·Memᴰ·head}
+--     p1-answers, p1-listed, p1-marked           the demand's sentences hold of it; its list is pair and tree, and tree is marked
+--     p1-in-three, p1-in-one                     what stands in lent lists of three places and of one
+--     p1-read, p1-admitted, p1-list, p1-marks    its bytes, and what is answered, by computation
+--     p1-draft                                   the sentences hold of it as a draft
+use mathlib.Core.Path.{_≡_, refl, sym, ap, ap₂, _∙_}
+use mathlib.Core.List.{List, [], _∷_, _++_, map, List·Memᴰ·head}
 use Prim.Native.Nat.{ℕ}
 use native.Mathlib.Omega.{arith}
+use lib.ListN.{take-append-drop}
 use Rattle.format.specs.Forest.{end}
 use Rattle.format.specs.Layout.{whole, layout}
-use Rattle.format.specs.Admission.{admittedBy, admitted}
+use Rattle.format.specs.Admission.{admittedBy, admitted, onBytes}
+use Rattle.refusals.specs.declared.Refusal.the-variants.{Short}
+use Rattle.refusals.specs.declared.Answer.{Answer}
+use Rattle.refusals.specs.declared.Answer.the-variants.{Given, Refused}
+use Rattle.refusals.specs.Handed.{HandedAs}
 use Rattle.refusals.specs.declared.Verdict.the-variants.{Passed}
 use Rattle.judgement.specs.Actor.{mainActor, resolveActor}
 use Rattle.judgement.specs.Check.{check}
@@ -20,7 +26,8 @@ use Rattle.listing.specs.List.{list}
 use Rattle.listing.specs.Marks.{marksOver}
 use Rattle.listing.specs.DraftList.{draftDefinitions}
 use Rattle.listing.proofs.Examples.{drafted}
-use Rattle.listing.proofs.Demand3.{Answers, DraftAnswers, sent, sent-draft}
+use Rattle.listing.specs.Demand3.{Answers, DraftAnswers, Delivers, Sent, SentDraft}
+use Rattle.listing.proofs.Demand3.{sent-bytes, sent-draft-bytes}
 use Rattle.samples.specs.Bytes as bytes
 use Rattle.samples.specs.Written.{p1}
 use Rattle.samples.specs.Table.{samples}
@@ -45,8 +52,11 @@ has-actor : resolveActor p1 ≡ end → ⊥
 unfolding marks-computed samples-computed
 has-actor e = let z : _≡_ {A = ℕ} 0 1 = cc in omega arith
 
-pub p1-answers : Answers p1
-p1-answers = sent bytes.p1 p1 p1-admitted passes has-actor
+pub p1-sent : Sent bytes.p1 p1
+p1-sent = sent-bytes bytes.p1 p1 p1-admitted passes has-actor
+
+abbrev pub p1-answers : Answers p1
+p1-answers = p1-sent .answers
 
 pub p1-list : list p1 ≡ given (3 ∷ 6 ∷ [])
 unfolding marks-computed samples-computed
@@ -54,6 +64,16 @@ p1-list = refl
 
 pub p1-listed : p1-answers .listed ≡ 3 ∷ 6 ∷ []
 p1-listed = let e = sym (p1-answers .listGiven .0) ∙ p1-list in cc
+
+-- In three lent places: two names are told, and the third place keeps what it had. In one place two are needed.
+listed-in : Delivers (HandedAs (onBytes list bytes.p1)) 2 (3 ∷ 6 ∷ [])
+listed-in = rw p1-listed at (p1-sent .listSent)
+
+pub p1-in-three : {x y z : ℕ} {new : List ℕ} {r : Answer} → HandedAs (onBytes list bytes.p1) (x ∷ y ∷ z ∷ []) new r → (r ≡ Given 2) × (new ≡ 3 ∷ 6 ∷ z ∷ [])
+p1-in-three {new = new} h = let d = listed-in .enough h (omega arith) in (d .answer, sym (take-append-drop 2 new) ∙ ap₂ _++_ (d .front) (d .rest))
+
+pub p1-in-one : {x : ℕ} {new : List ℕ} {r : Answer} → HandedAs (onBytes list bytes.p1) (x ∷ []) new r → (r ≡ Refused (Short 2)) × (new ≡ x ∷ [])
+p1-in-one h = let k = listed-in .short h (omega arith) in (k .answer, k .same)
 
 pub p1-marks : marksOver p1 (3 ∷ 6 ∷ []) ≡ given (6 ∷ [])
 unfolding marks-computed samples-computed
@@ -71,5 +91,8 @@ once : Distinct (map definedName (draftDefinitions p1))
 unfolding drafted samples-computed
 once = once-says (draftDefinitions p1) .0 refl
 
-pub p1-draft : DraftAnswers p1
-p1-draft = sent-draft bytes.p1 p1 p1-admitted main-actor once
+pub p1-draft-sent : SentDraft bytes.p1 p1
+p1-draft-sent = sent-draft-bytes bytes.p1 p1 p1-admitted main-actor once
+
+abbrev pub p1-draft : DraftAnswers p1
+p1-draft = p1-draft-sent .answers

@@ -11,7 +11,7 @@ use Rattle.refusals.specs.Refusal.{neededOf}
 use Rattle.refusals.specs.Outcome.{Outcome, refused, given}
 use Rattle.refusals.specs.Handed.{answerOf}
 use Rattle.refusals.proofs.Refusals.{needed-short}
-use Rattle.listing.proofs.Room.{Most}
+use Rattle.listing.specs.Room.{Most}
 use Rattle.exports.specs.Coded.{Below}
 
 module _ {A : Type 0} (unit most : ℕ) (less : most < unit) where

@@ -1,11 +1,20 @@
--- Lists without repeats, and lists in order. Definitions; assumes nothing.
-use mathlib.Core.List.{List, [], _∷_, List·Memᴰ}
+-- Lists without repeats, the first repeat of others, and lists in order. Definitions; assumes nothing.
+use mathlib.Core.Path.{_≡_}
+use mathlib.Core.List.{List, [], _∷_, _++_, List·Memᴰ}
 use Prim.Native.Nat.{ℕ, _<_}
 
 -- No element stands twice.
 pub data Distinct {A : Type 0} : List A → Type 0 where
   none : Distinct []
   more : {a : A} {l : List A} → (List·Memᴰ a l → ⊥) → Distinct l → Distinct (a ∷ l)
+
+-- The first element that stands again: it stands before, and before it none stands twice.
+pub record FirstRepeat {A : Type 0} (a : A) (l : List A) : Type 0 where
+  pub before : List A
+  pub following : List A
+  pub parts : l ≡ before ++ (a ∷ following)
+  pub again : List·Memᴰ a before
+  pub none-before : Distinct before
 
 -- Each number is below all after it.
 abbrev pub Ascends : List ℕ → Type 0

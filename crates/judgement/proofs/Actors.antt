@@ -44,6 +44,7 @@ use Rattle.judgement.proofs.Each.{each, each-says, each-refused, Again,
 use Rattle.judgement.proofs.Decs.{found-says}
 use Rattle.judgement.proofs.Fitting.{Fitting, fitting-class, fitting-top, methods-fit, arguments-fit, service-fits}
 use Rattle.judgement.proofs.Meaning.{foundMethods, MainStands, ImportsStand, some-tree, none-stands, merged-below}
+use Rattle.judgement.proofs.Methods.{methods-keep}
 
 -- ---- 14: methods of the same hash
 hashes-repeats : (names : List (List ℕ)) (seen : List ℕ) (f : Forest Node) → hashesVerdict names seen f ≡ repeats (hashOf names) SameHash seen (methodNames f)
@@ -243,11 +244,14 @@ module _ (ds : List Definition) (main : Forest Node) (imports : List File) where
 
 module _ (names : ℕ) (ds : List Definition) (once : Distinct (map definedName ds)) (fits : (d : Definition) → List·Memᴰ d ds → Fitting names (d .body)) where
   methods-of-fit : (t : Forest Node) → Fitting names t → StandsFor isServKind ds t → T (forestFits names Method (methodsOf ds t))
-  unfolding methodsOf methodsAt
-  methods-of-fit t x s = rw (leads-end ds once (s .leads)) (methods-fit names (s .type) (s .root) (leads-keeps ds (Fitting names) fits (s .leads) x))
+  unfolding methodsOf forestFits
+  methods-of-fit t x s =
+      rw (leads-end ds once (s .leads))
+      (methods-keep (λ (f : Forest Node). T (forestFits names Method f)) tt (s .type)
+      (methods-fit names (s .type) (s .root) (leads-keeps ds (Fitting names) fits (s .leads) x)))
 
   no-methods : T (forestFits names Method (methodsOf ds (belowClass end)))
-  unfolding methodsOf methodsAt belowClass isClass kidsOf head forestFits
+  unfolding methodsOf methodsAt belowClass isClass head forestFits
   no-methods = rw (leads-end ds once (arrived {t = end} refl)) tt
 
   main-fits : (main : Forest Node) → Fitting names main → MainStands ds main →

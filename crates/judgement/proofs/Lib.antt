@@ -4,8 +4,10 @@ pub mod Heads
 pub mod Chains
 pub mod Walks
 pub mod Each
+pub mod First
 pub mod Decs
 pub mod Classes
+pub mod Methods
 pub mod Meaning
 pub mod Fitting
 pub mod Actors

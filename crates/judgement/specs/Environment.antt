@@ -141,15 +141,16 @@ asFunc ds t = rootPasses isFuncKind (aliasEnd ds t)
 unfoldable pub asService : List Definition → Forest Node → Bool
 asService ds t = rootPasses isServKind (aliasEnd ds t)
 
--- The methods of a service at a chain's end; none where there is no service.
 unfoldable pub kidsOf : Forest Node → Forest Node
 kidsOf end = end
 kidsOf (tree n kids next) = kids
 
+-- The methods of a service at a chain's end; none where there is no service.
 unfoldable pub methodsAt : End → Forest Node
 methodsAt (unbound n) = end
 methodsAt circle = end
-methodsAt (ends t) = kidsOf t
+methodsAt (ends end) = end
+methodsAt (ends (tree n kids next)) = cond (isServKind (n .kind)) kids end
 
 -- ---- `merge`: two types are the same as stored. Labels of records and variants compare by number, methods by name.
 -- Kinds compare by their numbers and values: a name's number, a function's argument count and modes.

@@ -27,7 +27,8 @@ use Rattle.samples.specs.Notation.{spelled}
 use Rattle.samples.specs.Notation as notation
 use Rattle.samples.specs.Written.{p1}
 use Rattle.examples.proofs.P1.{p1-read, p1-list, p1-marks}
-use Rattle.listing.proofs.Demand3.{Answers, asked as sent-on, sent}
+use Rattle.listing.specs.Demand3.{Answers}
+use Rattle.listing.proofs.Demand3.{asked as sent-on, sent}
 use Rattle.print.specs.Ascii.{ascii}
 use Rattle.print.specs.Decimal.{digit, digits, decimal}
 use Rattle.print.specs.Quoted.{plain, escape, escapes, quoted}

@@ -5,7 +5,7 @@
 --     row-found, key-says            reading a map
 --     sites-come                     over the sites a map is made, and each row is what `usesAt` gives
 --     actor-chase                    the Rust goes through the sites, where an actor is one and its methods are functions
---     Mapped, mapped-is              what the map is, and that there is one such
+--     mapped-is                      there is one such map
 --     sites-made, def-use-made       it is made of every book that fits and passes
 --     def-use-answers                its rows are the answers
 --     def-use-whole                  all of it
@@ -26,7 +26,7 @@ use Rattle.format.specs.Book.{Definition, Book}
 use Rattle.format.specs.Fits.{Fits}
 use Rattle.format.proofs.Logic.{is-false}
 use Rattle.refusals.specs.declared.Verdict.the-variants.{Passed}
-use Rattle.judgement.specs.Environment.{mainDefinitions, End, ends, aliasEnd, isFuncKind, isServKind, rootPasses, kidsOf, methodsAt}
+use Rattle.judgement.specs.Environment.{mainDefinitions, End, ends, aliasEnd, isFuncKind, isServKind, rootPasses, methodsAt}
 use Rattle.judgement.specs.Environment as environment
 use Rattle.judgement.specs.Actor.{isClass, allButLast, classArguments, belowClass, resolveActor}
 use Rattle.judgement.specs.Check.{member, check}
@@ -41,16 +41,12 @@ use Rattle.listing.specs.Chase.{push, arm, chase, meetName, visit, chase
 use Rattle.refusals.specs.Handed.{Use}
 use Rattle.listing.specs.Sites.{Site, classSites, funcSites, kindSites, endSites, methodSites, typeOf, sites}
 use Rattle.listing.specs.Uses.{isListed, usesAt, usesOf, uses, RowOf}
-use Rattle.listing.specs.DefUse.{MapEntry, usesFor, pushUse, pushUses, DefUse, made, unbound, circle, noService, noFunction, onMade, pushWalk, chaseSites, failed, chaseMethod, chaseMethods, chaseService, chaseActor, chaseDefUse}
-use Rattle.listing.specs.References.{Reachable}
+use Rattle.listing.specs.DefUse.{MapEntry, usesFor, pushUse, pushUses, DefUse, made, unbound, circle, noService, noFunction, onMade, pushWalk, chaseSites, failed, chaseMethod, chaseMethods, chaseService, chaseActor, chaseDefUse, rowName, FromSite, Mapped, rowFor}
 use Rattle.refusals.specs.Outcome.{given}
 use Rattle.listing.specs.Offers.{Function, Interface, Functions}
 use Rattle.listing.proofs.Interface.{function-end, interface-serves, interface-end, none-serves, passed-interface, passed-once, passed-functions}
 use Rattle.listing.proofs.Examples.{fitting, checked, plain, name, type, book}
 use Rattle.listing.proofs.Uses.{EachSite, row-says, WalkListed, listed-lists, uses-row, passed-listed, uses-answered}
-
-abbrev pub rowName : MapEntry → ℕ
-rowName r = r .name
 
 -- A name that is no key has no uses.
 absent-none : (n : ℕ) (rows : List MapEntry) → (List·Memᴰ n (map rowName rows) → ⊥) → usesFor n rows ≡ []
@@ -268,7 +264,7 @@ module _ (ds : List Definition) where
 
     service-chase : {t methods : Forest Node} → Serves ds t methods → Functions ds methods → (rows : List MapEntry) →
         chaseService ds (aliasEnd ds t) rows ≡ chaseSites ds (methodSites ds 0 (methodsAt (aliasEnd ds t))) rows
-    unfolding chaseService rootPasses isServKind methodsAt kidsOf
+    unfolding chaseService rootPasses isServKind methodsAt
     service-chase {methods = methods} x fs rows = rw (leads-end ds once (x .leads), x .service) (methods-chase methods fs 0 rows)
 
     -- where an actor is one and its methods are functions
@@ -287,20 +283,6 @@ module _ (ds : List Definition) where
             ∙ sym (sites-append class (methodSites ds 0 (methodsAt (aliasEnd ds (belowClass t)))) [])
 
 -- ---- What the map is
-
--- A name that is reachable from an argument or a result.
-abbrev pub FromSite : List Definition → Forest Node → ℕ → Type 0
-FromSite ds actor n = (s : Site) × List·Memᴰ s (sites ds actor) × Reachable ds (s .type) n
-
--- Its names ascend and are just those reachable from a site, and the row of each is what `usesOf` gives, which has none for any other name.
-pub record Mapped (ds : List Definition) (actor : Forest Node) (rows : List MapEntry) : Type 0 where
-  pub ascends : Ascends (map rowName rows)
-  pub keys : (n : ℕ) → List·Memᴰ n (map rowName rows) ↔ FromSite ds actor n
-  pub row : (n : ℕ) → usesFor n rows ≡ usesOf ds actor n
-  pub own : (r : MapEntry) → List·Memᴰ r rows → r .uses ≡ usesOf ds actor (r .name)
-
-abbrev pub rowFor : List Definition → Forest Node → ℕ → MapEntry
-rowFor ds actor n = record { name = n; uses = usesOf ds actor n }
 
 module _ (ds : List Definition) (actor : Forest Node) where
   own-rows : (rows : List MapEntry) → ((r : MapEntry) → List·Memᴰ r rows → r .uses ≡ usesOf ds actor (r .name)) → rows ≡ map (rowFor ds actor) (map rowName rows)

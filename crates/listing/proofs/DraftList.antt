@@ -1,13 +1,17 @@
 -- The draft list of a book: what it answers, and what it refuses. Assumes that the book fits, as one that was read from bytes does.
 --     draft-says, draft-stops, draft-lost  a draft is listed, or stops at a name without definition
 --     draft-either, draft-actor, ..        all that it answers
+--     draft-refuses                        what is refused before 16, exactly and in its order
 --     draft-in-row, draft-numbers          a refusal lies in its row; the rows that there are
+--     draft-row-refused, draft-row-short   where a row holds, the draft is refused
 --     draft-few, draft-most                no more entries than so many
 --     draft-bytes-in-row, ..               all on bytes
 use mathlib.Core.Path.{_≡_, refl, sym, ap, _∙_, subst}
 use mathlib.Core.Logic.{_↔_, _⊎_, inl, inr, ⊎-elim}
 use mathlib.Core.List.{List, [], map, List·Memᴰ, _++_, List·Memᴰ·head, List·Memᴰ·tail}
 use Prim.Native.Nat.{ℕ, _+_, _≤_}
+use native.Mathlib.Omega.{arith}
+use borrow.Author.Tests.{lt-leb}
 use lib.ListN.{length}
 use Rattle.format.specs.Forest.{end}
 use Rattle.format.specs.Book.{Definition, Book}
@@ -15,7 +19,7 @@ use Rattle.format.specs.Fits.{maxDefinitions, Fits}
 use Rattle.format.specs.References.{references}
 use Rattle.format.specs.Rules.{noTrees}
 use Rattle.refusals.specs.declared.Refusal.{Refusal}
-use Rattle.refusals.specs.declared.Refusal.the-variants.{Unbound, Twice, NoActor, Short}
+use Rattle.refusals.specs.declared.Refusal.the-variants.{Unbound, NoActor, Short}
 use Rattle.refusals.specs.declared.Verdict.{Verdict}
 use Rattle.refusals.specs.declared.Verdict.the-variants.{Passed, Refused}
 use Rattle.refusals.specs.Verdict.{andThen}
@@ -23,22 +27,22 @@ use Rattle.judgement.specs.Actor.{mainActor}
 use Rattle.judgement.specs.Check.{onceVerdict}
 use Rattle.format.specs.Distinct.{Distinct}
 use Rattle.judgement.specs.WellFormed.{definedName}
-use Rattle.judgement.specs.Rows.{Repeated}
 use Rattle.refusals.proofs.Verdicts.{both-pass, pass-both, which-refused}
 use Rattle.judgement.proofs.Decs.{once-says, once-refused}
+use Rattle.judgement.proofs.First.{once-first, repeated-distinct}
 use Rattle.listing.specs.Chase.{Walk, going, unbound, chaseTypes, walked}
 use Rattle.refusals.specs.Outcome.{refused, given, after, fit}
-use Rattle.listing.specs.Room.{needsActor, EachOnce, ShortRow}
-use Rattle.listing.specs.DraftList.{draftDefinitions, draftList, DraftRow, draftRows, noActor, twice, short}
+use Rattle.listing.specs.Room.{needsActor, EachOnce, ShortRow, Most}
+use Rattle.listing.specs.DraftList.{draftDefinitions, draftList, DraftRefuses, lacksActor, definesAgain, missesName, DraftRow, draftRows, noActor, twice, short}
 use Rattle.listing.proofs.Leaves.{LeafyBodies, main-leafy, kept-leafy}
-use Rattle.listing.proofs.Chases.{Listed}
-use Rattle.listing.specs.References.{Lost, Misses, Reachable}
+use Rattle.listing.proofs.Chases.{Listed, misses-lost}
+use Rattle.listing.specs.References.{Lost, Misses, Reachable, direct}
 use Rattle.listing.proofs.Chase.{walk-lost, lost-says, Answered, going-answered, kept-few, listed-once, walked-listed, walked-missed, walked-refused, answered-few}
 use Rattle.format.proofs.Admission.{asked-row, row-numbers}
 use Rattle.refusals.specs.Refusal.{numberOf}
 use Rattle.format.specs.Admission.{onBytes, admissionRows, InRow, Source}
-use Rattle.refusals.proofs.Outcomes.{given-refused, after-given, after-passed, after-refused, same-refusal}
-use Rattle.listing.proofs.Room.{passed-actor, actor-passed, actor-refused, fit-row, Most, fit-most, bytes-most}
+use Rattle.refusals.proofs.Outcomes.{given-refused, after-given, after-passed, after-refused, after-stops, same-refusal}
+use Rattle.listing.proofs.Room.{passed-actor, actor-passed, actor-refused, fit-row, fit-most, bytes-most}
 use Rattle.listing.specs.DraftList as rows
 
 module _ (b : Book) (fits : Fits b) where
@@ -56,14 +60,6 @@ module _ (b : Book) (fits : Fits b) where
   pub draft-actor : mainActor b ≡ end → draftList b ≡ refused NoActor
   unfolding draftList needsActor noTrees after
   draft-actor e = rw e
-
-  pub draft-twice : (mainActor b ≡ end → ⊥) → (Distinct (map definedName draft) → ⊥) → (n : ℕ) × (draftList b ≡ refused (Twice n)) × Repeated n (map definedName draft)
-  unfolding draftList after
-  draft-twice some again = go (onceVerdict [] draft) refl
-    where
-      go : (v : Verdict) → onceVerdict [] draft ≡ v → (n : ℕ) × (draftList b ≡ refused (Twice n)) × Repeated n (map definedName draft)
-      go Passed e = absurd (again (once-says draft .0 e))
-      go (Refused r) e = let x = once-refused draft e in (x .0, rw (actor-passed (mainActor b) some, e) (ap refused (x .1)), x .2)
 
   module _ (some : mainActor b ≡ end → ⊥) (once : Distinct (map definedName draft)) where
     draft-walk : draftList b ≡ walked (chaseTypes draft (mainActor b))
@@ -104,29 +100,72 @@ module _ (b : Book) (fits : Fits b) where
       let p = both-pass (needsActor (mainActor b)) (onceVerdict [] draft) e in
       (passed-actor (mainActor b) (p .0), once-says draft .0 (p .1))
 
-  pub draft-in-row : (places : ℕ) {r : Refusal} → fit places (draftList b) ≡ refused r → DraftRow b places r
+  -- It is refused exactly so, in this order.
+  pub draft-refuses : (r : Refusal) → (draftList b ≡ refused r) ↔ DraftRefuses b r
   unfolding draftList
-  draft-in-row places = fit-row places (draftList b) _ (DraftRow b places) own result (λ k x. short x)
+  draft-refuses r = (there, back)
     where
-      own : (r : Refusal) → draftList b ≡ refused r → DraftRow b places r
-      own r e =
+      there : draftList b ≡ refused r → DraftRefuses b r
+      there e =
           elim (after-refused draft-verdict _ e) [
             | inl h ↦ elim (which-refused (needsActor (mainActor b)) (onceVerdict [] draft) h) [
-              | inl k ↦ let x = actor-refused (mainActor b) k in subst (DraftRow b places) (x .1) (noActor (x .0))
-              | inr k ↦ let x = once-refused draft (k .1) in subst (DraftRow b places) (sym (x .1)) (twice (x .2))
+              | inl k ↦ let x = actor-refused (mainActor b) k in subst (DraftRefuses b) (x .1) (lacksActor (x .0))
+              | inr k ↦
+                  let x = once-first draft .0 (k .1) in
+                  subst (DraftRefuses b) (sym (x .1)) (definesAgain (passed-actor (mainActor b) (k .0)) (x .2))
             ]
             | inr h ↦
                 let p = draft-begun (h .0) in
                 elim (draft-either (p .0) (p .1)) [
-                  | inl x ↦ subst (DraftRow b places) (same-refusal (sym (x .1) ∙ e)) (rows.unbound (x .2))
+                  | inl x ↦
+                      subst (DraftRefuses b) (same-refusal (sym (x .1) ∙ e)) (missesName (p .0) (p .1) (draft-stops (p .0) (p .1) (x .0) .0 (x .1)))
                   | inr x ↦ given-refused (sym e ∙ x .answer)
                 ]
           ]
 
+      back : {s : Refusal} → DraftRefuses b s → draftList b ≡ refused s
+      back (lacksActor e) = draft-actor e
+      back (definesAgain {n = n} some x) =
+          after-stops draft-verdict _ (rw (actor-passed (mainActor b) some) (once-first draft .1 (n, refl, x)))
+      back (missesName {n = n} some once x) = draft-stops some once n .1 x
+
+  -- ---- The rows
+
+  -- a draft is refused at once, or it has an actor and defines no name twice
+  draft-starts : ((r : Refusal) × (draftList b ≡ refused r)) ⊎ ((mainActor b ≡ end → ⊥) × Distinct (map definedName draft))
+  unfolding draftList
+  draft-starts = go draft-verdict refl
+    where
+      go : (v : Verdict) → draft-verdict ≡ v → ((r : Refusal) × (draftList b ≡ refused r)) ⊎ ((mainActor b ≡ end → ⊥) × Distinct (map definedName draft))
+      go Passed e = inr (draft-begun e)
+      go (Refused r) e = inl (r, after-stops draft-verdict _ e)
+
+  -- What is refused lies in its row.
+  pub refuses-in-row : (places : ℕ) {r : Refusal} → DraftRefuses b r → DraftRow b places r
+  refuses-in-row places (lacksActor e) = noActor e
+  refuses-in-row places (definesAgain {n = n} some x) =
+      let y = once-refused draft (once-first draft .1 (n, refl, x)) in
+      subst (DraftRow b places) (sym (y .1)) (twice (y .2))
+  refuses-in-row places (missesName some once x) = rows.unbound (misses-lost draft (mainActor b) x (λ m i. direct i))
+
+  pub draft-in-row : (places : ℕ) {r : Refusal} → fit places (draftList b) ≡ refused r → DraftRow b places r
+  draft-in-row places = fit-row places (draftList b) _ (DraftRow b places) (λ r e. refuses-in-row places (draft-refuses r .0 e)) result (λ k x. short x)
+    where
       result : (l : List ℕ) → draftList b ≡ given l → EachOnce (Reachable draft (mainActor b)) l
-      result l e =
-          let p = draft-begun (after-given draft-verdict _ e .0) in
-          listed-once (draft-says (p .0) (p .1) l .0 e .1)
+      result l e = ⊎-elim (λ x. given-refused (sym (x .1) ∙ e)) (λ p. listed-once (draft-says (p .0) (p .1) l .0 e .1)) draft-starts
+
+  -- And where a row holds, the draft is refused: with 16 for row 16, and before that for any other.
+  pub draft-row-refused : {places : ℕ} {r : Refusal} → DraftRow b places r → ((k : ℕ) → r ≡ Short k → ⊥) → (s : Refusal) × (draftList b ≡ refused s)
+  draft-row-refused (noActor e) h = (NoActor, draft-actor e)
+  draft-row-refused (twice x) h = ⊎-elim (λ y. y) (λ p. absurd (repeated-distinct x (p .1))) draft-starts
+  draft-row-refused (rows.unbound {n = n} x) h =
+      ⊎-elim (λ y. y) (λ p. let q = draft-lost (p .0) (p .1) .1 (n, x) in (Unbound (q .0), q .1)) draft-starts
+  draft-row-refused (short {k = k} x) h = absurd (h k refl)
+
+  pub draft-row-short : {places k : ℕ} → DraftRow b places (Short k) → fit places (draftList b) ≡ refused (Short k)
+  unfolding fit
+  draft-row-short {places} (short x) =
+      rw (x .is-given, lt-leb (length (x .entries)) places (omega (arith, x .needed, x .short))) (ap (λ (k : ℕ). refused (Short k)) (x .needed))
 
 -- The rows that there are.
 pub draft-numbers : {b : Book} {places : ℕ} {r : Refusal} → DraftRow b places r → List·Memᴰ (numberOf r) draftRows

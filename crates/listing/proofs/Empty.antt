@@ -37,9 +37,9 @@ use Rattle.judgement.specs.Check.{check}
 use Rattle.judgement.proofs.Theorems.{check-says, check-row, check-numbers}
 use Rattle.format.specs.Admission.{onBytes, admissionRows, InRow, Source}
 use Rattle.refusals.specs.Outcome.{Outcome, refused, given, fit}
-use Rattle.listing.specs.Room.{EachOnce, ShortRow, AfterCheck}
+use Rattle.listing.specs.Room.{EachOnce, ShortRow, AfterCheck, Most}
 use Rattle.refusals.proofs.Outcomes.{given-refused, after-given, after-refused, same-given, after-stops}
-use Rattle.listing.proofs.Room.{fit-row, check-short, Most, fit-most, bytes-most}
+use Rattle.listing.proofs.Room.{fit-row, check-short, fit-most, bytes-most}
 use Rattle.refusals.specs.declared.Refusal.the-variants.{Short}
 use Rattle.listing.proofs.List.{main-few}
 

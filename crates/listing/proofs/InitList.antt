@@ -1,6 +1,6 @@
 -- The init list of a book: what it answers, and what it refuses. Assumes that the book fits, as one that was read from bytes does.
 --     init-answered, init-says               a book that passes the init check
---     InitAnswers, init-answers, ..          .. in demand 3's words, also on bytes
+--     init-answers, init-answers-bytes       .. in demand 3's words, also on bytes
 --     init-refused, init-list-none           any other; one without an init file
 --     init-list-in-row, init-list-numbers    a refusal lies in its row; the rows that there are
 --     init-list-few, init-list-most          no more entries than so many
@@ -27,8 +27,8 @@ use Rattle.judgement.specs.WellFormed.{definedName, Bound, Typed, TypedInit}
 use Rattle.judgement.proofs.Lookup.{merge-listed, merge-says, merge-distinct}
 use Rattle.judgement.proofs.Theorems.{init-check-says, init-check-row, init-numbers, no-init-tree, without-init}
 use Rattle.listing.specs.Chase.{chaseTypes, walked, chase}
-use Rattle.refusals.specs.Outcome.{Outcome, refused, given, after, fit}
-use Rattle.listing.specs.InitList.{initList, InitListRow, initListRows, checked, short}
+use Rattle.refusals.specs.Outcome.{refused, given, after, fit}
+use Rattle.listing.specs.InitList.{initList, InitAnswers, InitListRow, initListRows, checked, short}
 use Rattle.listing.proofs.Leaves.{LeafyBodies, init-leafy, kept-leafy}
 use Rattle.listing.proofs.Chases.{Listed}
 use Rattle.listing.proofs.Chase.{Answered, bound-answered, keep-few, listed-once, walked-listed, answered-few}
@@ -36,10 +36,11 @@ use Rattle.format.proofs.Admission.{admitted-fits, asked-row, row-numbers, aske
 use Rattle.refusals.specs.Refusal.{numberOf}
 use Rattle.format.specs.Admission.{admitted, onBytes, admissionRows, InRow, Source}
 use Rattle.refusals.proofs.Outcomes.{given-refused, after-given, after-passed, after-refused, after-stops}
-use Rattle.listing.proofs.Room.{fit-row, init-short, Most, fit-most, bytes-most}
+use Rattle.listing.proofs.Room.{fit-row, init-short, fit-most, bytes-most}
 use Rattle.listing.proofs.List.{main-bodies}
-use Rattle.listing.proofs.Demand3.{Gives, Lists, gives, lists-all}
-use Rattle.listing.specs.Room.{ShortRow, EachOnce, AfterCheck}
+use Rattle.listing.proofs.Delivered.{gives}
+use Rattle.listing.proofs.Demand3.{lists-all}
+use Rattle.listing.specs.Room.{ShortRow, EachOnce, AfterCheck, Most}
 use Rattle.refusals.specs.declared.Refusal.the-variants.{Short}
 use Rattle.listing.specs.References.{Reachable}
 
@@ -140,14 +141,7 @@ module _ (bs : Source) (places : ℕ) {r : Refusal} (e : fit places (onBytes ini
 pub init-list-bytes-most : (bs : Source) (places : ℕ) → Most 512 (fit places (onBytes initList bs))
 init-list-bytes-most bs places = bytes-most 512 places initList (λ b fits. init-list-most b fits places) bs
 
--- ---- The init list of a book that passes the init check: never refused in places enough, and of what the init arguments reach
-pub record InitAnswers (b : Book) (answer : Outcome (List ℕ)) : Type 0 where
-  pub listed : List ℕ
-  pub listGiven : Gives answer listed
-  pub lists : Lists (mergeDefinitions (initDefinitions b) (mainDefinitions b)) (kidsOf (initTree (b .files))) listed
-  -- a length that is always enough
-  pub listEnough : length listed ≤ 512
-
+-- ---- In demand 3's words
 pub init-answers : (b : Book) → Fits b → initCheck b ≡ Passed → InitAnswers b (initList b)
 init-answers b fits passed =
     let a = init-answered b fits passed in

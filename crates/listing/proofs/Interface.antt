@@ -10,7 +10,7 @@ use mathlib.Core.List.{List, map, List·Memᴰ}
 use Prim.Native.Nat.{ℕ}
 use lib.Dec.{T}
 use lib.ListN.{length}
-use Rattle.format.specs.Forest.{Forest, end, tree}
+use Rattle.format.specs.Forest.{Forest, end, tree, beside, breadth}
 use Rattle.format.specs.Node.{Kind, PrimT, VarT, OptT, VecT, RecordT, VariantT, FuncT, ServT, ClassT, InitT, FuncMode, Node}
 use Rattle.format.specs.Book.{Definition, Book}
 use Rattle.format.specs.Fits.{Fits}
@@ -31,7 +31,7 @@ use Rattle.judgement.proofs.Chains.{leads-end, leads-unique, leads-keeps, root-
 use Rattle.judgement.proofs.Meaning.{serves-stands, stands-serves, none-stands, stands-no-class, serves-methods}
 use Rattle.judgement.proofs.Theorems.{check-says, actor-trees}
 use Rattle.listing.specs.Sites.{typeOf}
-use Rattle.listing.specs.Offers.{Function, Interface, service, class, Functions}
+use Rattle.listing.specs.Offers.{Function, Interface, service, class, Functions, functionBreadth}
 use Rattle.judgement.proofs.Classes.{is-class, last-beside, others-beside, beside-last, last-sole}
 
 -- ---- Kinds
@@ -52,6 +52,10 @@ is-function InitT t = absurd t
 module _ (ds : List Definition) (once : Distinct (map definedName ds)) where
   pub function-end : {t kids : Forest Node} {a : ℕ} (x : Function ds t a kids) → aliasEnd ds t ≡ ends (tree (x .node) kids (x .next))
   function-end x = leads-end ds once (x .leads)
+
+  pub function-breadth : {t kids : Forest Node} {a : ℕ} → Function ds t a kids → functionBreadth (aliasEnd ds t) ≡ breadth kids
+  unfolding functionBreadth isFuncKind
+  function-breadth x = rw (function-end x, x .function)
 
   pub function-unique : {t kids lids : Forest Node} {a c : ℕ} → Function ds t a kids → Function ds t c lids → (a ≡ c) × (kids ≡ lids)
   function-unique {kids = kids} {lids = lids} x y =

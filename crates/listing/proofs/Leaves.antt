@@ -23,6 +23,7 @@ use Rattle.judgement.specs.Actor.{isClass, lastTree, allButLast, classArguments
 use Rattle.judgement.proofs.Lookup.{keep-says}
 use Rattle.judgement.proofs.Chains.{end-leads, leads-keeps}
 use Rattle.judgement.proofs.Fitting.{Fitting}
+use Rattle.judgement.proofs.Methods.{methods-keep}
 use Rattle.judgement.proofs.Books.{main-definitions-fit, init-definitions-fit, main-actor-fits, imports-fit, init-tree-fits}
 use Rattle.listing.specs.Chase.{Walk, arm, chase}
 
@@ -152,7 +153,7 @@ module _ (ds : List Definition) (bodies : LeafyBodies ds) where
       go : (e : End) → aliasEnd ds t ≡ e → Leafy (methodsAt e)
       go (unbound n) q = tt
       go circle q = tt
-      go (ends u) q = kids-leafy u (leads-keeps ds Leafy bodies (end-leads ds t u q) h)
+      go (ends u) q = methods-keep Leafy tt u (kids-leafy u (leads-keeps ds Leafy bodies (end-leads ds t u q) h))
 
   imported-leafy : (fs : List File) → ((f : File) → List·Memᴰ f fs → Leafy (f .actor)) → Leafy (importedMethods ds fs)
   unfolding importedMethods methodsOf

@@ -10,6 +10,7 @@ pub mod Interface
 pub mod Sites
 pub mod Methods
 pub mod Room
+pub mod Delivered
 pub mod List
 pub mod InitList
 pub mod DraftList

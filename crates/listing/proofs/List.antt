@@ -32,7 +32,7 @@ use Rattle.judgement.specs.WellFormed.{Bound, belowTop}
 use Rattle.judgement.proofs.Theorems.{check-says, actor-trees, check-numbers}
 use Rattle.listing.specs.Chase.{chaseTypes, walked}
 use Rattle.refusals.specs.Outcome.{refused, given, after, fit}
-use Rattle.listing.specs.Room.{needsActor, ShortRow, EachOnce, AfterCheck}
+use Rattle.listing.specs.Room.{needsActor, ShortRow, EachOnce, AfterCheck, Most}
 use Rattle.listing.specs.List.{list, ListRow, listRows, checked, noActor, short}
 use Rattle.listing.proofs.Leaves.{LeafyBodies, kept-leafy, resolved-leafy}
 use Rattle.listing.proofs.Chases.{Listed}
@@ -41,7 +41,7 @@ use Rattle.format.proofs.Admission.{asked-row, row-numbers}
 use Rattle.refusals.specs.Refusal.{numberOf}
 use Rattle.format.specs.Admission.{onBytes, admissionRows, InRow, Source}
 use Rattle.refusals.proofs.Outcomes.{given-refused, after-given}
-use Rattle.listing.proofs.Room.{answered, actor-given, after-actor, fit-row, check-short, Most, fit-most, bytes-most, check-stops}
+use Rattle.listing.proofs.Room.{answered, actor-given, after-actor, fit-row, check-short, fit-most, bytes-most, check-stops}
 use Rattle.listing.specs.References.{Reachable}
 
 -- ---- The definitions of a book

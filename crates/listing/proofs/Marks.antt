@@ -1,6 +1,5 @@
 -- The marks over a list of names: what is marked, and what is refused. Assumes that each name is defined once and that leaves have no
 -- children, as in a book that fits and passes the check; and where it says so, that a walk has listed the names.
---     MarksOver, MarkedIn, MarksIn        what the marks are, in terms of references alone
 --     marked-listed, marked-on-circle,
 --     circle-has-marked                   the marks over what a walk lists, and circles of references
 --     marks-given, marks-unbound, ..      the question on a book
@@ -24,7 +23,6 @@ use Rattle.refusals.specs.declared.Refusal.the-variants.{Unbound, Short}
 use Rattle.refusals.specs.declared.Verdict.the-variants.{Passed, Refused}
 use Rattle.judgement.specs.Environment.{mainDefinitions}
 use Rattle.judgement.specs.Check.{check}
-use Rattle.format.specs.Distinct.{Ascends}
 use Rattle.judgement.specs.WellFormed.{Defined, WellFormedDefinitions, definedName}
 use Rattle.judgement.specs.WellFormed as formed
 use Rattle.format.proofs.Distinct.{pigeonhole, ascends-distinct}
@@ -32,42 +30,22 @@ use Rattle.judgement.proofs.Books.{main-definitions-fit}
 use Rattle.judgement.proofs.Theorems.{check-says, check-numbers}
 use Rattle.listing.specs.Recursive.{Marks, marking, unbound, listed, inferRec, sorted}
 use Rattle.refusals.specs.Outcome.{refused, given, after, fit}
-use Rattle.listing.specs.Marks.{marked, marksOver, AtPlace, MarkedBy, AllDefined, FirstUnbound, MarksRow, marksRows, checked, short}
+use Rattle.listing.specs.Marks.{marked, marksOver, AtPlace, MarkedBy, MarksOver, AllDefined, FirstUnbound, MarksRow, marksRows, checked, short}
 use Rattle.listing.specs.References.{Refers, onward, Way, last, step, Circle}
+use Rattle.listing.specs.Demand3.{Earlier, MarkedIn, Marked}
 use Rattle.listing.proofs.Leaves.{LeafyBodies, kept-leafy}
-use Rattle.listing.proofs.Places.{place, place-in, place-left, place-right, place-seam}
+use Rattle.listing.proofs.Places.{place, place-in, place-left, place-right, place-seam, earlier-one, earlier-place, place-earlier}
 use Rattle.listing.proofs.Chases.{Listed}
 use Rattle.format.proofs.Admission.{asked-row, row-numbers}
 use Rattle.refusals.specs.Refusal.{numberOf}
 use Rattle.format.specs.Admission.{onBytes, admissionRows, InRow, Source}
 use Rattle.listing.specs.Chase.{walked}
-use Rattle.listing.specs.Room.{EachOnce, ShortRow, AfterCheck}
+use Rattle.listing.specs.Room.{EachOnce, ShortRow, AfterCheck, Most}
 use Rattle.refusals.proofs.Outcomes.{given-refused, after-given, same-given, same-refusal, after-stops}
-use Rattle.listing.proofs.Room.{after-check, fit-row, check-short, Most, fit-most, bytes-most}
+use Rattle.listing.proofs.Room.{after-check, fit-row, check-short, fit-most, bytes-most}
 use Rattle.listing.proofs.Recursive.{defined-or-first, infer-marks, neither, infer-unbound, place-first, place-later, place-map, sorted-ascends, sorted-says}
 use Rattle.listing.specs.Marks as rows
 use Rattle.listing.proofs.List.{main-few}
-
--- ---- Any list of names, in any order and with repeats
-
--- These are the marks, ascending.
-pub record MarksOver (ds : List Definition) (l marks : List ℕ) : Type 0 where
-  pub exact : (n : ℕ) → List·Memᴰ n marks ↔ MarkedBy ds l n
-  pub ascends : Ascends marks
-
--- ---- What a walk lists
-
--- A listed name refers to itself, or one that is listed before it refers to it.
-pub record MarkedIn (ds : List Definition) (out : List ℕ) (n : ℕ) : Type 0 where
-  pub within : List·Memᴰ n out
-  pub reason : Refers ds n n ⊎ ((u : ℕ) × List·Memᴰ u out × (place out u < place out n) × Refers ds u n)
-
--- These are the marks, ascending. Each lies on a circle of references, and each circle of which a name is listed has one.
-pub record MarksIn (ds : List Definition) (out marks : List ℕ) : Type 0 where
-  pub exact : (n : ℕ) → List·Memᴰ n marks ↔ MarkedIn ds out n
-  pub ascends : Ascends marks
-  pub onCircle : (n : ℕ) → List·Memᴰ n marks → (l : List ℕ) × Circle ds l × List·Memᴰ n l
-  pub covers : (l : List ℕ) → Circle ds l → (k : ℕ) → List·Memᴰ k l → List·Memᴰ k out → (n : ℕ) × List·Memᴰ n l × List·Memᴰ n marks
 
 -- ---- Marks by where names stand
 
@@ -143,20 +121,20 @@ module _ {ds : List Definition} {start : Forest Node} {seen out : List ℕ} (wal
   pub closed : {u v : ℕ} → List·Memᴰ u out → Refers ds u v → List·Memᴰ v out
   closed {u} {v} i r = walked .complete v (onward (walked .sound u i) r)
 
-  -- A name is marked exactly if it is listed and refers to itself or one listed before it refers to it.
+  -- A name is marked exactly if it is listed and refers to itself or one listed earlier refers to it.
   pub marked-listed : (n : ℕ) → MarkedBy ds out n ↔ MarkedIn ds out n
-  marked-listed n = (λ a. there (marked-not-after ds out n .0 a), λ m. marked-not-after ds out n .1 (back (m .within) (m .reason)))
+  marked-listed n = (λ a. there (marked-not-after ds out n .0 a), λ (i, x). marked-not-after ds out n .1 (back i x))
     where
       there : NotAfter ds out n → MarkedIn ds out n
-      there (u, i, r, h) = record { within = closed i r; reason = look (ℕ-discrete (place out u) (place out n)) }
+      there (u, i, r, h) = (closed i r, look (ℕ-discrete (place out u) (place out n)))
         where
-          look : Dec (place out u ≡ place out n) → Refers ds n n ⊎ ((v : ℕ) × List·Memᴰ v out × (place out v < place out n) × Refers ds v n)
+          look : Dec (place out u ≡ place out n) → Refers ds n n ⊎ ((v : ℕ) × Earlier v n out × Refers ds v n)
           look (yes e) = inl (subst (λ (x : ℕ). Refers ds x n) (place-same out i (closed i r) e) r)
-          look (no k) = inr (u, i, omega arith, r)
+          look (no k) = inr (u, place-earlier out i (closed i r) (omega arith), r)
 
-      back : List·Memᴰ n out → Refers ds n n ⊎ ((u : ℕ) × List·Memᴰ u out × (place out u < place out n) × Refers ds u n) → NotAfter ds out n
+      back : List·Memᴰ n out → Refers ds n n ⊎ ((u : ℕ) × Earlier u n out × Refers ds u n) → NotAfter ds out n
       back i (inl r) = (n, i, r, le-refl (place out n))
-      back i (inr (u, j, h, r)) = (u, j, r, omega arith)
+      back i (inr (u, e, r)) = (u, earlier-one e, r, omega (arith, earlier-place (walked .once) e))
 
   -- Each marked name lies on a circle of references.
   pub marked-on-circle : (n : ℕ) → MarkedBy ds out n → (l : List ℕ) × Circle ds l × List·Memᴰ n l
@@ -200,12 +178,21 @@ module _ {ds : List Definition} {start : Forest Node} {seen out : List ℕ} (wal
   pub circle-has-marked : (l : List ℕ) → Circle ds l → (k : ℕ) → List·Memᴰ k l → List·Memᴰ k out → (m : ℕ) × List·Memᴰ m l × MarkedBy ds out m
   circle-has-marked l c k i j = ⊎-elim (λ m. m) (λ h. absurd (omega arith)) (way-back (c .way) (way-comes (c .way) i j))
 
-  pub marks-in : (m : List ℕ) → MarksOver ds out m → MarksIn ds out m
+  -- all that a way comes to from a listed name is listed
+  way-all : {u w : ℕ} {l : List ℕ} → Way ds u l w → List·Memᴰ u out → (k : ℕ) → List·Memᴰ k l → List·Memᴰ k out
+  way-all (last r) i k j = Memᴰ·cast (List·Memᴰ·eq-of-singleton j) (closed i r)
+  way-all (step r way) i k j = ⊎-elim (λ e. Memᴰ·cast e (closed i r)) (way-all way (closed i r) k) (List·Memᴰ·cases-cons j)
+
+  pub marks-in : (m : List ℕ) → MarksOver ds out m → Marked ds out m
   marks-in m g = record {
-    exact = λ n. (λ i. marked-listed n .0 (g .exact n .0 i), λ a. g .exact n .1 (marked-listed n .1 a));
+    exactly = λ n. (λ i. marked-listed n .0 (g .exact n .0 i), λ a. g .exact n .1 (marked-listed n .1 a));
     ascends = g .ascends;
-    onCircle = λ n i. marked-on-circle n (g .exact n .0 i);
-    covers = λ l c k i j. let m = circle-has-marked l c k i j in (m .0, m .1, g .exact (m .0) .1 (m .2));
+    onCircle = λ n i.
+        let a = g .exact n .0 i in
+        let c = marked-on-circle n a in
+        let way = c .1 .way in
+        (c .0, c .1, c .2, way-all way (way-comes way (c .2) (marked-listed n .0 a .0)));
+    eachCircle = λ l c k i j. let m = circle-has-marked l c k i j in (m .0, m .1, g .exact (m .0) .1 (m .2));
   }
 
 -- ---- The question on a book
@@ -274,7 +261,7 @@ module _ (b : Book) (fits : Fits b) (passed : check b ≡ Passed) where
 
   -- Over what a walk listed.
   pub marks-listed : {start : Forest Node} {seen out : List ℕ} → Listed ds start seen out →
-      (m : List ℕ) × (marksOver b out ≡ given m) × MarksIn ds out m × (length m ≤ 512)
+      (m : List ℕ) × (marksOver b out ≡ given m) × Marked ds out m × (length m ≤ 512)
   marks-listed {out = out} walked =
       let g = marks-given out (λ n i. walked .defined n (walked .sound n i)) in
       (g .0, g .1, marks-in walked (g .0) (g .2), omega (arith, few-marks out (g .0) (g .2), main-few b fits))

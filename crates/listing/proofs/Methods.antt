@@ -16,7 +16,7 @@ use Rattle.format.specs.Fits.{Fits}
 use Rattle.format.proofs.Trees.{breadth-count, count-beside, breadth-beside}
 use Rattle.format.proofs.Encoded.{fit-parts}
 use Rattle.refusals.specs.declared.Verdict.the-variants.{Passed}
-use Rattle.judgement.specs.Environment.{mainDefinitions, Head, named, other, headKind, head, End, unbound, circle, ends, aliasEnd, kidsOf, methodsAt}
+use Rattle.judgement.specs.Environment.{mainDefinitions, Head, named, other, headKind, head, End, unbound, circle, ends, aliasEnd, isFuncKind, isServKind, kidsOf, methodsAt}
 use Rattle.judgement.specs.Actor.{isServiceImport, serviceImports, isClassKind, isClass, lastTree, allButLast, firstActor, mainActor, classArguments, belowClass, serviceOf, classOf, methodsOf, importedMethods, mergedActor, resolveWith, resolveActor}
 use Rattle.judgement.specs.Check.{check}
 use Rattle.format.specs.Distinct.{Distinct}
@@ -27,12 +27,17 @@ use Rattle.format.proofs.Distinct.{pigeonhole}
 use Rattle.judgement.proofs.Lookup.{keep-says}
 use Rattle.judgement.proofs.Chains.{stops, run-end, end-leads, leads-keeps}
 use Rattle.judgement.proofs.Theorems.{actor-hashes}
-use Rattle.listing.specs.Offers.{argumentsAndResults}
+use Rattle.listing.specs.Offers.{functionBreadth, argumentsAndResults}
 use Rattle.judgement.proofs.Classes.{last-beside}
+use Rattle.judgement.proofs.Methods.{methods-keep}
 
 -- A forest has no more nodes than a book may have.
 abbrev Held : Forest Node → Type 0
 Held f = count f ≤ 4096
+
+-- Its trees are no more.
+abbrev Few : Forest Node → Type 0
+Few f = breadth f ≤ 4096
 
 -- parts of a forest have no more nodes
 kids-count : (f : Forest Node) → count (kidsOf f) ≤ count f
@@ -156,18 +161,20 @@ module _ (b : Book) (fits : Fits b) where
       go : (e : End) → aliasEnd ds t ≡ e → breadth (methodsAt e) ≤ 4096
       go (unbound n) q = omega arith
       go circle q = omega arith
-      go (ends u) q = held-methods u (held u (end-leads ds t u q))
+      go (ends u) q = methods-keep Few (omega arith) u (held-methods u (held u (end-leads ds t u q)))
 
   named-held : {t u : Forest Node} {n : ℕ} → head t ≡ named n → Leads ds t u → Held u
   named-held e (arrived h) = let z : _≡_ {A = ℕ} 0 1 = cc in absurd (omega arith)
   named-held e (onward {d = d} h m q l) = leads-keeps ds Held tree-count l (tree-count d m)
 
   hashed-few : (t : Forest Node) → Distinct (hashesOf (b .names) (kidsOf t)) → breadth (methodsAt (aliasEnd ds t)) ≤ 4096
-  unfolding methodsAt
+  unfolding breadth
   hashed-few t once = go (head t) refl
     where
       go : (h : Head) → head t ≡ h → breadth (methodsAt (aliasEnd ds t)) ≤ 4096
-      go other e = rw (run-end ds (stops e)) (omega (arith, hashes-few (b .names) (kidsOf t) once, fit-parts fits .fewNames))
+      go other e =
+          rw (run-end ds (stops e))
+          (methods-keep Few (omega arith) t (omega (arith, hashes-few (b .names) (kidsOf t) once, fit-parts fits .fewNames)))
       go (named n) e = end-methods t (λ u l. named-held e l)
 
   pub methods-few : check b ≡ Passed → breadth (methodsAt (aliasEnd ds (belowClass (resolveActor b)))) ≤ 4096
@@ -184,7 +191,7 @@ module _ (b : Book) (fits : Fits b) where
       go (unbound n) q = tt
       go circle q = tt
       go (ends u) q =
-          held-slim (kidsOf u) (omega (arith, kids-count u, leads-keeps ds Held tree-count (end-leads ds t u q) h))
+          methods-keep Slim tt u (held-slim (kidsOf u) (omega (arith, kids-count u, leads-keeps ds Held tree-count (end-leads ds t u q) h)))
 
   imported-slim : (fs : List File) → ((f : File) → List·Memᴰ f fs → Held (f .actor)) → Slim (importedMethods ds fs)
   unfolding importedMethods methodsOf
@@ -208,7 +215,7 @@ module _ (b : Book) (fits : Fits b) where
     merged = beside (methodsOf ds (belowClass (mainActor b))) (importedMethods ds fs)
 
     merged-slim : Slim (methodsAt (aliasEnd ds (belowClass (mergedActor ds (mainActor b) fs))))
-    unfolding mergedActor belowClass isClass isClassKind kidsOf head headKind methodsAt methodsOf breadth
+    unfolding mergedActor belowClass isClass isClassKind isServKind kidsOf head headKind methodsAt methodsOf breadth
     merged-slim = go (isClass (mainActor b))
       where
         served : Slim (methodsAt (aliasEnd ds (serviceOf merged)))
@@ -239,11 +246,25 @@ module _ (b : Book) (fits : Fits b) where
       go [] few = (main-slim, omega (arith, main-arguments))
       go (f ∷ fs) few = (merged-slim (f ∷ fs) few, merged-arguments (f ∷ fs) few)
 
-  pub results-few : (f : Forest Node) → Slim f → argumentsAndResults ds f ≤ 4096 * breadth f
-  unfolding argumentsAndResults breadth methodsAt kidsOf
-  results-few end s = omega arith
-  results-few (tree n kids next) s = omega (arith, results-few next (s .1), go (head (tree n kids end)) refl)
+  -- a function's arguments and results are no more than the children
+  function-few : (e : End) → ((u : Forest Node) → e ≡ ends u → Few (kidsOf u)) → functionBreadth e ≤ 4096
+  unfolding functionBreadth kidsOf
+  function-few (unbound m) h = omega arith
+  function-few circle h = omega arith
+  function-few (ends end) h = omega arith
+  function-few (ends (tree n kids next)) h = go (isFuncKind (n .kind))
     where
-      go : (h : Head) → head (tree n kids end) ≡ h → breadth (methodsAt (aliasEnd ds (tree n kids end))) ≤ 4096
-      go other e = rw (run-end ds (stops e)) (s .0)
-      go (named k) e = end-methods (tree n kids end) (λ u l. named-held e l)
+      go : (c : Bool) → cond c (breadth kids) 0 ≤ 4096
+      go true = h (tree n kids next) refl
+      go false = omega arith
+
+  pub results-few : (f : Forest Node) → Slim f → argumentsAndResults ds f ≤ 4096 * breadth f
+  unfolding argumentsAndResults breadth kidsOf
+  results-few end s = omega arith
+  results-few (tree n kids next) s =
+      let t = tree n kids end in
+      omega (arith, results-few next (s .1), function-few (aliasEnd ds t) (go (head t) refl))
+    where
+      go : (h : Head) → head (tree n kids end) ≡ h → (u : Forest Node) → aliasEnd ds (tree n kids end) ≡ ends u → Few (kidsOf u)
+      go other e u q = let same : u ≡ tree n kids end = cc (run-end ds (stops e)) in rw same (s .0)
+      go (named k) e u q = held-methods u (named-held e (end-leads ds (tree n kids end) u q))

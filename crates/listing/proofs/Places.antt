@@ -2,6 +2,7 @@
 --     nil-all, one-all, snoc-all        what holds of each name of a list
 --     snoc-distinct                     one more at the end
 --     place, place-in, place-left, ..   where a name stands first
+--     earlier-place, place-earlier      one name stands earlier than another
 use mathlib.Core.Path.{_≡_, refl, sym, ap, subst}
 use mathlib.Core.Logic.{_⊎_, inl, inr, ite, if-pos, if-neg, ⊎-elim}
 use mathlib.Core.List.{List, [], _∷_, _++_, List·Memᴰ, List·Memᴰ·head, List·Memᴰ·tail, List·Memᴰ·cases-cons, List·Memᴰ·not-nil, List·Memᴰ·append-cases, List·Memᴰ·eq-of-singleton, Memᴰ·cast}
@@ -11,6 +12,7 @@ use native.Mathlib.Omega.{arith}
 use lib.ListN.{length}
 use Rattle.format.specs.Distinct.{Distinct, none, more}
 use Rattle.format.proofs.Distinct.{distinct-append}
+use Rattle.listing.specs.Demand3.{Earlier, now, later}
 
 -- ---- What holds of each name of a list
 pub nil-all : {A : Type 0} {x : ℕ} → List·Memᴰ x [] → A
@@ -76,3 +78,36 @@ place-seam (y ∷ l) r x = look (ℕ-discrete x y) (place-seam l r x)
     look : (d : Dec (x ≡ y)) → place (l ++ x ∷ r) x ≤ length l → ite d 0 (suc (place (l ++ x ∷ r) x)) ≤ suc (length l)
     look (yes e) h = omega arith
     look (no k) h = omega arith
+
+-- ---- Earlier in a list, by places
+module _ {u n : ℕ} where
+  pub earlier-one : {l : List ℕ} → Earlier u n l → List·Memᴰ u l
+  earlier-one (now i) = List·Memᴰ·head refl
+  earlier-one (later e) = List·Memᴰ·tail (earlier-one e)
+
+  later-one : {l : List ℕ} → Earlier u n l → List·Memᴰ n l
+  later-one (now i) = List·Memᴰ·tail i
+  later-one (later e) = List·Memᴰ·tail (later-one e)
+
+  pub earlier-place : {l : List ℕ} → Distinct l → Earlier u n l → place l u < place l n
+  unfolding place
+  earlier-place (more new d) (now {l = l} i) =
+      rw (if-pos (ℕ-discrete u u) refl, if-neg (ℕ-discrete n u) (λ e. new (Memᴰ·cast (sym e) i))) (omega arith)
+  earlier-place (more new d) (later {m = m} {l = l} e) =
+      rw (if-neg (ℕ-discrete u m) (λ q. new (Memᴰ·cast (sym q) (earlier-one e))), if-neg (ℕ-discrete n m) (λ q. new (Memᴰ·cast (sym q) (later-one e))))
+      (omega (arith, earlier-place d e))
+
+  pub place-earlier : (l : List ℕ) → List·Memᴰ u l → List·Memᴰ n l → place l u < place l n → Earlier u n l
+  unfolding place
+  place-earlier [] i j h = absurd (List·Memᴰ·not-nil i)
+  place-earlier (y ∷ l) i j h = look (ℕ-discrete u y) (ℕ-discrete n y) (List·Memᴰ·cases-cons i) (List·Memᴰ·cases-cons j) h (place-earlier l)
+    where
+      look : (d : Dec (u ≡ y)) (c : Dec (n ≡ y)) → (u ≡ y) ⊎ List·Memᴰ u l → (n ≡ y) ⊎ List·Memᴰ n l → ite d 0 (suc (place l u)) < ite c 0 (suc (place l n)) →
+          (List·Memᴰ u l → List·Memᴰ n l → place l u < place l n → Earlier u n l) → Earlier u n (y ∷ l)
+      look (yes p) (yes q) i j h below = absurd (omega arith)
+      look (yes p) (no k) i (inl q) h below = absurd (k q)
+      look (yes p) (no k) i (inr j) h below = subst (λ (x : ℕ). Earlier u n (x ∷ l)) p (now j)
+      look (no k) (yes q) i j h below = absurd (omega arith)
+      look (no k) (no q) (inl p) j h below = absurd (k p)
+      look (no k) (no q) (inr i) (inl p) h below = absurd (q p)
+      look (no k) (no q) (inr i) (inr j) h below = later (below i j (omega arith))

@@ -1,7 +1,6 @@
 -- Projection: the asked names are taken from the methods in order, each name by as many methods as ask for it and have it. Assumes nothing;
 -- on books, that they fit and pass and have an actor.
 --     member-times, without-times      how often a name stands in a list
---     Removes, projectBy               projection with any removal of one name
 --     left-times, taken-at, ..         what is left over, which positions are taken
 --     lowest-listed, lowest-least      the lowest of a list
 --     project-given, project-refused   when it is given, and what is refused
@@ -39,12 +38,12 @@ use Rattle.format.specs.Labels.{methodNames}
 use Rattle.format.specs.Distinct.{Ascends}
 use Rattle.judgement.proofs.Lookup.{member-says}
 use Rattle.format.proofs.Distinct.{ascends-unique}
-use Rattle.listing.specs.Project.{without, Projection, take′, projectFrom, lowest, leftOver, projected, project, one, times, SameNames, Enough, LowestAbsent, nameAt, Positions, PositionsOf, ProjectRow, projectRows, checked, noActor, absent, short}
+use Rattle.listing.specs.Project.{without, Projection, take′, projectFrom, lowest, leftOver, projected, project, one, times, SameNames, Enough, LowestAbsent, nameAt, Positions, PositionsOf, Removes, shrink, projectBy, lastOf, butLast, lastFirst, swapRemove, ProjectRow, projectRows, checked, noActor, absent, short}
 use Rattle.refusals.specs.Outcome.{refused, given, after, fit}
-use Rattle.listing.specs.Room.{needsActor, ShortRow, AfterCheck}
+use Rattle.listing.specs.Room.{needsActor, ShortRow, AfterCheck, Most}
 use Rattle.listing.specs.Offers.{Interface}
 use Rattle.listing.proofs.Interface.{interface-methods, passed-once, passed-interface}
-use Rattle.listing.proofs.Room.{answered, actor-given, after-actor, fit-row, check-short, Most, fit-most, bytes-most, check-stops}
+use Rattle.listing.proofs.Room.{answered, actor-given, after-actor, fit-row, check-short, fit-most, bytes-most, check-stops}
 use Rattle.format.proofs.Logic.{same-test}
 use Rattle.format.proofs.Admission.{asked-row, row-numbers}
 use Rattle.refusals.specs.Refusal.{numberOf}
@@ -101,14 +100,6 @@ is-zero zero h = refl
 is-zero (suc a) h = absurd (h (omega arith))
 
 -- ---- Taking a name out of the asked ones, by whatever removal
-
--- A removal takes one n out, and leaves the others in some order.
-abbrev pub Removes : (ℕ → List ℕ → List ℕ) → Type 0
-Removes remove = (n : ℕ) (l : List ℕ) → 0 < times n l → (k : ℕ) → times k (remove n l) ≡ times k l - one k n
-
-unfoldable pub shrink : (ℕ → List ℕ → List ℕ) → ℕ → List ℕ → List ℕ
-shrink remove n l = cond (member n l) (remove n l) l
-
 pub shrink-times : (remove : ℕ → List ℕ → List ℕ) → Removes remove → (n : ℕ) (l : List ℕ) (k : ℕ) → times k (shrink remove n l) ≡ times k l - one k n
 unfolding shrink
 shrink-times remove removes n l k = go (member n l) (member-times n l)
@@ -121,11 +112,7 @@ shrink-times remove removes n l k = go (member n l) (member-times n l)
           | no h ↦ omega (arith, one-other k n h)
         ]
 
--- ---- Methods in order, each taking its name from the asked ones if that is there. `names` are the methods' names.
-unfoldable pub projectBy : (ℕ → List ℕ → List ℕ) → ℕ → List ℕ → List ℕ → Projection
-projectBy remove i [] asked = record { taken = []; left = asked }
-projectBy remove i (n ∷ names) asked = take′ (member n asked) i (projectBy remove (suc i) names (shrink remove n asked))
-
+-- ---- Methods in order, by their names
 pub project-by : (i : ℕ) (f : Forest Node) (asked : List ℕ) → projectFrom i f asked ≡ projectBy without i (methodNames f) asked
 unfolding projectFrom projectBy methodNames shrink
 project-by i end asked = refl
@@ -316,23 +303,7 @@ module _ (remove : ℕ → List ℕ → List ℕ) (removes : Removes remove) (i 
   pub given-enough : {l : List ℕ} → projected (projectBy remove i names asked) ≡ given l → Enough names asked
   given-enough e = ⊎-elim (λ x. x .0) (λ x. given-refused (sym (x .2) ∙ e)) project-either
 
--- ---- `swap_remove` of the Rust at the first n: the last of the list takes its place
-unfoldable pub lastOf : ℕ → List ℕ → ℕ
-lastOf m [] = m
-lastOf m (k ∷ l) = lastOf k l
-
-unfoldable pub butLast : ℕ → List ℕ → List ℕ
-butLast m [] = []
-butLast m (k ∷ l) = m ∷ butLast k l
-
-unfoldable pub lastFirst : List ℕ → List ℕ
-lastFirst [] = []
-lastFirst (m ∷ l) = lastOf m l ∷ butLast m l
-
-unfoldable pub swapRemove : ℕ → List ℕ → List ℕ
-swapRemove n [] = []
-swapRemove n (m ∷ l) = cond (eqb m n) (lastFirst l) (m ∷ swapRemove n l)
-
+-- ---- `swap_remove` of the Rust
 last-times : (k m : ℕ) (l : List ℕ) → one k (lastOf m l) + times k (butLast m l) ≡ one k m + times k l
 unfolding lastOf butLast times
 last-times k m [] = refl

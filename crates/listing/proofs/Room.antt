@@ -4,7 +4,7 @@
 --     after-check, after-actor           a refusal lies in a row of the check, or is of what follows
 --     fit-row                            .. or the list does not fit
 --     check-short, init-short            no check refuses with 16
---     Most, fit-most, bytes-most         entries given or needed are no more than so many
+--     fit-most, bytes-most               entries given or needed are no more than so many
 use mathlib.Core.Path.{_≡_, refl, sym, _∙_, subst, ap}
 use mathlib.Core.Logic.{inl, inr, _⊎_}
 use mathlib.Core.Bool.{Bool, true, false, cond}
@@ -27,7 +27,7 @@ use Rattle.judgement.specs.Rows.{CheckRow, InitRow, checkRows}
 use Rattle.refusals.proofs.Verdicts.{both-pass, pass-both, passed-refused, which-refused}
 use Rattle.judgement.proofs.Theorems.{check-row, check-numbers, init-numbers}
 use Rattle.refusals.specs.Outcome.{Outcome, refused, given, after, fit, asked}
-use Rattle.listing.specs.Room.{needsActor, ShortRow, NoActorRow}
+use Rattle.listing.specs.Room.{needsActor, ShortRow, NoActorRow, Most}
 use borrow.Author.Tests.{leb-false}
 use Rattle.refusals.proofs.Outcomes.{given-refused, after-passed, after-given, after-refused, same-refusal, fit-given}
 use Rattle.judgement.proofs.Lookup.{member-says}
@@ -119,11 +119,6 @@ check-short b {k} x = member-says 16 checkRows .1 (check-numbers b (Short k) x)
 pub init-short : (b : Book) {k : ℕ} → CheckRow b (Short k) ⊎ InitRow b (Short k) → ⊥
 unfolding member
 init-short b {k} x = member-says 16 (11 ∷ checkRows) .1 (init-numbers b (Short k) x)
-
--- The entries that are given, or needed.
-pub record Most {A : Type 0} (most : ℕ) (o : Outcome (List A)) : Type 0 where
-  pub entries : (l : List A) → o ≡ given l → length l ≤ most
-  pub needed : (k : ℕ) → o ≡ refused (Short k) → k ≤ most
 
 -- 16 is of a list that does not fit.
 pub fit-most : {A : Type 0} {Result : List A → Type 0} (most places : ℕ) (o : Outcome (List A)) → ((l : List A) → o ≡ given l → length l ≤ most) →

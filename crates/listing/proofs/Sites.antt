@@ -16,13 +16,12 @@ use lib.Seq.{getD-append-add}
 use Rattle.format.specs.Forest.{Forest, end, tree, breadth, firstTree, otherTrees, afterTrees}
 use Rattle.format.specs.Node.{Node}
 use Rattle.format.specs.Book.{Definition}
-use Rattle.judgement.specs.Environment.{methodsAt, kidsOf}
 use Rattle.format.specs.Occurs.{first, later}
 use Rattle.format.specs.Distinct.{Distinct}
 use Rattle.judgement.specs.WellFormed.{definedName}
 use Rattle.listing.specs.Sites.{Site, classSites, funcSites, kindSites, endSites, methodSites, sites}
 use Rattle.listing.specs.Offers.{Function, Interface, Functions, treeNumber, firstTrees, site, indexed, functionSites, MethodSites, none, method, FunctionSite, argument, result, SiteOf, ofClass, ofMethod, functionPlace, sitePlace, argumentsAndResults}
-use Rattle.listing.proofs.Interface.{function-end, function-unique, interface-arguments, interface-methods, interface-end}
+use Rattle.listing.proofs.Interface.{function-end, function-breadth, function-unique, interface-arguments, interface-methods, interface-end}
 
 -- ---- Trees by their places
 after-none : (k : ℕ) → afterTrees {A = Node} k end ≡ end
@@ -233,15 +232,15 @@ module _ (ds : List Definition) (once : Distinct (map definedName ds)) where
           (below record { place = k; arguments = c; kids = mids; exists = omega arith; function = f; of-function = subst (λ (i : ℕ). FunctionSite i c mids s) (omega arith) y })
 
   methods-length : {j : ℕ} {f : Forest Node} {l : List Site} → MethodSites ds j f l → length l ≡ argumentsAndResults ds f
-  unfolding argumentsAndResults methodsAt kidsOf
+  unfolding argumentsAndResults
   methods-length none = refl
   methods-length (method {m = j} {a = a} {lids = lids} {l = l} x rest) =
-      rw (function-end ds once x) (omega (arith, methods-length rest, length-append (functionSites j a lids) l, functions-length j a lids))
+      rw (function-breadth ds once x) (omega (arith, methods-length rest, length-append (functionSites j a lids) l, functions-length j a lids))
 
   -- at the place of an element stands that element
   methods-at : {j : ℕ} {f : Forest Node} {l : List Site} → MethodSites ds j f l → (m : ℕ) {k a : ℕ} {kids : Forest Node} → j + m ≡ k → m < breadth f →
       Function ds (treeNumber m f) a kids → {s : Site} (y : FunctionSite k a kids s) (d : Site) → getD l (argumentsAndResults ds (firstTrees m f) + functionPlace y) d ≡ s
-  unfolding breadth afterTrees otherTrees firstTree firstTrees argumentsAndResults methodsAt kidsOf
+  unfolding breadth afterTrees otherTrees firstTree firstTrees argumentsAndResults
   methods-at none m q h f y d = absurd (omega arith)
   methods-at (method {m = j} {a = a} {lids = lids} {l = l} x rest) zero {k = k} {a = c} {kids = mids} q h f y d =
       let own = functionSites j a lids in
@@ -251,7 +250,7 @@ module _ (ds : List Definition) (once : Distinct (map definedName ds)) where
   methods-at (method {m = j} {a = a} {lids = lids} {next = next} {l = l} x rest) (suc m) {kids = kids} q h f y d =
       let own = functionSites j a lids in
       let before = argumentsAndResults ds (firstTrees m next) in
-      rw (function-end ds once x, add-assoc (breadth lids) before (functionPlace y), ← functions-length j a lids)
+      rw (function-breadth ds once x, add-assoc (breadth lids) before (functionPlace y), ← functions-length j a lids)
       (getD-append-add own l (before + functionPlace y) d ∙ methods-at rest m (omega arith) (omega arith) f y d)
 
   -- ---- All of an actor

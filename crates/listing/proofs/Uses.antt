@@ -28,12 +28,13 @@ use Rattle.format.specs.Fits.{Fits}
 use Rattle.format.specs.References.{references}
 use Rattle.format.specs.References as refer
 use Rattle.refusals.specs.declared.Verdict.the-variants.{Passed}
-use Rattle.judgement.specs.Environment.{mainDefinitions, findType, Head, named, other, headKind, head, End, unbound, circle, ends, met, link, chainFrom, chain, aliasEnd, kidsOf, methodsAt}
+use Rattle.judgement.specs.Environment.{mainDefinitions, findType, Head, named, other, headKind, head, End, unbound, circle, ends, met, link, chainFrom, chain, aliasEnd, isServKind, kidsOf, methodsAt}
 use Rattle.judgement.specs.Actor.{isClassKind, isClass, lastTree, allButLast, classArguments, belowClass, resolveActor}
 use Rattle.judgement.specs.Check.{member, check}
 use Rattle.judgement.specs.WellFormed.{definedName, Defined, Leads, arrived, onward, Bound, belowTop}
 use Rattle.judgement.proofs.Chains.{stops, run-end, end-leads}
 use Rattle.judgement.proofs.Heads.{head-refers, named-no-class}
+use Rattle.judgement.proofs.Methods.{methods-keep}
 use Rattle.judgement.proofs.Lookup.{member-says}
 use Rattle.judgement.proofs.Books.{main-definitions-fit}
 use Rattle.judgement.proofs.Theorems.{check-says, actor-trees, check-numbers}
@@ -50,7 +51,7 @@ use Rattle.listing.proofs.Chase.{bound-defined, walk-lists, bound-walk}
 use Rattle.listing.proofs.List.{main-bodies}
 use Rattle.listing.specs.Offers.{Interface, SiteOf, argumentsAndResults}
 use Rattle.listing.proofs.Interface.{passed-once, passed-functions, passed-interface, interface-methods}
-use Rattle.listing.proofs.Room.{answered, actor-given, after-actor, fit-row, check-short, Most, fit-most, bytes-most, passed-actor, check-stops}
+use Rattle.listing.proofs.Room.{answered, actor-given, after-actor, fit-row, check-short, fit-most, bytes-most, passed-actor, check-stops}
 use Rattle.listing.proofs.Sites.{sites-are, methods-listed, sites-say, sites-length}
 use Rattle.format.proofs.Admission.{asked-row, row-numbers}
 use Rattle.refusals.specs.declared.Refusal.{Refusal}
@@ -58,7 +59,7 @@ use Rattle.refusals.specs.Refusal.{numberOf}
 use Rattle.format.specs.Admission.{onBytes, admissionRows, InRow, Source}
 use Rattle.refusals.proofs.Outcomes.{given-refused, after-given, same-given}
 use Rattle.format.proofs.Logic.{same-test}
-use Rattle.listing.specs.Room.{ShortRow, needsActor, AfterCheck}
+use Rattle.listing.specs.Room.{ShortRow, needsActor, AfterCheck, Most}
 use Rattle.refusals.specs.declared.Refusal.the-variants.{Short}
 use Rattle.listing.proofs.Methods.{Slim, methods-few, resolved-slim, results-few}
 use Rattle.refusals.proofs.Verdicts.{both-pass}
@@ -148,7 +149,7 @@ module _ (ds : List Definition) (P : Forest Node → Type 0) (passes : Inherited
   unfolding methodsAt typeOf
   end-methods (unbound n) p = p
   end-methods circle p = p
-  end-methods (ends t) p = kids-inherit t p
+  end-methods (ends t) p = methods-keep P (passes .none) t (kids-inherit t p)
 
   methods-inherit : (m : ℕ) (f : Forest Node) → P f → EachSite P (methodSites ds m f)
   unfolding methodSites
@@ -491,5 +492,5 @@ defining t = record { name = 0; file = 0; body = t } ∷ []
 -- `type f = func (nat) -> ()`: none; `type f = func (service { m : f }) -> ()`: one, since f is reachable from its own argument
 pub own-name : (usesOf (defining (tree (plain (FuncT 1 [])) (tree (plain (PrimT Nat)) end end) end)) withMethod 0 ≡ [])
     × (usesOf (defining (tree (plain (FuncT 1 [])) withMethod end)) withMethod 0 ≡ record { method = 0; result = 0; index = 0 } ∷ [])
-unfolding usesOf usesAt sites typeOf classSites methodSites endSites kindSites funcSites isListed aliasEnd chain chainFrom link met head headKind findType classArguments belowClass isClass isClassKind kidsOf methodsAt chaseTypes chase arm visit meetName push member
+unfolding usesOf usesAt sites typeOf classSites methodSites endSites kindSites funcSites isListed aliasEnd chain chainFrom link met head headKind findType classArguments belowClass isClass isClassKind isServKind kidsOf methodsAt chaseTypes chase arm visit meetName push member
 own-name = (refl, refl)

@@ -1,19 +1,24 @@
 -- `chase_def_use` of analysis.rs, arm by arm: the whole map from names to their uses. Each `?` of the Rust has its case in `DefUse`, which
--- tells no text; its limit of depth counts as reached by circles of aliases alone. Definitions; assumes nothing.
+-- tells no text; its limit of depth counts as reached by circles of aliases alone. Then what the map is. Definitions; assumes nothing.
+use mathlib.Core.Path.{_≡_}
+use mathlib.Core.Logic.{_↔_}
 use mathlib.Core.Bool.{cond}
-use mathlib.Core.List.{List, [], _∷_, _++_}
+use mathlib.Core.List.{List, [], _∷_, _++_, map, List·Memᴰ}
 use Prim.Native.Nat.{ℕ, suc}
 use lib.Dec.{ltb, eqb}
 use Rattle.format.specs.Forest.{Forest, end, tree}
 use Rattle.format.specs.Node.{Node}
 use Rattle.format.specs.Book.{Definition}
+use Rattle.format.specs.Distinct.{Ascends}
 use Rattle.judgement.specs.Environment.{End, ends, aliasEnd, isFuncKind, isServKind, rootPasses, methodsAt}
 use Rattle.judgement.specs.Environment as environment
 use Rattle.judgement.specs.Actor.{classArguments, belowClass}
 use Rattle.listing.specs.Chase.{Walk, going, chaseTypes}
 use Rattle.listing.specs.Chase as chased
 use Rattle.refusals.specs.Handed.{Use}
-use Rattle.listing.specs.Sites.{Site, classSites, endSites}
+use Rattle.listing.specs.Sites.{Site, classSites, endSites, sites}
+use Rattle.listing.specs.References.{Reachable}
+use Rattle.listing.specs.Uses.{usesOf}
 
 -- An entry of the map. The map is a list of them in ascending order of names, as a `BTreeMap` is; names are numbered in their order.
 pub record MapEntry : Type 0 where
@@ -88,3 +93,22 @@ chaseActor ds (ends t) = onMade (chaseSites ds (classSites 0 (classArguments t))
 
 unfoldable pub chaseDefUse : List Definition → Forest Node → DefUse
 chaseDefUse ds actor = chaseActor ds (aliasEnd ds actor)
+
+-- ---- What the map is
+abbrev pub rowName : MapEntry → ℕ
+rowName r = r .name
+
+-- A name that is reachable from an argument or a result.
+abbrev pub FromSite : List Definition → Forest Node → ℕ → Type 0
+FromSite ds actor n = (s : Site) × List·Memᴰ s (sites ds actor) × Reachable ds (s .type) n
+
+-- Its names ascend and are just those reachable from a site, and the row of each is what `usesOf` gives, which has none for any other name.
+pub record Mapped (ds : List Definition) (actor : Forest Node) (rows : List MapEntry) : Type 0 where
+  pub ascends : Ascends (map rowName rows)
+  pub keys : (n : ℕ) → List·Memᴰ n (map rowName rows) ↔ FromSite ds actor n
+  pub row : (n : ℕ) → usesFor n rows ≡ usesOf ds actor n
+  pub own : (r : MapEntry) → List·Memᴰ r rows → r .uses ≡ usesOf ds actor (r .name)
+
+-- The entry of a name in it.
+abbrev pub rowFor : List Definition → Forest Node → ℕ → MapEntry
+rowFor ds actor n = record { name = n; uses = usesOf ds actor n }

@@ -14,3 +14,4 @@ pub mod DraftList
 pub mod Marks
 pub mod Uses
 pub mod Project
+pub mod Demand3

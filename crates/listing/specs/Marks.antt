@@ -1,6 +1,7 @@
 -- The marks over a lent list of names, in any order and with repeats. The question, what is marked, and what is refused. Definitions;
 -- assumes nothing.
 use mathlib.Core.Path.{_≡_}
+use mathlib.Core.Logic.{_↔_}
 use mathlib.Core.List.{List, _∷_, _++_, List·Memᴰ}
 use Prim.Native.Nat.{ℕ}
 use lib.ListN.{length}
@@ -9,6 +10,7 @@ use Rattle.refusals.specs.declared.Refusal.the-variants.{Unbound, Short}
 use Rattle.refusals.specs.declared.Verdict.the-variants.{Passed}
 use Rattle.refusals.specs.Outcome.{Outcome, refused, given, after}
 use Rattle.format.specs.Book.{Definition, Book}
+use Rattle.format.specs.Distinct.{Ascends}
 use Rattle.judgement.specs.Environment.{mainDefinitions}
 use Rattle.judgement.specs.Check.{check}
 use Rattle.judgement.specs.WellFormed.{Defined}
@@ -38,6 +40,11 @@ pub record AtPlace (l : List ℕ) (P : List ℕ → ℕ → Type 0) : Type 0 whe
 -- Some place of the list has n in its definition's body, and no place before it lists n. The list need not hold n.
 abbrev pub MarkedBy : List Definition → List ℕ → ℕ → Type 0
 MarkedBy ds l n = AtPlace l (λ xs u. Refers ds u n × (List·Memᴰ n xs → ⊥))
+
+-- These are the marks, ascending.
+pub record MarksOver (ds : List Definition) (l marks : List ℕ) : Type 0 where
+  pub exact : (n : ℕ) → List·Memᴰ n marks ↔ MarkedBy ds l n
+  pub ascends : Ascends marks
 
 -- All listed names have a definition.
 abbrev pub AllDefined : List Definition → List ℕ → Type 0

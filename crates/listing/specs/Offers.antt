@@ -1,13 +1,14 @@
 -- What an actor offers: class arguments and methods, and the order of all arguments and results, as document 01 says. No walk is named here.
 -- Definitions; assumes nothing.
 use mathlib.Core.Path.{_≡_}
+use mathlib.Core.Bool.{cond}
 use mathlib.Core.List.{List, [], _∷_, _++_}
 use Prim.Native.Nat.{ℕ, zero, suc, _+_, _<_}
 use Rattle.format.specs.Forest.{Forest, end, tree, beside, breadth, firstTree, afterTrees}
 use Rattle.format.specs.Node.{FuncT, ClassT, FuncMode, Node}
 use Rattle.format.specs.Book.{Definition}
 use Rattle.format.specs.Occurs.{Beside}
-use Rattle.judgement.specs.Environment.{aliasEnd, methodsAt}
+use Rattle.judgement.specs.Environment.{End, unbound, circle, ends, aliasEnd, isFuncKind}
 use Rattle.judgement.specs.WellFormed.{Leads}
 use Rattle.judgement.specs.Meaning.{Serves}
 use Rattle.listing.specs.Sites.{Site}
@@ -76,10 +77,17 @@ unfoldable pub functionPlace : {m a : ℕ} {kids : Forest Node} {s : Site} → F
 functionPlace (argument i h k e) = i
 functionPlace {a = a} (result i k e) = a + i
 
+-- How many arguments and results a function at a chain's end has; none where there is no function.
+unfoldable pub functionBreadth : End → ℕ
+functionBreadth (unbound n) = 0
+functionBreadth circle = 0
+functionBreadth (ends end) = 0
+functionBreadth (ends (tree n kids next)) = cond (isFuncKind (n .kind)) (breadth kids) 0
+
 -- The arguments and results of methods together.
 unfoldable pub argumentsAndResults : List Definition → Forest Node → ℕ
 argumentsAndResults ds end = 0
-argumentsAndResults ds (tree n kids next) = breadth (methodsAt (aliasEnd ds (tree n kids end))) + argumentsAndResults ds next
+argumentsAndResults ds (tree n kids next) = functionBreadth (aliasEnd ds (tree n kids end)) + argumentsAndResults ds next
 
 unfoldable pub sitePlace : {ds : List Definition} {arguments methods : Forest Node} {s : Site} → SiteOf ds arguments methods s → ℕ
 sitePlace (ofClass i h e) = i

@@ -4,7 +4,7 @@ use mathlib.Core.Path.{_≡_}
 use mathlib.Core.Logic.{_↔_}
 use mathlib.Core.Bool.{Bool, true, false, cond}
 use mathlib.Core.List.{List, [], _∷_, map, List·Memᴰ}
-use Prim.Native.Nat.{ℕ, suc, _+_, _≤_, _<_, min}
+use Prim.Native.Nat.{ℕ, suc, _+_, _-_, _≤_, _<_, min}
 use lib.Dec.{eqb}
 use lib.ListN.{length, getD, take}
 use Rattle.refusals.specs.declared.Refusal.{Refusal}
@@ -99,6 +99,37 @@ pub record Positions (names asked taken : List ℕ) : Type 0 where
 abbrev pub PositionsOf : Book → List ℕ → List ℕ → Type 0
 PositionsOf b asked l =
     (arguments methods : Forest Node) × Interface (mainDefinitions b) (resolveActor b) arguments methods × Positions (methodNames methods) asked l
+
+-- ---- The same by whatever removal of a name from the asked ones
+
+-- A removal takes one n out, and leaves the others in some order.
+abbrev pub Removes : (ℕ → List ℕ → List ℕ) → Type 0
+Removes remove = (n : ℕ) (l : List ℕ) → 0 < times n l → (k : ℕ) → times k (remove n l) ≡ times k l - one k n
+
+unfoldable pub shrink : (ℕ → List ℕ → List ℕ) → ℕ → List ℕ → List ℕ
+shrink remove n l = cond (member n l) (remove n l) l
+
+-- Methods in order, each taking its name from the asked ones if that is there. `names` are the methods' names.
+unfoldable pub projectBy : (ℕ → List ℕ → List ℕ) → ℕ → List ℕ → List ℕ → Projection
+projectBy remove i [] asked = record { taken = []; left = asked }
+projectBy remove i (n ∷ names) asked = take′ (member n asked) i (projectBy remove (suc i) names (shrink remove n asked))
+
+-- `swap_remove` of the Rust at the first n: the last of the list takes its place.
+unfoldable pub lastOf : ℕ → List ℕ → ℕ
+lastOf m [] = m
+lastOf m (k ∷ l) = lastOf k l
+
+unfoldable pub butLast : ℕ → List ℕ → List ℕ
+butLast m [] = []
+butLast m (k ∷ l) = m ∷ butLast k l
+
+unfoldable pub lastFirst : List ℕ → List ℕ
+lastFirst [] = []
+lastFirst (m ∷ l) = lastOf m l ∷ butLast m l
+
+unfoldable pub swapRemove : ℕ → List ℕ → List ℕ
+swapRemove n [] = []
+swapRemove n (m ∷ l) = cond (eqb m n) (lastFirst l) (m ∷ swapRemove n l)
 
 -- ---- What is refused
 

@@ -1,12 +1,12 @@
--- What the questions' rooms share: the check before them, 17, 16, and a result of names. Definitions; assumes nothing.
+-- What the questions' rooms share: the check before them, 17, 16, how many entries there are at most, and a result of names. Definitions; assumes nothing.
 use mathlib.Core.Path.{_≡_}
 use mathlib.Core.Logic.{_↔_}
 use mathlib.Core.Bool.{true, false, cond}
 use mathlib.Core.List.{List, List·Memᴰ}
-use Prim.Native.Nat.{ℕ, _<_}
+use Prim.Native.Nat.{ℕ, _≤_, _<_}
 use lib.ListN.{length}
 use Rattle.refusals.specs.declared.Refusal.{Refusal}
-use Rattle.refusals.specs.declared.Refusal.the-variants.{NoActor}
+use Rattle.refusals.specs.declared.Refusal.the-variants.{Short, NoActor}
 use Rattle.refusals.specs.declared.Verdict.{Verdict}
 use Rattle.refusals.specs.declared.Verdict.the-variants.{Passed, Refused}
 use Rattle.refusals.specs.Verdict.{unless}
@@ -38,6 +38,11 @@ pub record ShortRow {A : Type 0} (places : ℕ) (answer : Outcome (List A)) (Res
   pub is-result : Result entries
   pub needed : length entries ≡ k
   pub short : places < k
+
+-- The entries that are given, or needed, are no more than so many.
+pub record Most {A : Type 0} (most : ℕ) (o : Outcome (List A)) : Type 0 where
+  pub entries : (l : List A) → o ≡ given l → length l ≤ most
+  pub needed : (k : ℕ) → o ≡ refused (Short k) → k ≤ most
 
 -- A result of names: each of which P holds, once, and no other.
 abbrev pub EachOnce : (ℕ → Type 0) → List ℕ → Type 0

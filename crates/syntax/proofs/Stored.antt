@@ -15,8 +15,9 @@ use Rattle.format.proofs.Trees.{Sized-beside, map-beside}
 use Rattle.format.proofs.Rows.{preorder-rowTrees, build-append}
 use Rattle.format.proofs.References.{kind-alone}
 use Rattle.format.proofs.Stored.{tree-opens}
-use Rattle.judgement.specs.Environment.{isServKind, kidsOf}
+use Rattle.judgement.specs.Environment.{ends, isServKind, rootPasses, kidsOf, methodsAt}
 use Rattle.judgement.specs.Actor.{isClassKind, isClass}
+use Rattle.judgement.proofs.Methods.{served-methods}
 use Rattle.environment.proofs.FuncEnds.{as-test}
 
 -- ---- a kind by its number
@@ -37,6 +38,13 @@ module _ {ns : List ℕ} {n : ℕ} (w : WholeAt ns n) where
   pub tree-kids : kidsOf (treeAt ns n) ≡ siblings ns (n + 1) (n + rowAt ns n .size)
   unfolding kidsOf
   tree-kids = rw (tree-opens w)
+
+  pub tree-service : rootPasses isServKind (ends (treeAt ns n)) ≡ eqb (rowAt ns n .kind) 24
+  unfolding rootPasses nodeOf
+  tree-service = rw (tree-opens w) (serv-kind (rowAt ns n .kind) (rowAt ns n .value))
+
+  pub tree-methods : rowAt ns n .kind ≡ 24 → kidsOf (treeAt ns n) ≡ methodsAt (ends (treeAt ns n))
+  tree-methods k = sym (served-methods (treeAt ns n) (tree-service ∙ rw k))
 
 -- ---- trees beside each other
 module _ {ns : List ℕ} {a b c : ℕ} (u : Whole ns a b) (v : Whole ns b c) where

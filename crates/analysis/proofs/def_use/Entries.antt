@@ -17,6 +17,7 @@ use Rattle.refusals.specs.Lists.{flat}
 use Rattle.refusals.specs.Handed.{Use, numbers}
 use Rattle.listing.specs.Sites.{Site}
 use Rattle.listing.specs.Uses.{kept, entryOf}
+use Rattle.listing.proofs.Delivered.{flat-length}
 use Rattle.analysis.specs.Entries.{Test, usesBy, put, putAll, Puts}
 
 -- ---- One entry
@@ -78,11 +79,6 @@ put-sets places k (e ∷ es) old h =
     put-sets places (suc k) es (put places k e old) (omega arith)
     ∙ ap₂ (λ (l : List ℕ) (j : ℕ). sets l j (flat numbers es)) (put-in places k e old (omega arith)) on
     ∙ sym (sets-append (numbers e) (flat numbers es) old (3 * k))
-
-flat-length : (es : List Use) → length (flat numbers es) ≡ 3 * length es
-unfolding flat numbers
-flat-length [] = refl
-flat-length (e ∷ es) = omega (arith, flat-length es)
 
 pub put-flat : (places : ℕ) (es : List Use) (old : List ℕ) → 3 * places ≤ length old → length es ≤ places →
     putAll places 0 es old ≡ flat numbers es ++ drop (3 * length es) old

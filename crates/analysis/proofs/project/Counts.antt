@@ -18,8 +18,8 @@ use lib.ListN.{length, getD, set, drop, length-set, length-replicate, getD-repli
 use lib.Seq.{drop-cons, getD-set-same, getD-set-other}
 use Rattle.judgement.specs.Check.{member}
 use Rattle.book.specs.Tables.{noFlags}
-use Rattle.listing.specs.Project.{one, times, without, lowest, leftOver}
-use Rattle.listing.proofs.Project.{one-same, one-other, member-times, without-times, shrink, shrink-times, listed-times, lowest-least, lowest-listed}
+use Rattle.listing.specs.Project.{one, times, without, shrink, lowest, leftOver}
+use Rattle.listing.proofs.Project.{one-same, one-other, member-times, without-times, shrink-times, listed-times, lowest-least, lowest-listed}
 use Rattle.analysis.specs.Projecting.{Asking, countOne, lowerFar, outcomeOf, LowestAs}
 
 -- ---- How often a name stands in a list

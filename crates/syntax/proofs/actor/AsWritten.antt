@@ -11,11 +11,11 @@ use lib.ListN.{getD, take, replicate, length-replicate}
 use Rattle.format.specs.Forest.{Forest, end}
 use Rattle.format.specs.Node.{Node}
 use Rattle.format.specs.Book.{Definition}
-use Rattle.format.specs.Layout.{rowAt, nodeOf}
+use Rattle.format.specs.Layout.{rowAt}
 use Rattle.format.specs.Whole.{Within, WholeAt, treeAt, actorAt}
 use Rattle.format.proofs.Rows.{node-within}
 use Rattle.format.proofs.Trees.{beside-end}
-use Rattle.format.proofs.Stored.{tree-opens, actor-none, actor-some}
+use Rattle.format.proofs.Stored.{actor-none, actor-some}
 use Rattle.judgement.specs.Environment.{head, End, unbound, circle, ends, aliasEnd, isServKind, rootPasses, asService, kidsOf, methodsAt}
 use Rattle.judgement.specs.Actor.{isClass, belowClass}
 use Rattle.environment.specs.Tables.{EndNodes, EndAt, Chains, Ended, endNode}
@@ -29,7 +29,7 @@ use Rattle.syntax.specs.Interfaces.{IsService, methodsIn, interfaceTree,
 use Rattle.syntax.specs.Resolving.{serviceCount}
 use Rattle.syntax.proofs.Lists.{no-long}
 use Rattle.syntax.proofs.class.Laws.{none-arguments}
-use Rattle.syntax.proofs.Stored.{serv-kind}
+use Rattle.syntax.proofs.Stored.{tree-service, tree-methods}
 
 -- ---- No actor
 none-serves : (ds : List Definition) (t : Forest Node) → t ≡ end → asService ds (belowClass t) ≡ false
@@ -56,10 +56,6 @@ record Served (ns : List ℕ) (count : ℕ) (ds : List Definition) (below e n : 
   service : n ≡ 1 → IsService ns count e
   methods : asService ds (treeAt ns below) ≡ true → methodsIn ns (take n (replicate 16 e)) ≡ methodsAt (aliasEnd ds (treeAt ns below))
 
-root-service : {ns : List ℕ} {e : ℕ} → WholeAt ns e → rootPasses isServKind (ends (treeAt ns e)) ≡ eqb (rowAt ns e .kind) 24
-unfolding rootPasses nodeOf
-root-service {ns} {e} w = rw (tree-opens w) (serv-kind (rowAt ns e .kind) (rowAt ns e .value))
-
 module _ {ns ends′ : List ℕ} {below : ℕ} (s : Ended ns ends′ below) {e n : ℕ} (is : e ≡ endNode ns ends′ below) (z : n ≡ serviceCount ns e) (ds : List Definition) where
   by-end : (f : End) → aliasEnd ds (treeAt ns below) ≡ f → EndAt ns e f → Served ns (s .count) ds below e n
   unfolding asService rootPasses serviceCount methodsAt methodsIn
@@ -77,8 +73,11 @@ module _ {ns ends′ : List ℕ} {below : ℕ} (s : Ended ns ends′ below) {e n
       at : aliasEnd ds (treeAt ns below) ≡ ends (treeAt ns e)
       at = q ∙ ap ends (x .1)
 
+      whole : WholeAt ns e
+      whole = end-whole s is (x .0)
+
       says : asService ds (treeAt ns below) ≡ eqb (rowAt ns e .kind) 24
-      says = ap (rootPasses isServKind) at ∙ root-service (end-whole s is (x .0))
+      says = ap (rootPasses isServKind) at ∙ tree-service whole
 
       some : n ≡ cond (eqb (rowAt ns e .kind) 24) 1 0
       some = z ∙ rw (ne-eqb e 65535 (x .0))
@@ -89,7 +88,7 @@ module _ {ns ends′ : List ℕ} {below : ℕ} (s : Ended ns ends′ below) {e n
           record {
             counted = some ∙ rw says;
             service = λ o. (end-inside s is (x .0), k);
-            methods = λ t. rw one (beside-end (kidsOf (treeAt ns e)) ∙ ap methodsAt (sym at));
+            methods = λ t. rw one (beside-end (kidsOf (treeAt ns e)) ∙ tree-methods whole k ∙ ap methodsAt (sym at));
           }
       go (no k) =
           let no : eqb (rowAt ns e .kind) 24 ≡ false = ne-eqb (rowAt ns e .kind) 24 k in

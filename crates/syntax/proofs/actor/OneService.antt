@@ -8,20 +8,20 @@ use native.Mathlib.Omega.{arith}
 use borrow.Author.Tests.{ne-eqb}
 use lib.Dec.{eqb}
 use lib.ListN.{length}
-use Rattle.format.specs.Forest.{Forest, end, tree}
+use Rattle.format.specs.Forest.{Forest, end}
 use Rattle.format.specs.Node.{Node}
 use Rattle.format.specs.Book.{Definition}
-use Rattle.format.specs.Layout.{rowAt, nodeOf}
+use Rattle.format.specs.Layout.{rowAt}
 use Rattle.format.specs.Rules.{noTrees}
 use Rattle.format.specs.Whole.{WholeAt, treeAt, actorAt}
 use Rattle.format.proofs.Trees.{beside-end}
-use Rattle.format.proofs.Stored.{tree-opens, actor-none, actor-some}
+use Rattle.format.proofs.Stored.{actor-none, actor-some}
 use Rattle.refusals.specs.declared.Refusal.{Refusal}
 use Rattle.refusals.specs.declared.Refusal as refusal
 use Rattle.refusals.specs.declared.Verdict.{Verdict}
 use Rattle.refusals.specs.declared.Verdict.the-variants.{Passed, Refused}
 use Rattle.refusals.specs.Verdict.{unless}
-use Rattle.judgement.specs.Environment.{head, ends, chain, chainFrom, aliasEnd, rootPasses, kidsOf, methodsAt}
+use Rattle.judgement.specs.Environment.{head, ends, chain, chainFrom, aliasEnd, kidsOf, methodsAt}
 use Rattle.judgement.specs.Actor.{isClass, belowClass, methodsOf}
 use Rattle.judgement.specs.Check.{serviceVerdict, mainVerdict}
 use Rattle.environment.specs.declared.Alias.{Alias}
@@ -32,7 +32,7 @@ use Rattle.syntax.specs.declared.actor.Service.{Service}
 use Rattle.syntax.specs.Interfaces.{methodsIn}
 use Rattle.syntax.specs.Resolving.{noService, serviceAt, ServiceAs, MainAs}
 use Rattle.syntax.proofs.files.Laws.{tree-some}
-use Rattle.syntax.proofs.Stored.{serv-kind}
+use Rattle.syntax.proofs.Stored.{tree-service, tree-methods}
 
 -- ---- no tree at all
 end-alias : (ds : List Definition) → aliasEnd ds end ≡ ends end
@@ -40,7 +40,7 @@ unfolding aliasEnd chain head
 end-alias ds = chain-other ds end (length ds) refl
 
 end-methods : (ds : List Definition) → methodsOf ds end ≡ end
-unfolding methodsOf methodsAt kidsOf
+unfolding methodsOf methodsAt
 end-methods ds = rw (end-alias ds)
 
 -- ---- no service, with a verdict
@@ -96,15 +96,16 @@ module _ {ns roots : List ℕ} {names count definitions node : ℕ} (nodes : Nod
   chase-circle x = none-refused ns roots count definitions (said ns node else′) (held ns node) else′ (λ ds t. ap (serviceVerdict else′) (ends-as x ds t))
 
   module _ {e : ℕ} (x : AliasAs ns roots count definitions node (Ends e)) where
-    at-end : (ds : List Definition) → Tabled ns roots definitions ds → unless (eqb (rowAt ns e .kind) 24) else′ ≡ said ns node else′ ds
-    unfolding asEnd serviceVerdict rootPasses nodeOf
-    at-end ds t =
-        rw (← serv-kind (rowAt ns e .kind) (rowAt ns e .value))
-        (ap (λ (u : Forest Node). serviceVerdict else′ (ends u)) (sym (tree-opens (nodes .tree e (x .within) .whole))) ∙ ap (serviceVerdict else′) (ends-as x ds t))
+    whole : WholeAt ns e
+    whole = nodes .tree e (x .within) .whole
 
-    methods-end : (ds : List Definition) → Tabled ns roots definitions ds → methodsIn ns (e ∷ []) ≡ held ns node ds
-    unfolding methodsIn methodsOf methodsAt asEnd
-    methods-end ds t = beside-end (kidsOf (treeAt ns e)) ∙ ap methodsAt (ends-as x ds t)
+    at-end : (ds : List Definition) → Tabled ns roots definitions ds → unless (eqb (rowAt ns e .kind) 24) else′ ≡ said ns node else′ ds
+    unfolding asEnd serviceVerdict
+    at-end ds t = rw (← tree-service whole) (ap (serviceVerdict else′) (ends-as x ds t))
+
+    methods-end : rowAt ns e .kind ≡ 24 → (ds : List Definition) → Tabled ns roots definitions ds → methodsIn ns (e ∷ []) ≡ held ns node ds
+    unfolding methodsIn methodsOf asEnd
+    methods-end k ds t = beside-end (kidsOf (treeAt ns e)) ∙ tree-methods whole k ∙ ap methodsAt (ends-as x ds t)
 
     pub chase-ends : ServiceAs ns roots count definitions (said ns node else′) (held ns node) (serviceAt ns else′ e)
     chase-ends = go (ℕ-discrete (rowAt ns e .kind) 24)
@@ -116,7 +117,7 @@ module _ {ns roots : List ℕ} {names count definitions node : ℕ} (nodes : Nod
               verdict = λ ds t. rw k at (at-end ds t);
               one = omega arith;
               node = λ z. (x .within, k);
-              methods = λ z ds t. methods-end ds t;
+              methods = λ z ds t. methods-end k ds t;
             })
         go (no k) = rw (ne-eqb (rowAt ns e .kind) 24 k) (none-refused ns roots count definitions (said ns node else′) (held ns node) else′ (λ ds t. rw (ne-eqb (rowAt ns e .kind) 24 k) at (at-end ds t)))
 

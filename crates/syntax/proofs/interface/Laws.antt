@@ -12,7 +12,7 @@ use Rattle.format.specs.Book.{Definition}
 use Rattle.format.specs.Rules.{noTrees}
 use Rattle.format.specs.Whole.{WholeAt, treeAt, actorAt}
 use Rattle.format.proofs.Stored.{tree-opens, actor-none, actor-some}
-use Rattle.judgement.specs.Environment.{headKind, head, ends, aliasEnd, asService, kidsOf, methodsAt}
+use Rattle.judgement.specs.Environment.{headKind, head, ends, aliasEnd, isServKind, asService, kidsOf, methodsAt}
 use Rattle.judgement.specs.Actor.{isClassKind, isClass, allButLast, classArguments, belowClass, serviceOf, classOf, mergedOf}
 use Rattle.judgement.proofs.Classes.{others-beside}
 use Rattle.judgement.proofs.Meaning.{merged-below}
@@ -36,7 +36,7 @@ module _ (main methods : Forest Node) where
     service-stays = rw (merged-below main methods) (stays ds (serviceOf methods) refl)
 
     pub merged-methods : methods ≡ methodsAt (aliasEnd ds (belowClass (mergedOf main methods)))
-    unfolding methodsAt kidsOf
+    unfolding methodsAt isServKind
     merged-methods = sym (ap methodsAt service-stays)
 
 -- ---- Whether there is an actor
