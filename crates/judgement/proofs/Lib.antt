@@ -12,3 +12,4 @@ pub mod Books
 pub mod Merge
 pub mod MergeChains
 pub mod Theorems
+pub mod Same
