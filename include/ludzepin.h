@@ -5,8 +5,9 @@
  * functions keep nothing between calls, allocate nothing and call only memcpy, memmove and memset. They need stack: 1 MiB is enough for
  * each of them on every book (docs/MEASURED.md has the figures), which is more than some systems give to a thread by default.
  *
- * crates/exports/specs/Coded.antt defines the answers, crates/exports/src/lib.rt has the promises. Nothing compares this file with them
- * but c/build.sh, which tries it. */
+ * crates/exports/specs/Coded.antt defines the answers and, once more, the arithmetic of the six functions at the end of this file;
+ * crates/exports/src/lib.rt promises of each answer that this arithmetic gives back its refusal, name and entries. No proof reads this
+ * file: nothing compares the two texts but c/build.sh, which tries them. */
 #ifndef LUDZEPIN_H
 #define LUDZEPIN_H
 
@@ -23,7 +24,7 @@ extern "C" {
 #define LUDZEPIN_DEFINITIONS 512
 #define LUDZEPIN_NODES 4096
 
-/* The name number of a refusal that names nothing. */
+/* The name number of a refusal that names nothing: 1, 4, 5, 6, 8, 10 and 17. */
 #define LUDZEPIN_NO_NAME 65535
 
 /* The first number of a use by an argument of the actor's class, where others have a method's position. */
@@ -77,7 +78,9 @@ uint64_t ludzepin_uses(const uint8_t *book, size_t bytes, uint16_t name, uint16_
 /* The refusal in an answer, 0 if it is none. */
 static inline uint32_t ludzepin_refusal(uint32_t answer) { return answer >> 16; }
 
-/* The name number of a refusal other than LUDZEPIN_SHORT: a place in the book's table of names, or LUDZEPIN_NO_NAME. */
+/* The name number of a refusal other than LUDZEPIN_SHORT: a place in the book's table of names, or LUDZEPIN_NO_NAME. But LUDZEPIN_ABSENT, and
+ * LUDZEPIN_UNBOUND of ludzepin_marks, name the asked or listed number, whatever it is: where that is 65,535, the refusal tells that it is a
+ * name, for both of these always name. */
 static inline uint32_t ludzepin_name(uint32_t answer) { return answer & 65535; }
 
 /* The entries: those given if it is no refusal, those needed if it is LUDZEPIN_SHORT. */

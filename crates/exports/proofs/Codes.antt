@@ -1,5 +1,5 @@
 -- The numbers of verdicts and answers, by their parts. Assumes nothing.
-use mathlib.Core.Path.{_≡_, sym, _∙_}
+use mathlib.Core.Path.{_≡_}
 use Prim.Native.Nat.{ℕ, _+_, _*_}
 use borrow.Author.Tests.{ne-eqb}
 use Rattle.refusals.specs.declared.Refusal.{Refusal}
@@ -19,13 +19,13 @@ unfolding coded
 refused-code e f g = rw (e, f, g)
 
 -- ---- Answers
-pub needed-low : (why : Refusal) {number needed : ℕ} → number ≡ numberOf why → number ≡ 16 → needed ≡ neededOf why → needed ≡ lowOf why
+pub low-needed : (why : Refusal) → numberOf why ≡ 16 → lowOf why ≡ neededOf why
 unfolding lowOf
-needed-low why e f g = rw (sym e ∙ f) g
+low-needed why e = rw e
 
-pub name-low : (why : Refusal) {number name : ℕ} → number ≡ numberOf why → (number ≡ 16 → ⊥) → name ≡ nameOf why → name ≡ lowOf why
+pub low-name : (why : Refusal) → (numberOf why ≡ 16 → ⊥) → lowOf why ≡ nameOf why
 unfolding lowOf
-name-low why e f g = rw (ne-eqb (numberOf why) 16 (λ h. f (e ∙ h))) g
+low-name why h = rw (ne-eqb (numberOf why) 16 h)
 
 pub given-code : (unit : ℕ) {a : Answer} {n : ℕ} → a ≡ Given n → n ≡ codedBy unit a
 unfolding codedBy

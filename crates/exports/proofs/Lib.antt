@@ -1,3 +1,4 @@
 -- Laws that the proofs of the functions cite.
 pub mod Codes
 pub mod Small
+pub mod Read

@@ -1,7 +1,8 @@
--- Verdicts and answers as one number each. Definitions; assumes nothing.
+-- Verdicts and answers as one number each, and how include/ludzepin.h takes them apart again. Definitions; assumes nothing.
+use mathlib.Core.Path.{_≡_}
 use mathlib.Core.Bool.{cond}
 use mathlib.Core.List.{List}
-use Prim.Native.Nat.{ℕ, _+_, _*_, _<_}
+use Prim.Native.Nat.{ℕ, _+_, _*_, _/_, _%_, _≤_, _<_}
 use lib.Dec.{eqb}
 use Rattle.refusals.specs.declared.Refusal.{Refusal}
 use Rattle.refusals.specs.declared.Verdict.{Verdict}
@@ -48,3 +49,57 @@ codedUses a = codedBy wide a
 -- What a question is answered on bytes, with so many places.
 abbrev pub inPlaces : {A : Type 0} → (Book → Outcome (List A)) → Source → ℕ → Outcome (List A)
 inPlaces question bs places = fit places (onBytes question bs)
+
+-- ---- The arithmetic of include/ludzepin.h, a definition for each function there. No proof reads that file, so its text is to be held
+-- against these lines: `answer >> 16` is a division by 2^16, `answer & 65535` its remainder; of uses likewise `answer >> 32` and the cast of
+-- `answer` to 32 bits.
+abbrev pub refusalIn : ℕ → ℕ
+refusalIn answer = answer / 65536
+
+abbrev pub nameIn : ℕ → ℕ
+nameIn answer = answer % 65536
+
+abbrev pub entriesIn : ℕ → ℕ
+entriesIn answer = answer % 65536
+
+abbrev pub usesRefusalIn : ℕ → ℕ
+usesRefusalIn answer = answer / 4294967296
+
+abbrev pub usesNameIn : ℕ → ℕ
+usesNameIn answer = answer % 4294967296
+
+abbrev pub usesEntriesIn : ℕ → ℕ
+usesEntriesIn answer = answer % 4294967296
+
+-- What is read says what a verdict is: refusal 0 of one that passes, else the row, which is never 0, and the name.
+pub record SaysRefused (r : Refusal) (refusal named : ℕ) : Type 0 where
+  pub some : 1 ≤ refusal
+  pub number : refusal ≡ numberOf r
+  pub name : named ≡ nameOf r
+
+abbrev pub SaysVerdict : Verdict → (refusal named : ℕ) → Type 0
+SaysVerdict Passed refusal named = refusal ≡ 0
+SaysVerdict (Refused r) refusal named = SaysRefused r refusal named
+
+-- And what an answer is: refusal 0 and the entries where they are given, else the row, which is never 0, with the entries needed of row 16
+-- and the name of any other.
+pub record SaysWhy (r : Refusal) (refusal named entries : ℕ) : Type 0 where
+  pub some : 1 ≤ refusal
+  pub number : refusal ≡ numberOf r
+  pub name : (refusal ≡ 16 → ⊥) → named ≡ nameOf r
+  pub needed : refusal ≡ 16 → entries ≡ neededOf r
+
+abbrev pub SaysAnswer : Answer → (refusal named entries : ℕ) → Type 0
+SaysAnswer (Given n) refusal named entries = (refusal ≡ 0) × (entries ≡ n)
+SaysAnswer (RefusedAnswer r) refusal named entries = SaysWhy r refusal named entries
+
+-- What the header reads in a number is this verdict, or this answer. (proofs/Read.antt: no two answers are read alike in a number, and no two
+-- verdicts of a check.)
+abbrev pub ReadVerdict : Verdict → ℕ → Type 0
+ReadVerdict v code = SaysVerdict v (refusalIn code) (nameIn code)
+
+abbrev pub ReadAnswer : Answer → ℕ → Type 0
+ReadAnswer a code = SaysAnswer a (refusalIn code) (nameIn code) (entriesIn code)
+
+abbrev pub ReadUses : Answer → ℕ → Type 0
+ReadUses a code = SaysAnswer a (usesRefusalIn code) (usesNameIn code) (usesEntriesIn code)

@@ -1,4 +1,5 @@
-// What programs in other languages link: `#[no_mangle] pub extern "C"` functions over byte slices, with numbers for answers.
+// What programs in other languages link: `#[no_mangle] pub extern "C"` functions over byte slices, with numbers for answers. Each promises the
+// number (`answer`), that the arithmetic of include/ludzepin.h gives back from it what is said (`read`), and the lent list (`left`).
 ghost use mathlib.Core.Path.{_≡_};
 ghost use Prim.Native.Nat.{_<_, _/_};
 ghost use lib.ListN.{length};
@@ -12,14 +13,15 @@ ghost use Rattle.listing.specs.Uses.{uses};
 ghost use Rattle.listing.specs.Project.{project};
 ghost use Rattle.listing.specs.Empty.{emptiness};
 ghost use Rattle.refusals.specs.Handed.{answerOf, leftIn, usesLeft};
-ghost use Rattle.exports.specs.Coded.{coded, lowOf, codedAnswer, codedUses, Below, small, wide, inPlaces};
+ghost use Rattle.exports.specs.Coded.{coded, lowOf, codedAnswer, codedUses, Below, small, wide, inPlaces, ReadVerdict, ReadAnswer, ReadUses};
 use refusals::Answer;
 use refusals::Refusal;
 use refusals::Verdict;
 
 // A verdict as one number.
 fn code(v: Verdict) -> u32
-    ensures { λ r. ⌜ r ≡ coded v ⌝ }
+    ensures answer { λ r. ⌜ r ≡ coded v ⌝ }
+    ensures read { λ r. ⌜ ReadVerdict v r ⌝ }
 {
     match v {
         Verdict::Passed => 0,
@@ -30,7 +32,8 @@ fn code(v: Verdict) -> u32
 // The check of a book.
 #[no_mangle]
 pub extern "C" fn ludzepin_check(book: &[u8]) -> u32
-    ensures { λ r. ⌜ r ≡ coded (checkBytes (now (book .entry))) ⌝ }
+    ensures answer { λ r. ⌜ r ≡ coded (checkBytes (now (book .entry))) ⌝ }
+    ensures read { λ r. ⌜ ReadVerdict (checkBytes (now (book .entry))) r ⌝ }
 {
     code(questions::check(book))
 }
@@ -38,7 +41,8 @@ pub extern "C" fn ludzepin_check(book: &[u8]) -> u32
 // The init check of a book.
 #[no_mangle]
 pub extern "C" fn ludzepin_init_check(book: &[u8]) -> u32
-    ensures { λ r. ⌜ r ≡ coded (initCheckBytes (now (book .entry))) ⌝ }
+    ensures answer { λ r. ⌜ r ≡ coded (initCheckBytes (now (book .entry))) ⌝ }
+    ensures read { λ r. ⌜ ReadVerdict (initCheckBytes (now (book .entry))) r ⌝ }
 {
     code(questions::init_check(book))
 }
@@ -57,7 +61,8 @@ fn low(why: Refusal) -> u32
 // An answer as one number.
 fn answer_code(a: Answer) -> u32
     requires { ⌜ Below small a ⌝ }
-    ensures { λ r. ⌜ r ≡ codedAnswer a ⌝ }
+    ensures answer { λ r. ⌜ r ≡ codedAnswer a ⌝ }
+    ensures read { λ r. ⌜ ReadAnswer a r ⌝ }
 {
     match a {
         Answer::Given(n) => n as u32,
@@ -68,7 +73,8 @@ fn answer_code(a: Answer) -> u32
 // The same for uses. What is asked keeps entries apart from refusals.
 fn uses_code(a: Answer) -> u64
     requires { ⌜ Below wide a ⌝ }
-    ensures { λ r. ⌜ r ≡ codedUses a ⌝ }
+    ensures answer { λ r. ⌜ r ≡ codedUses a ⌝ }
+    ensures read { λ r. ⌜ ReadUses a r ⌝ }
 {
     match a {
         Answer::Given(n) => n as u64,
@@ -80,6 +86,7 @@ fn uses_code(a: Answer) -> u64
 #[no_mangle]
 pub extern "C" fn ludzepin_list(book: &[u8], out: &mut [u16]) -> u32
     ensures answer { λ r. ⌜ r ≡ codedAnswer (answerOf (inPlaces list (now (book .entry)) (length (now (out .entry))))) ⌝ }
+    ensures read { λ r. ⌜ ReadAnswer (answerOf (inPlaces list (now (book .entry)) (length (now (out .entry))))) r ⌝ }
     ensures left { λ _. ⌜ now (out .exit) ≡ leftIn (inPlaces list (now (book .entry)) (length (now (out .entry)))) (now (out .entry)) ⌝ }
 {
     let listed = questions::list(book, out);
@@ -90,6 +97,7 @@ pub extern "C" fn ludzepin_list(book: &[u8], out: &mut [u16]) -> u32
 #[no_mangle]
 pub extern "C" fn ludzepin_init_list(book: &[u8], out: &mut [u16]) -> u32
     ensures answer { λ r. ⌜ r ≡ codedAnswer (answerOf (inPlaces initList (now (book .entry)) (length (now (out .entry))))) ⌝ }
+    ensures read { λ r. ⌜ ReadAnswer (answerOf (inPlaces initList (now (book .entry)) (length (now (out .entry))))) r ⌝ }
     ensures left { λ _. ⌜ now (out .exit) ≡ leftIn (inPlaces initList (now (book .entry)) (length (now (out .entry)))) (now (out .entry)) ⌝ }
 {
     let of_init = questions::init_list(book, out);
@@ -100,6 +108,7 @@ pub extern "C" fn ludzepin_init_list(book: &[u8], out: &mut [u16]) -> u32
 #[no_mangle]
 pub extern "C" fn ludzepin_draft_list(book: &[u8], out: &mut [u16]) -> u32
     ensures answer { λ r. ⌜ r ≡ codedAnswer (answerOf (inPlaces draftList (now (book .entry)) (length (now (out .entry))))) ⌝ }
+    ensures read { λ r. ⌜ ReadAnswer (answerOf (inPlaces draftList (now (book .entry)) (length (now (out .entry))))) r ⌝ }
     ensures left { λ _. ⌜ now (out .exit) ≡ leftIn (inPlaces draftList (now (book .entry)) (length (now (out .entry)))) (now (out .entry)) ⌝ }
 {
     let of_draft = questions::draft_list(book, out);
@@ -111,6 +120,8 @@ pub extern "C" fn ludzepin_draft_list(book: &[u8], out: &mut [u16]) -> u32
 pub extern "C" fn ludzepin_marks(book: &[u8], list: &[u16], out: &mut [u16]) -> u32
     ensures answer { λ r. ⌜ r ≡
         codedAnswer (answerOf (inPlaces (λ b. marksOver b (now (list .entry))) (now (book .entry)) (length (now (out .entry))))) ⌝ }
+    ensures read { λ r. ⌜
+        ReadAnswer (answerOf (inPlaces (λ b. marksOver b (now (list .entry))) (now (book .entry)) (length (now (out .entry))))) r ⌝ }
     ensures left { λ _. ⌜ now (out .exit) ≡
         leftIn (inPlaces (λ b. marksOver b (now (list .entry))) (now (book .entry)) (length (now (out .entry)))) (now (out .entry)) ⌝ }
 {
@@ -122,6 +133,7 @@ pub extern "C" fn ludzepin_marks(book: &[u8], list: &[u16], out: &mut [u16]) -> 
 #[no_mangle]
 pub extern "C" fn ludzepin_emptiness(book: &[u8], out: &mut [u16]) -> u32
     ensures answer { λ r. ⌜ r ≡ codedAnswer (answerOf (inPlaces emptiness (now (book .entry)) (length (now (out .entry))))) ⌝ }
+    ensures read { λ r. ⌜ ReadAnswer (answerOf (inPlaces emptiness (now (book .entry)) (length (now (out .entry))))) r ⌝ }
     ensures left { λ _. ⌜ now (out .exit) ≡ leftIn (inPlaces emptiness (now (book .entry)) (length (now (out .entry)))) (now (out .entry)) ⌝ }
 {
     let empty = questions::emptiness(book, out);
@@ -133,6 +145,8 @@ pub extern "C" fn ludzepin_emptiness(book: &[u8], out: &mut [u16]) -> u32
 pub extern "C" fn ludzepin_project(book: &[u8], asked: &[u16], out: &mut [u16]) -> u32
     ensures answer { λ r. ⌜ r ≡
         codedAnswer (answerOf (inPlaces (λ b. project b (now (asked .entry))) (now (book .entry)) (length (now (out .entry))))) ⌝ }
+    ensures read { λ r. ⌜
+        ReadAnswer (answerOf (inPlaces (λ b. project b (now (asked .entry))) (now (book .entry)) (length (now (out .entry))))) r ⌝ }
     ensures left { λ _. ⌜ now (out .exit) ≡
         leftIn (inPlaces (λ b. project b (now (asked .entry))) (now (book .entry)) (length (now (out .entry)))) (now (out .entry)) ⌝ }
 {
@@ -144,6 +158,7 @@ pub extern "C" fn ludzepin_project(book: &[u8], asked: &[u16], out: &mut [u16]) 
 #[no_mangle]
 pub extern "C" fn ludzepin_uses(book: &[u8], name: u16, out: &mut [u16]) -> u64
     ensures answer { λ r. ⌜ r ≡ codedUses (answerOf (inPlaces (λ b. uses b name) (now (book .entry)) (length (now (out .entry)) / 3))) ⌝ }
+    ensures read { λ r. ⌜ ReadUses (answerOf (inPlaces (λ b. uses b name) (now (book .entry)) (length (now (out .entry)) / 3))) r ⌝ }
     ensures left { λ _. ⌜ now (out .exit) ≡
         usesLeft (inPlaces (λ b. uses b name) (now (book .entry)) (length (now (out .entry)) / 3)) (now (out .entry)) ⌝ }
 {

@@ -16,3 +16,4 @@ pub mod Written
 pub mod Merge
 pub mod MergeChains
 pub mod Theorems
+pub mod Same

@@ -3,6 +3,7 @@ use mathlib.Core.Path.{subst}
 use native.Mathlib.Omega.{arith}
 use Rattle.exports.specs.Coded.{Below, small}
 use Rattle.exports.proofs.Codes.{given-code, answer-refused}
+use Rattle.exports.proofs.Read.{given-read, refusal-read}
 use borrow.Author.Needs.{needs}
 use Rattle.exports.proofs.answer_code.Statement.{statement}
 use Rattle.exports.proofs.answer_code.Tie as tie
@@ -32,10 +33,17 @@ add-result : tie.Need-add-result
 add-result c = let h = c .low .ensures .1 (subst (Below small) (c .before .before .before .a2 .given .1) (c .before .before .before .before .before .pre)) in search needs
 
 returns : tie.Need-returns
-returns c = given-code 65536 (c .before .a .given .1)
+returns c =
+    let e = c .before .a .given .1 in
+    (given-code 65536 e, given-read 65536 e (subst (Below small) e (c .before .before .before .pre)))
 
 returns-2 : tie.Need-returns-2
-returns-2 c = answer-refused 65536 (c .before .before .before .a2 .given .1) (c .before .number .ensures) (c .low .ensures .0)
+returns-2 c =
+    let e = c .before .before .before .a2 .given .1 in
+    let number = c .before .number .ensures in
+    let low = c .low .ensures in
+    let few = low .1 (subst (Below small) e (c .before .before .before .before .before .pre)) in
+    (answer-refused 65536 e number (low .0), refusal-read 65536 e number (low .0) few)
 
 pub answer-code-spec : {M : Type 1} → statement M
 answer-code-spec =

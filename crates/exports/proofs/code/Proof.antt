@@ -1,5 +1,7 @@
 -- `code` meets its contract. Assumes nothing.
+use native.Mathlib.Omega.{arith}
 use Rattle.exports.proofs.Codes.{passed-code, refused-code}
+use Rattle.exports.proofs.Read.{passed-read, refused-read}
 use borrow.Author.Needs.{needs}
 use Rattle.exports.proofs.code.Statement.{statement}
 use Rattle.exports.proofs.code.Tie as tie
@@ -29,10 +31,14 @@ add-result : tie.Need-add-result
 add-result c = search needs
 
 returns : tie.Need-returns
-returns c = passed-code (c .enum-told .given .1)
+returns c = let e = c .enum-told .given .1 in (passed-code e, passed-read e)
 
 returns-2 : tie.Need-returns-2
-returns-2 c = refused-code (c .before .before .before .v .given .1) (c .before .number .ensures) (c .name .ensures)
+returns-2 c =
+    let e = c .before .before .before .v .given .1 in
+    let number = c .before .number .ensures in
+    let name = c .name .ensures in
+    (refused-code e number name, refused-read e number name (omega arith))
 
 pub code-spec : {M : Type 1} → statement M
 code-spec =

@@ -1,6 +1,7 @@
 -- `low` meets its contract. Assumes nothing.
+use mathlib.Core.Path.{sym, _∙_}
 use native.Mathlib.Omega.{arith}
-use Rattle.exports.proofs.Codes.{needed-low, name-low}
+use Rattle.exports.proofs.Codes.{low-needed, low-name}
 use borrow.Author.Needs.{needs}
 use Rattle.exports.proofs.low.Statement.{statement}
 use Rattle.exports.proofs.low.Tie as tie
@@ -12,7 +13,9 @@ needed-requires : tie.Need-needed-requires
 needed-requires c κs = search needs
 
 returns : tie.Need-returns
-returns c = (needed-low (c .before .before .before .args .why) (c .before .before .number .ensures) (c .before .if1 .taken) (c .needed .ensures), λ h. omega (arith, c .needed .ensures))
+returns c =
+    let number = c .before .before .number .ensures in
+    (c .needed .ensures ∙ sym (low-needed (c .before .before .before .args .why) (sym number ∙ c .before .if1 .taken)), λ h. omega (arith, c .needed .ensures))
 
 name-requires : tie.Need-name-requires
 name-requires c κs = search needs
@@ -21,7 +24,9 @@ cast-result : tie.Need-cast-result
 cast-result c = search needs
 
 returns-2 : tie.Need-returns-2
-returns-2 c = (name-low (c .before .before .before .args .why) (c .before .before .number .ensures) (c .before .if1 .left) (c .name .ensures), λ h. search needs)
+returns-2 c =
+    let number = c .before .before .number .ensures in
+    (c .name .ensures ∙ sym (low-name (c .before .before .before .args .why) (λ e. c .before .if1 .left (number ∙ e))), λ h. search needs)
 
 pub low-spec : {M : Type 1} → statement M
 low-spec =

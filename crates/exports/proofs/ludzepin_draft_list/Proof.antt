@@ -1,7 +1,8 @@
 -- `ludzepin_draft_list` meets its contract. Assumes nothing.
 use mathlib.Core.Path.{sym, ap, subst, _∙_}
 use native.Mathlib.Omega.{arith}
-use Rattle.exports.specs.Coded.{codedAnswer, Below, small}
+use Rattle.refusals.specs.declared.Answer.{Answer}
+use Rattle.exports.specs.Coded.{codedAnswer, Below, small, ReadAnswer}
 use Rattle.exports.proofs.Small.{most-below}
 use Rattle.listing.proofs.DraftList.{draft-bytes-most}
 use borrow.Author.Needs.{needs}
@@ -19,7 +20,10 @@ same-length : tie.Need-same-length
 same-length c = search needs
 
 returns : tie.Need-returns
-returns c = let said = c .before .before .before .draft-list .ensures in (c .answer-code .ensures ∙ ap codedAnswer (said .answer), said .left)
+returns c =
+    let said = c .before .before .before .draft-list .ensures in
+    let code = c .answer-code .ensures in
+    (code .0 ∙ ap codedAnswer (said .answer), (subst (λ (a : Answer). ReadAnswer a (c .answer-code .result)) (said .answer) (code .1), said .left))
 
 pub ludzepin-draft-list-spec : {M : Type 1} → statement M
 ludzepin-draft-list-spec = tie.close (tie.spec draft-list-requires answer-code-requires same-length returns)

@@ -1,6 +1,7 @@
 -- `ludzepin_init_check` meets its contract. Assumes nothing.
-use mathlib.Core.Path.{ap, _∙_}
-use Rattle.exports.specs.Coded.{coded}
+use mathlib.Core.Path.{ap, subst, _∙_}
+use Rattle.refusals.specs.declared.Verdict.{Verdict}
+use Rattle.exports.specs.Coded.{coded, ReadVerdict}
 use borrow.Author.Needs.{needs}
 use Rattle.exports.proofs.ludzepin_init_check.Statement.{statement}
 use Rattle.exports.proofs.ludzepin_init_check.Tie as tie
@@ -12,7 +13,7 @@ code-requires : tie.Need-code-requires
 code-requires c κs = search needs
 
 returns : tie.Need-returns
-returns c = c .code .ensures ∙ ap coded (c .before .init-check .ensures)
+returns c = let said = c .before .init-check .ensures in (c .code .ensures .0 ∙ ap coded said, subst (λ (v : Verdict). ReadVerdict v (c .code .result)) said (c .code .ensures .1))
 
 pub ludzepin-init-check-spec : {M : Type 1} → statement M
 ludzepin-init-check-spec = tie.close (tie.spec init-check-requires code-requires returns)

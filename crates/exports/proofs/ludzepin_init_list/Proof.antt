@@ -1,7 +1,8 @@
 -- `ludzepin_init_list` meets its contract. Assumes nothing.
 use mathlib.Core.Path.{sym, ap, subst, _∙_}
 use native.Mathlib.Omega.{arith}
-use Rattle.exports.specs.Coded.{codedAnswer, Below, small}
+use Rattle.refusals.specs.declared.Answer.{Answer}
+use Rattle.exports.specs.Coded.{codedAnswer, Below, small, ReadAnswer}
 use Rattle.exports.proofs.Small.{most-below}
 use Rattle.listing.proofs.InitList.{init-list-bytes-most}
 use borrow.Author.Needs.{needs}
@@ -19,7 +20,10 @@ same-length : tie.Need-same-length
 same-length c = search needs
 
 returns : tie.Need-returns
-returns c = let said = c .before .before .before .init-list .ensures in (c .answer-code .ensures ∙ ap codedAnswer (said .answer), said .left)
+returns c =
+    let said = c .before .before .before .init-list .ensures in
+    let code = c .answer-code .ensures in
+    (code .0 ∙ ap codedAnswer (said .answer), (subst (λ (a : Answer). ReadAnswer a (c .answer-code .result)) (said .answer) (code .1), said .left))
 
 pub ludzepin-init-list-spec : {M : Type 1} → statement M
 ludzepin-init-list-spec = tie.close (tie.spec init-list-requires answer-code-requires same-length returns)

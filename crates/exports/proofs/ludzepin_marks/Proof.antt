@@ -1,7 +1,8 @@
 -- `ludzepin_marks` meets its contract. Assumes nothing.
 use mathlib.Core.Path.{sym, ap, subst, _∙_}
 use native.Mathlib.Omega.{arith}
-use Rattle.exports.specs.Coded.{codedAnswer, Below, small}
+use Rattle.refusals.specs.declared.Answer.{Answer}
+use Rattle.exports.specs.Coded.{codedAnswer, Below, small, ReadAnswer}
 use Rattle.exports.proofs.Small.{most-below}
 use Rattle.listing.proofs.Marks.{marks-bytes-most}
 use borrow.Author.Needs.{needs}
@@ -21,7 +22,10 @@ same-length : tie.Need-same-length
 same-length c = search needs
 
 returns : tie.Need-returns
-returns c = let said = c .before .before .before .marks .ensures in (c .answer-code .ensures ∙ ap codedAnswer (said .answer), said .left)
+returns c =
+    let said = c .before .before .before .marks .ensures in
+    let code = c .answer-code .ensures in
+    (code .0 ∙ ap codedAnswer (said .answer), (subst (λ (a : Answer). ReadAnswer a (c .answer-code .result)) (said .answer) (code .1), said .left))
 
 pub ludzepin-marks-spec : {M : Type 1} → statement M
 ludzepin-marks-spec = tie.close (tie.spec marks-requires answer-code-requires same-length returns)

@@ -1,7 +1,8 @@
 -- `ludzepin_uses` meets its contract. Assumes nothing.
 use mathlib.Core.Path.{sym, ap, subst, _∙_}
 use native.Mathlib.Omega.{arith}
-use Rattle.exports.specs.Coded.{codedUses, Below, wide}
+use Rattle.refusals.specs.declared.Answer.{Answer}
+use Rattle.exports.specs.Coded.{codedUses, Below, wide, ReadUses}
 use Rattle.exports.proofs.Small.{most-below}
 use Rattle.listing.proofs.Uses.{uses-bytes-most}
 use borrow.Author.Needs.{needs}
@@ -20,7 +21,10 @@ same-length : tie.Need-same-length
 same-length c = search needs
 
 returns : tie.Need-returns
-returns c = let said = c .before .before .before .uses .ensures in (c .uses-code .ensures ∙ ap codedUses (said .answer), said .left)
+returns c =
+    let said = c .before .before .before .uses .ensures in
+    let code = c .uses-code .ensures in
+    (code .0 ∙ ap codedUses (said .answer), (subst (λ (a : Answer). ReadUses a (c .uses-code .result)) (said .answer) (code .1), said .left))
 
 pub ludzepin-uses-spec : {M : Type 1} → statement M
 ludzepin-uses-spec = tie.close (tie.spec uses-requires uses-code-requires same-length returns)

@@ -1,5 +1,9 @@
 -- `uses_code` meets its contract. Assumes nothing.
+use mathlib.Core.Path.{subst}
+use native.Mathlib.Omega.{arith}
+use Rattle.exports.specs.Coded.{Below, wide}
 use Rattle.exports.proofs.Codes.{given-code, answer-refused}
+use Rattle.exports.proofs.Read.{given-read, refusal-read}
 use borrow.Author.Needs.{needs}
 use Rattle.exports.proofs.uses_code.Statement.{statement}
 use Rattle.exports.proofs.uses_code.Tie as tie
@@ -29,10 +33,16 @@ add-result : tie.Need-add-result
 add-result c = search needs
 
 returns : tie.Need-returns
-returns c = given-code 4294967296 (c .before .a .given .1)
+returns c =
+    let e = c .before .a .given .1 in
+    (given-code 4294967296 e, given-read 4294967296 e (subst (Below wide) e (c .before .before .before .pre)))
 
 returns-2 : tie.Need-returns-2
-returns-2 c = answer-refused 4294967296 (c .before .before .before .a2 .given .1) (c .before .number .ensures) (c .low .ensures .0)
+returns-2 c =
+    let e = c .before .before .before .a2 .given .1 in
+    let number = c .before .number .ensures in
+    let low = c .low .ensures .0 in
+    (answer-refused 4294967296 e number low, refusal-read 4294967296 e number low (omega arith))
 
 pub uses-code-spec : {M : Type 1} → statement M
 uses-code-spec =
