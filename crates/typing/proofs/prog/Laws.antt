@@ -1,5 +1,6 @@
 -- The check of an admitted book, stage by stage. Assumes nothing.
 --     imports-refused, decs-refused, ..     a refusal at each stage
+--     found-passed, found-cleared           the tables as they are, and cleared
 --     defined, resolved-stored, ..          what the next stage asks
 --     prog-passed                           what is handed on
 use mathlib.Core.Path.{_≡_, refl, sym, ap, subst, _∙_}

@@ -74,7 +74,9 @@ returns-2 c =
     λ a x.
     let t = c .before .before .before .before .before .before .before .before in
     let k = t .before .before in
-    found-cleared a (k .check-resolved .ensures a x (defined a (split-files a x ((definitions-after-passed (k .before .before .before .before)) .definitions .ensures) ((main-definitions-after-else1 (k .before .before .before)) .main-definitions .ensures)) x (k .before .before .before .before .before .before .before .before .before .check-decs .ensures) (sym (k .before .before .before .before .passed .ensures) ∙ not-false _ (k .before .before .before .if1 .left))))
+    let s = split-files a x ((definitions-after-passed (k .before .before .before .before)) .definitions .ensures) ((main-definitions-after-else1 (k .before .before .before)) .main-definitions .ensures) in
+    let d = defined a s x (k .before .before .before .before .before .before .before .before .before .check-decs .ensures) (sym (k .before .before .before .before .passed .ensures) ∙ not-false _ (k .before .before .before .if1 .left)) in
+    found-cleared a (k .check-resolved .ensures a x d)
     (sym (t .before .passed2 .ensures) ∙ not-true _ (t .if2 .taken)) (c .before .before .before .before .before .before .clear .ensures) (c .before .before .clear2 .ensures)
 
 same-length-5 : tie.Need-same-length-5
@@ -87,7 +89,9 @@ returns-3 : tie.Need-returns-3
 returns-3 c =
     λ a x.
     let k = c .before .before in
-    found-passed a (k .check-resolved .ensures a x (defined a (split-files a x ((definitions-after-passed (k .before .before .before .before)) .definitions .ensures) ((main-definitions-after-else1 (k .before .before .before)) .main-definitions .ensures)) x (k .before .before .before .before .before .before .before .before .before .check-decs .ensures) (sym (k .before .before .before .before .passed .ensures) ∙ not-false _ (k .before .before .before .if1 .left))))
+    let s = split-files a x ((definitions-after-passed (k .before .before .before .before)) .definitions .ensures) ((main-definitions-after-else1 (k .before .before .before)) .main-definitions .ensures) in
+    let d = defined a s x (k .before .before .before .before .before .before .before .before .before .check-decs .ensures) (sym (k .before .before .before .before .passed .ensures) ∙ not-false _ (k .before .before .before .if1 .left)) in
+    found-passed a (k .check-resolved .ensures a x d)
     (sym (c .before .passed2 .ensures) ∙ not-false _ (c .if2 .left))
 
 pub check-files-spec : {M : Type 1} → statement M
