@@ -123,6 +123,8 @@ module _ {ns roots : List ℕ} {names count definitions : ℕ} (few : names ≤ 
         nodes = λ e. record { long = s .table .long; node = λ m q. node′ m q (decLt m names) };
         lowest = λ ds b l. sym (s .rest ds b l) ∙ rw z;
         all = λ e ds b l m i. s .table .known m i (s .done m (omega arith)) .is ds b;
+        beyond = λ e. s .table .beyond;
+        left = λ e. absurd (e refl);
       }
     where
       node′ : (m : ℕ) → (getD ends′ m 65535 ≡ 65535 → ⊥) → Dec (m < names) → getD ends′ m 65535 < count
@@ -130,14 +132,16 @@ module _ {ns roots : List ℕ} {names count definitions : ℕ} (few : names ≤ 
       node′ m q (no i) = absurd (q (s .table .beyond m (omega arith)))
 
   module _ (h : n < names) (e : ℕ) (x : FollowedAs ns roots count definitions n e) where
-    pub ends-circle : e ≡ 65534 → AliasEndsAs ns roots names count definitions ends′ n
+    pub ends-circle : e ≡ 65534 → {after : List ℕ} → after ≡ blankTable → AliasEndsAs ns roots names count definitions after n
     unfolding isCircle
-    ends-circle c =
+    ends-circle c z =
         let never : n ≡ 65535 → ⊥ = λ e. let f : ⊥ = omega arith in f in
         record {
           nodes = λ e. absurd (never e);
           lowest = λ ds b l. sym (s .rest ds b l) ∙ each-cons (verdicts ds) n names h ∙ rw (by-end ds n (findType ds n), x .never c ds b l, ne-eqb n 65535 never);
           all = λ e. absurd (never e);
+          beyond = λ e. absurd (never e);
+          left = λ e. z;
         }
 
     pub ends-on : (e ≡ 65534 → ⊥) → (after : List ℕ) → NotedAs ns roots names count n ends′ after → EndsLeft ns roots names count definitions after (n + 1)

@@ -52,6 +52,7 @@ module _ {es : List ℕ} {names count from to : ℕ} (x : Entries es names count
         twice-is = sym r;
         table = λ e. record { long = l .long; node = l .node };
         root = λ e n. go n (ℕ-discrete (getD roots n 65535) 65535);
+        left = λ n. absurd (n refl);
       }
     where
       go : (n : ℕ) → Dec (getD roots n 65535 ≡ 65535) → getD roots n 65535 ≡ rootIn (run (entryAt es) from (to - from)) n
@@ -68,12 +69,12 @@ module _ {es : List ℕ} {names count from to : ℕ} (x : Entries es names count
     root-fits : e .root < count
     root-fits = rw is (x .root d (l .began) h)
 
-    pub table-twice : (getD roots (e .name) 65535 ≡ 65535 → ⊥) → DefinesAs es count from to roots (e .name)
+    pub table-twice : (getD roots (e .name) 65535 ≡ 65535 → ⊥) → {after : List ℕ} → after ≡ blankTable → DefinesAs es count from to after (e .name)
     unfolding repeated
-    table-twice n =
+    table-twice n z =
         let r : repeated [] (run (entryAt es) from (to - from)) ≡ e .name = sym (l .rest) ∙ rw (left, l .marks (e .name), ne-eqb _ _ n) in
         let never : e .name ≡ 65535 → ⊥ = λ q. let f : ⊥ = omega (arith, name-fits) in f in
-        record { twice-is = sym r; table = λ q. absurd (never (sym r ∙ q)); root = λ q. absurd (never (sym r ∙ q)) }
+        record { twice-is = sym r; table = λ q. absurd (never (sym r ∙ q)); root = λ q. absurd (never (sym r ∙ q)); left = λ q. z }
 
     pub table-on : getD roots (e .name) 65535 ≡ 65535 → TableLeft es names count from to (set roots (e .name) (e .root)) (d + 1)
     unfolding rootIn repeated member

@@ -11,6 +11,7 @@ use Rattle.format.specs.Layout.{run, entryAt, rowAt}
 use Rattle.format.specs.Whole.{Within, WholeIn, RowFits, treeAt, definitionAt}
 use Rattle.judgement.specs.Environment.{Found, missing, body, findType, End, unbound, circle, ends, aliasEnd}
 use Rattle.judgement.specs.Check.{member, eachName, circleVerdict}
+use Rattle.book.specs.Tables.{blankTable}
 use Rattle.refusals.specs.declared.Refusal as refusal
 use Rattle.refusals.specs.declared.Verdict.the-variants.{Passed, Refused}
 use Rattle.environment.specs.declared.Alias.{Alias}
@@ -48,7 +49,7 @@ pub record Roots (roots : List ℕ) (count : ℕ) : Type 0 where
 unfoldable pub foundAt : List ℕ → ℕ → Found
 foundAt ns root = cond (eqb root 65535) missing (body (treeAt ns root))
 
--- The table has what the definitions say.
+-- The table has what the definitions say. Every table has what some definitions say: proofs/Definitions.antt.
 abbrev pub Binds : List ℕ → List ℕ → List Definition → Type 0
 Binds ns roots ds = (n : ℕ) → findType ds n ≡ foundAt ns (getD roots n 65535)
 
@@ -72,11 +73,12 @@ InRange count (Unbound n) = Unit {0}
 InRange count Circle = Unit {0}
 InRange count (Ends n) = n < count
 
--- The table of entries: the first name defined twice, and, where there is none, the root of each name.
+-- The table of entries: the first name defined twice, and, where there is none, the root of each name; where there is one, nothing.
 pub record DefinesAs (es : List ℕ) (count from to : ℕ) (roots : List ℕ) (twice : ℕ) : Type 0 where
   pub twice-is : twice ≡ repeated [] (run (entryAt es) from (to - from))
   pub table : repeated [] (run (entryAt es) from (to - from)) ≡ 65535 → Roots roots count
   pub root : repeated [] (run (entryAt es) from (to - from)) ≡ 65535 → (n : ℕ) → getD roots n 65535 ≡ rootIn (run (entryAt es) from (to - from)) n
+  pub left : (twice ≡ 65535 → ⊥) → roots ≡ blankTable
 
 -- The end of the chain from a name's definition; a name without definition is unbound.
 unfoldable pub nameEnd : List Definition → ℕ → Found → End
@@ -130,12 +132,14 @@ pub record NotedAs (ns roots : List ℕ) (names count n : ℕ) (before after : L
   pub kept : (m : ℕ) → (getD before m 65535 ≡ 65534 → ⊥) → getD after m 65535 ≡ getD before m 65535
   pub known : getD after n 65535 ≡ 65534 → ⊥
 
--- The lowest name whose chain never ends, as the check refuses it; and, where there is none, all ends.
+-- The lowest name whose chain never ends, as the check refuses it; and, where there is none, all ends; where there is one, nothing.
 pub record AliasEndsAs (ns roots : List ℕ) (names count definitions : ℕ) (ends′ : List ℕ) (circle′ : ℕ) : Type 0 where
   pub nodes : circle′ ≡ 65535 → EndNodes ends′ count
   pub lowest : (ds : List Definition) → Binds ns roots ds → length ds ≡ definitions →
       eachName (λ n. circleVerdict ds n (findType ds n)) 0 names ≡ cond (eqb circle′ 65535) Passed (Refused (refusal.Refusal.Circle circle′))
   pub all : circle′ ≡ 65535 → (ds : List Definition) → Binds ns roots ds → length ds ≡ definitions → Chains ns ends′ names ds
+  pub beyond : circle′ ≡ 65535 → (n : ℕ) → names ≤ n → getD ends′ n 65535 ≡ 65535
+  pub left : (circle′ ≡ 65535 → ⊥) → ends′ ≡ blankTable
 
 -- A node of a book, with a table of alias ends.
 pub record Ended (ns ends′ : List ℕ) (node : ℕ) : Type 0 where

@@ -9,7 +9,7 @@ ghost use Rattle.format.specs.Book.{Definition};
 ghost use Rattle.format.specs.Whole.{treeAt};
 ghost use Rattle.judgement.specs.Environment.{chainFrom};
 ghost use Rattle.book.specs.Tables.{blankTable};
-ghost use Rattle.environment.specs.Tables.{Nodes, Entries, Roots, Binds, asEnd, InRange, DefinesAs, Ended, EndKnown, FollowedAs, Unfinished, endBefore, Unbegun, NotedAs, AliasEndsAs, endIs, endNode};
+ghost use Rattle.environment.specs.Tables.{Nodes, Entries, Roots, Binds, Tabled, asEnd, InRange, DefinesAs, Ended, EndKnown, FollowedAs, Unfinished, endBefore, Unbegun, NotedAs, AliasEndsAs, endIs, endNode};
 
 pub mod merge;
 
@@ -43,7 +43,8 @@ pub fn clear(table: &mut [u16])
     }
 }
 
-// Enters the definitions of entries `from` up to `to` in a table that has nothing: the first name defined twice, or NONE.
+// Enters the definitions of entries `from` up to `to` in a table that has nothing: the first name defined twice, or NONE. With a name defined
+// twice the table has nothing, as it was lent.
 pub fn enter(
     entries: &[u8],
     names: usize,
@@ -60,6 +61,7 @@ pub fn enter(
         let e = Entry::at(entries, d);
         let n = e.name as usize;
         if roots[n] != Table::NONE {
+            clear(roots);
             return e.name;
         }
         roots[n] = e.root;
@@ -142,7 +144,7 @@ fn follow(
     n: usize,
 ) -> u16
     requires { ⌜ Nodes (now rows) names nodes × Roots (now roots) nodes ×
-        Unfinished (now rows) (now roots) names nodes (now ends) × (n < names) ⌝ }
+        Unfinished (now rows) (now roots) names nodes (now ends) × (n < names) × ((ds : List Definition) × Tabled (now rows) (now roots) definitions ds) ⌝ }
     ensures { λ r. ⌜ FollowedAs (now (rows .entry)) (now (roots .entry)) nodes definitions n r ⌝ }
 {
     let mut m = n;
@@ -191,7 +193,7 @@ fn note(
 }
 
 // Finds the alias ends of all names once, in a table that has nothing. The names that a chain crosses are noted with it, so that no later
-// chain is followed beyond them.
+// chain is followed beyond them. With a chain that never ends the table has nothing, as it was lent.
 pub fn find_ends(
     rows: &[u8],
     roots: &[u16],
@@ -200,7 +202,7 @@ pub fn find_ends(
     definitions: usize,
     ends: &mut [u16],
 ) -> u16
-    requires { ⌜ Nodes (now rows) names nodes × Roots (now roots) nodes × (now ends ≡ blankTable) ⌝ }
+    requires { ⌜ Nodes (now rows) names nodes × Roots (now roots) nodes × (now ends ≡ blankTable) × ((ds : List Definition) × Tabled (now rows) (now roots) definitions ds) ⌝ }
     ensures { λ r. ⌜ AliasEndsAs (now (rows .entry)) (now (roots .entry)) names nodes definitions (now (ends .exit)) r ⌝ }
 {
     open_ends(roots, names, ends);
@@ -208,6 +210,7 @@ pub fn find_ends(
     while n < names {
         let end = follow(rows, roots, ends, names, nodes, definitions, n);
         if end == Table::OPEN {
+            clear(ends);
             return n as u16;
         }
         note(rows, roots, names, nodes, n, end, ends);

@@ -22,6 +22,7 @@ use Rattle.format.specs.Book.{Book}
 use Rattle.format.specs.Admission.{admitted, onBytes}
 use Rattle.format.proofs.Admission.{asked-is}
 use Rattle.book.specs.declared.kinds.Contents.{Contents}
+use Rattle.book.specs.Tables.{blankTable}
 use Rattle.book.specs.Reading.{Admitted}
 use Rattle.admission.specs.declared.Admission.the-variants.{Refused as NotAdmitted, Admitted as IsAdmitted}
 use Rattle.admission.specs.Admitting.{admissionOf}
@@ -40,11 +41,18 @@ use Rattle.questions.specs.Stages.{noContents, contentsIn, BookPassed, P
 
 -- ---- What `pass` finds
 module _ (bs roots ends′ : List ℕ) where
-  pub pass-refused : {why : Refusal} {c : Contents} {r : Found} → NotAdmitted why ≡ admissionOf (admitted bs) → c ≡ noContents → r ≡ foundNone c (Refused why) → PassAs bs roots ends′ r
+  pub pass-refused : {why : Refusal} {c : Contents} {r : Found} → NotAdmitted why ≡ admissionOf (admitted bs) → c ≡ noContents → r ≡ foundNone c (Refused why) →
+      roots ≡ blankTable → ends′ ≡ blankTable → PassAs bs roots ends′ r
   unfolding checkBytes judged
-  pass-refused {why} e n f =
+  pass-refused {why} e n f x y =
       rw (f)
-      (record { verdict = rw (admission-refuses bs e); passed = λ q. refused-passed q; refused = λ g. ap (λ (d : Contents). foundNone d (Refused why)) (n ∙ sym (ap contentsIn (admission-refuses bs e))) })
+      (record {
+        verdict = rw (admission-refuses bs e);
+        passed = λ q. refused-passed q;
+        refused = λ g. ap (λ (d : Contents). foundNone d (Refused why)) (n ∙ sym (ap contentsIn (admission-refuses bs e)));
+        roots-left = λ g. x;
+        ends-left = λ g. y;
+      })
 
   -- the contents are those that admission found
   book-passed : {p : Passed} {c : Contents} (a : Admitted bs c) → PassedAs a roots ends′ p → admitted bs ≡ given (a .book) → BookPassed bs roots ends′ p
@@ -58,9 +66,11 @@ module _ (bs roots ends′ : List ℕ) where
       let g = admission-gives bs e in
       let x = f (g .read) in
       record {
-        verdict = x .verdict ∙ sym (ap (judged check) (g .is));
-        passed = λ q. book-passed (g .read) (x .passed q) (g .is);
-        refused = λ h. x .refused h ∙ ap (λ (d : Contents). foundNone d (r .verdict)) (sym (g .read .table) ∙ sym (ap contentsIn (g .is)));
+        verdict = x .found .verdict ∙ sym (ap (judged check) (g .is));
+        passed = λ q. book-passed (g .read) (x .found .passed q) (g .is);
+        refused = λ h. x .found .refused h ∙ ap (λ (d : Contents). foundNone d (r .verdict)) (sym (g .read .table) ∙ sym (ap contentsIn (g .is)));
+        roots-left = x .roots-left;
+        ends-left = x .ends-left;
       }
 
 -- ---- 17

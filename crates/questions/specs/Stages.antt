@@ -10,6 +10,7 @@ use Rattle.format.specs.Book.{Book}
 use Rattle.format.specs.Admission.{admitted}
 use Rattle.book.specs.declared.kinds.Contents.{Contents}
 use Rattle.book.specs.Reading.{contentsOf}
+use Rattle.book.specs.Tables.{blankTable}
 use Rattle.judgement.specs.Check.{checkBytes}
 use Rattle.typing.specs.declared.prog.Passed.{Passed}
 use Rattle.typing.specs.declared.prog.Found.{Found}
@@ -30,8 +31,10 @@ pub record BookPassed (bs roots ends′ : List ℕ) (p : Passed) : Type 0 where
   pub book : PassedBook bs roots ends′ p
   pub is : admitted bs ≡ given (book .admitted .book)
 
--- The verdict is that of the check on bytes; a refused book has nothing to go on with.
+-- The verdict is that of the check on bytes; a refused book has nothing to go on with, and both tables have nothing, as they were lent.
 pub record PassAs (bs roots ends′ : List ℕ) (r : Found) : Type 0 where
   pub verdict : r .verdict ≡ checkBytes bs
   pub passed : r .verdict ≡ passes → BookPassed bs roots ends′ (r .passed)
   pub refused : isPassed (r .verdict) ≡ false → r ≡ foundNone (contentsIn (admitted bs)) (r .verdict)
+  pub roots-left : isPassed (r .verdict) ≡ false → roots ≡ blankTable
+  pub ends-left : isPassed (r .verdict) ≡ false → ends′ ≡ blankTable

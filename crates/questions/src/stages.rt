@@ -22,7 +22,7 @@ fn no_contents() -> Contents
     }
 }
 
-// Admits a book and checks it, into tables that have nothing.
+// Admits a book and checks it, into tables that have nothing, and have nothing again where it is refused.
 pub(crate) fn pass(book: &[u8], roots: &mut [u16], ends: &mut [u16]) -> Found
     requires { ⌜ (now roots ≡ blankTable) × (now ends ≡ blankTable) ⌝ }
     ensures { λ r. ⌜ PassAs (now (book .entry)) (now (roots .exit)) (now (ends .exit)) r ⌝ }

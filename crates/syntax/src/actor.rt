@@ -68,7 +68,8 @@ fn chase_service(
     node: usize,
     other: Refusal,
 ) -> Service
-    requires { ⌜ Admitted (now book) c × Roots (now roots) (c .nodes) × (node < c .nodes) ⌝ }
+    requires { ⌜ Admitted (now book) c × Roots (now roots) (c .nodes) × (node < c .nodes) ×
+        ((ds : List Definition) × Tabled (nodesPart (now book)) (now roots) main ds) ⌝ }
     ensures { λ r. ⌜ ServiceAs (nodesPart (now (book .entry))) (now (roots .entry)) (c .nodes) main
         (λ ds. serviceVerdict other (aliasEnd ds (treeAt (nodesPart (now (book .entry))) node)))
         (λ ds. methodsOf ds (treeAt (nodesPart (now (book .entry))) node)) r ⌝ }
@@ -98,7 +99,8 @@ fn main_service(
     root: u16,
     below: usize,
 ) -> Service
-    requires { ⌜ Admitted (now book) c × Roots (now roots) (c .nodes) × ((root ≡ 65535 → ⊥) → (root < c .nodes) × BelowAs (nodesPart (now book)) root below) ⌝ }
+    requires { ⌜ Admitted (now book) c × Roots (now roots) (c .nodes) × ((root ≡ 65535 → ⊥) → (root < c .nodes) × BelowAs (nodesPart (now book)) root below) ×
+        ((ds : List Definition) × Tabled (nodesPart (now book)) (now roots) main ds) ⌝ }
     ensures { λ r. ⌜ MainAs (nodesPart (now (book .entry))) (now (roots .entry)) (c .nodes) main root r ⌝ }
 {
     if root == Entry::NO_ROOT {
@@ -136,7 +138,8 @@ fn service_count(rows: &[u8], e: u16) -> usize
 
 // Without service imports the actor is main's as written: the service at the end of the chain from what stands below its top.
 fn written(rows: &[u8], ends: &[u16], root: u16, top: Top) -> Interface
-    requires { ⌜ ((names nodes : ℕ) × AllTrees (now rows) names nodes × EndNodes (now ends) nodes × ((root ≡ 65535 → ⊥) → root < nodes) × TopAs (now rows) nodes root top) ⌝ }
+    requires { ⌜ ((names nodes : ℕ) × AllTrees (now rows) names nodes × EndNodes (now ends) nodes × ((root ≡ 65535 → ⊥) → root < nodes) × TopAs (now rows) nodes root top ×
+        ((ds : List Definition) × Chains (now rows) (now ends) names ds)) ⌝ }
     ensures { λ r. ⌜ ((names nodes : ℕ) (ds : List Definition) → AllTrees (now (rows .entry)) names nodes → EndNodes (now (ends .entry)) nodes → ((root ≡ 65535 → ⊥) → root < nodes) →
         TopAs (now (rows .entry)) nodes root top → Chains (now (rows .entry)) (now (ends .entry)) names ds → ActorAs (now (rows .entry)) nodes ds (actorAt (now (rows .entry)) root) r) ⌝ }
 {
@@ -180,7 +183,7 @@ fn import_services(
     first: Service,
 ) -> Services
     requires { ⌜ ((a : Admitted (now book) c) × Listed (filesPart (now book)) (c .files) (imports .files) (imports .count) × Roots (now roots) (c .nodes) ×
-        ((root : ℕ) × MainService (nodesPart (now book)) (now roots) (c .nodes) main root first)) ⌝ }
+        ((root : ℕ) × MainService (nodesPart (now book)) (now roots) (c .nodes) main root first) × ((ds : List Definition) × Tabled (nodesPart (now book)) (now roots) main ds)) ⌝ }
     ensures { λ r. ⌜ ((a : Admitted (now (book .entry)) c) (root : ℕ) → Listed (filesPart (now (book .entry))) (c .files) (imports .files) (imports .count) →
         MainService (nodesPart (now (book .entry))) (now (roots .entry)) (c .nodes) main root first →
         ServicesAs (nodesPart (now (book .entry))) (now (roots .entry)) (c .nodes) main root (listedFiles (nodesPart (now (book .entry))) (filesPart (now (book .entry))) (take (imports .count) (imports .files))) r) ⌝ }
@@ -223,7 +226,8 @@ fn import_services(
 
 // With service imports: main is resolved first (3, 10), then the imports.
 fn merge(book: &[u8], c: Contents, files: Files, main: usize, roots: &[u16], top: Top) -> Resolved
-    requires { ⌜ ((a : Admitted (now book) c) × FilesPassed a files × Roots (now roots) (c .nodes) × TopAs (nodesPart (now book)) (c .nodes) (files .root) top) ⌝ }
+    requires { ⌜ ((a : Admitted (now book) c) × FilesPassed a files × Roots (now roots) (c .nodes) × TopAs (nodesPart (now book)) (c .nodes) (files .root) top ×
+        ((ds : List Definition) × Tabled (nodesPart (now book)) (now roots) main ds)) ⌝ }
     ensures { λ r. ⌜ ((a : Admitted (now (book .entry)) c) → FilesPassed a files → TopAs (nodesPart (now (book .entry))) (c .nodes) (files .root) top →
         MergedActorAs a (now (roots .entry)) main r) ⌝ }
 {
@@ -273,7 +277,7 @@ pub fn resolve_actor(
     ends: &[u16],
 ) -> Resolved
     requires { ⌜ ((a : Admitted (now book) c) × FilesPassed a files × Roots (now roots) (c .nodes) × EndNodes (now ends) (c .nodes) ×
-        ((ds : List Definition) × Tabled (nodesPart (now book)) (now roots) main ds)) ⌝ }
+        ((ds : List Definition) × Tabled (nodesPart (now book)) (now roots) main ds × Chains (nodesPart (now book)) (now ends) (c .names) ds)) ⌝ }
     ensures { λ r. ⌜ ((a : Admitted (now (book .entry)) c) (ds : List Definition) → FilesPassed a files → EndNodes (now (ends .entry)) (c .nodes) →
         Tabled (nodesPart (now (book .entry))) (now (roots .entry)) main ds → Chains (nodesPart (now (book .entry))) (now (ends .entry)) (c .names) ds → ResolvedAs a ds r) ⌝ }
 {

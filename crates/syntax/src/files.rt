@@ -1,11 +1,12 @@
 // The files of a book, walked once: which are service imports (12), and which has the init arguments.
 ghost use mathlib.Core.Path.{_≡_};
 ghost use mathlib.Core.Bool.{cond, _&&_};
+ghost use mathlib.Core.List.{List};
 ghost use Prim.Native.Nat.{ℕ, _≤_};
 ghost use lib.Dec.{eqb};
 ghost use Rattle.format.specs.Layout.{filesPart};
 ghost use Rattle.book.specs.Reading.{Admitted, EntryWithin};
-ghost use Rattle.syntax.specs.Files.{FileTable, initAt, SplitAs, ImportsAs, FilesAs};
+ghost use Rattle.syntax.specs.Files.{FileRoots, FileTable, initAt, SplitAs, ImportsAs, FilesAs};
 use book::kinds::Contents;
 use book::kinds::Role;
 use book::read::Entry;
@@ -49,7 +50,7 @@ fn import_count(e: Entry) -> usize
 
 // 12: a service import has an actor.
 fn list_imports(files: &[u8], count: usize) -> Imports
-    requires { ⌜ ((nodes : ℕ) × FileTable (now files) count nodes) ⌝ }
+    requires { ⌜ ((nodes : ℕ) × FileTable (now files) count nodes × ((ns : List ℕ) × FileRoots ns (now files) count)) ⌝ }
     ensures { λ r. ⌜ ImportsAs (now (files .entry)) count r ⌝ }
 {
     let mut numbers = crate::interface::no_services();

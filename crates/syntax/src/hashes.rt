@@ -31,7 +31,7 @@ fn has(met: &[u32], link: &[u16], last: u16, hash: u32) -> bool
 
 // 14: a method whose hash an earlier one has, of the first `count` services in order. The table has the hash of each name.
 pub(crate) fn hashes(rows: &[u8], table: &[u32], services: [u16; 16], count: usize) -> Verdict
-    requires { ⌜ ServicesIn (now rows) services count × (length (now table) ≡ 1024) ⌝ }
+    requires { ⌜ ServicesIn (now rows) services count × (length (now table) ≡ 1024) × ((names : List (List ℕ)) × HashesAgree (now table) names) ⌝ }
     ensures { λ r. ⌜ ((names : List (List ℕ)) → HashesAgree (now (table .entry)) names →
         r ≡ hashesVerdict names [] (methodsIn (now (rows .entry)) (take count services))) ⌝ }
 {

@@ -46,11 +46,12 @@ NoInitFile {bs} {c} a = initAt (filesPart bs) (c .files) ≡ c .files
 abbrev pub ownDefinitions : List ℕ → Contents → ℕ → List Definition
 ownDefinitions bs c main = definitionsIn (nodesPart bs) (definitionsPart bs) main (c .definitions)
 
--- They have a verdict; where they pass, the table is theirs.
+-- They have a verdict; where they pass, the table is theirs, and where they are refused, it has nothing, as it was lent.
 pub record OwnDecsAs (bs : List ℕ) (c : Contents) (main : ℕ) (own : List ℕ) (v : Verdict) : Type 0 where
   pub verdict : v ≡ decsVerdict (c .names) (ownDefinitions bs c main)
   pub table : v ≡ Passed → Roots own (c .nodes)
   pub binds : v ≡ Passed → Binds (nodesPart bs) own (ownDefinitions bs c main)
+  pub left : isPassed v ≡ false → own ≡ blankTable
 
 -- They passed.
 pub record OwnPassed {bs : List ℕ} {c : Contents} (a : Admitted bs c) (own : List ℕ) (init main : ℕ) : Type 0 where

@@ -3,7 +3,7 @@ use mathlib.Core.Path.{_≡_}
 use mathlib.Core.Bool.{false}
 use mathlib.Core.List.{List}
 use Prim.Native.Nat.{ℕ, _≤_}
-use lib.ListN.{length}
+use lib.ListN.{length, getD}
 use Rattle.format.specs.Forest.{end, count}
 use Rattle.format.specs.Book.{trees}
 use Rattle.format.specs.Layout.{nodesPart, definitionsPart, filesPart}
@@ -19,6 +19,7 @@ use Rattle.typing.specs.declared.prog.Passed.{Passed}
 use Rattle.typing.specs.declared.prog.Found.{Found}
 use Rattle.environment.specs.Trees.{AllTrees}
 use Rattle.book.specs.Reading.{Admitted}
+use Rattle.book.specs.Tables.{blankTable}
 use Rattle.typing.specs.Decs.{Checked, DecsAs}
 use Rattle.syntax.specs.Files.{initAt, SplitAs}
 use Rattle.syntax.specs.Interfaces.{interfaceTree, InterfaceNodes, noInterface, InterfaceAs}
@@ -38,6 +39,7 @@ pub record PassedAs {bs : List ℕ} {c : Contents} (a : Admitted bs c) (roots en
   pub counted : length (mainDefinitions (a .book)) ≡ p .main
   pub checked : Checked (nodesPart bs) roots ends′ (count (trees (a .book))) (mainDefinitions (a .book))
   pub chains : Chains (nodesPart bs) ends′ (length (a .book .names)) (mainDefinitions (a .book))
+  pub beyond : (n : ℕ) → length (a .book .names) ≤ n → getD ends′ n 65535 ≡ 65535
   pub all : AllTrees (nodesPart bs) (length (a .book .names)) (count (trees (a .book)))
   pub tree : interfaceTree (nodesPart bs) (p .interface) ≡ resolveActor (a .book)
   pub nodes : InterfaceNodes (nodesPart bs) (count (trees (a .book))) (p .interface)
@@ -49,10 +51,16 @@ abbrev pub foundNone : Contents → Verdict → Found
 foundNone c v = record { verdict = v; passed = record { contents = c; main = 0; interface = noInterface } }
 
 -- The verdict is that of the check; where the book passes, what is handed on is its own.
-pub record FoundAs {bs : List ℕ} {c : Contents} (a : Admitted bs c) (roots ends′ : List ℕ) (r : Found) : Type 0 where
+pub record ActorFoundAs {bs : List ℕ} {c : Contents} (a : Admitted bs c) (roots ends′ : List ℕ) (r : Found) : Type 0 where
   pub verdict : r .verdict ≡ check (a .book)
   pub passed : r .verdict ≡ passes → PassedAs a roots ends′ (r .passed)
   pub refused : isPassed (r .verdict) ≡ false → r ≡ foundNone c (r .verdict)
+
+-- The same, and where the book is refused, both tables have nothing, as they were lent.
+pub record FoundAs {bs : List ℕ} {c : Contents} (a : Admitted bs c) (roots ends′ : List ℕ) (r : Found) : Type 0 where
+  pub found : ActorFoundAs a roots ends′ r
+  pub roots-left : isPassed (r .verdict) ≡ false → roots ≡ blankTable
+  pub ends-left : isPassed (r .verdict) ≡ false → ends′ ≡ blankTable
 
 -- A passed book, as a question takes it.
 pub record PassedBook (bs roots ends′ : List ℕ) (p : Passed) : Type 0 where

@@ -1,17 +1,19 @@
 // The definitions of a book, or of its init file: `check_decs` of typing.rs.
 ghost use mathlib.Core.Path.{_≡_};
+ghost use mathlib.Core.List.{List};
 ghost use Prim.Native.Nat.{_≤_};
+ghost use Rattle.format.specs.Book.{Definition};
 ghost use Rattle.format.specs.Layout.{nodesPart, definitionsPart};
 ghost use Rattle.book.specs.Reading.{Admitted};
 ghost use Rattle.book.specs.Tables.{blankTable};
-ghost use Rattle.environment.specs.Tables.{Nodes, Roots};
-ghost use Rattle.typing.specs.Decs.{DecsAs, Entered, Walked, CycleAs};
+ghost use Rattle.environment.specs.Tables.{Nodes, Roots, Tabled};
+ghost use Rattle.typing.specs.Decs.{EnteredAs, DecsAs, Entered, Walked, CycleAs};
 use book::kinds::Contents;
 use environment::Table;
 use refusals::Refusal;
 use refusals::Verdict;
 
-// 7: `check_cycle`. The alias ends go into a table that has nothing.
+// 7: `check_cycle`. The alias ends go into a table that has nothing, and has nothing again where they are refused.
 fn check_cycle(
     rows: &[u8],
     roots: &[u16],
@@ -20,7 +22,7 @@ fn check_cycle(
     definitions: usize,
     ends: &mut [u16],
 ) -> Verdict
-    requires { ⌜ Nodes (now rows) names nodes × Roots (now roots) nodes × (now ends ≡ blankTable) ⌝ }
+    requires { ⌜ Nodes (now rows) names nodes × Roots (now roots) nodes × (now ends ≡ blankTable) × ((ds : List Definition) × Tabled (now rows) (now roots) definitions ds) ⌝ }
     ensures { λ r. ⌜ CycleAs (now (rows .entry)) (now (roots .entry)) names nodes definitions (now (ends .exit)) r ⌝ }
 {
     let circle = environment::find_ends(rows, roots, names, nodes, definitions, ends);
@@ -40,7 +42,7 @@ fn check_ends(
     ends: &mut [u16],
 ) -> Verdict
     requires { ⌜ Admitted (now book) c × Walked (definitionsPart (now book)) (nodesPart (now book)) (c .names) (c .nodes) from to (now roots) × (now ends ≡ blankTable) ⌝ }
-    ensures { λ r. ⌜ DecsAs (definitionsPart (now (book .entry))) (nodesPart (now (book .entry))) (c .names) (c .nodes) from to r (now (roots .entry)) (now (ends .exit)) ⌝ }
+    ensures { λ r. ⌜ EnteredAs (definitionsPart (now (book .entry))) (nodesPart (now (book .entry))) (c .names) (c .nodes) from to r (now (roots .entry)) (now (ends .exit)) ⌝ }
 {
     let rows = c.nodes(book);
     let v = check_cycle(rows, roots, c.names, c.nodes, to - from, ends);
@@ -50,6 +52,7 @@ fn check_ends(
     if crate::defs::validate_decs(c.definitions(book), rows, ends, from, to) {
         return Verdict::Passed;
     }
+    environment::clear(ends);
     Verdict::Refused(Refusal::NoFunction)
 }
 
@@ -63,7 +66,7 @@ fn check_entered(
     ends: &mut [u16],
 ) -> Verdict
     requires { ⌜ Admitted (now book) c × Entered (definitionsPart (now book)) (nodesPart (now book)) (c .names) (c .nodes) from to (now roots) × (now ends ≡ blankTable) ⌝ }
-    ensures { λ r. ⌜ DecsAs (definitionsPart (now (book .entry))) (nodesPart (now (book .entry))) (c .names) (c .nodes) from to r (now (roots .entry)) (now (ends .exit)) ⌝ }
+    ensures { λ r. ⌜ EnteredAs (definitionsPart (now (book .entry))) (nodesPart (now (book .entry))) (c .names) (c .nodes) from to r (now (roots .entry)) (now (ends .exit)) ⌝ }
 {
     let rows = c.nodes(book);
     let v = crate::defs::check_defs(c.definitions(book), rows, roots, ends, from, to);
@@ -73,7 +76,8 @@ fn check_entered(
     check_ends(book, c, from, to, roots, ends)
 }
 
-// The definitions of entries `from` up to `to`: 2, the bodies, 7 and 8. The roots and alias ends go into tables that have nothing.
+// The definitions of entries `from` up to `to`: 2, the bodies, 7 and 8. The roots and alias ends go into tables that have nothing, and have
+// nothing again where the definitions are refused.
 pub(crate) fn check_decs(
     book: &[u8],
     c: Contents,
@@ -89,5 +93,10 @@ pub(crate) fn check_decs(
     if twice != Table::NONE {
         return Verdict::Refused(Refusal::Twice(twice));
     }
-    check_entered(book, c, from, to, roots, ends)
+    let v = check_entered(book, c, from, to, roots, ends);
+    if !v.passed() {
+        environment::clear(roots);
+        return v;
+    }
+    v
 }

@@ -1,6 +1,6 @@
 // The bodies of definitions: `check_defs` and `validate_decs` of typing.rs.
 ghost use mathlib.Core.Path.{_≡_};
-ghost use mathlib.Core.Bool.{true};
+ghost use mathlib.Core.Bool.{true, false};
 ghost use mathlib.Core.List.{List};
 ghost use Prim.Native.Nat.{ℕ};
 ghost use Rattle.format.specs.Book.{Definition};
@@ -23,7 +23,7 @@ pub(crate) fn check_defs(
     from: usize,
     to: usize,
 ) -> Verdict
-    requires { ⌜ BodiesIn (now entries) (now rows) (now roots) (now ends) from to ⌝ }
+    requires { ⌜ BodiesIn (now entries) (now rows) (now roots) (now ends) from to × ((all : List Definition) × Env (now rows) (now roots) (now ends) true all) ⌝ }
     ensures { λ r. ⌜ ((all : List Definition) → Env (now (rows .entry)) (now (roots .entry)) (now (ends .entry)) true all →
         r ≡ bodiesVerdict all (definitionsIn (now (rows .entry)) (now (entries .entry)) from to)) ⌝ }
 {
@@ -41,7 +41,7 @@ pub(crate) fn check_defs(
 
 // Whether each method of each service in the trees from node `from` up to node `until` is a function. `tested`: these trees are methods.
 fn validate_type(rows: &[u8], ends: &[u16], tested: bool, from: usize, until: usize) -> bool
-    requires { ⌜ ((roots : List ℕ) × Trees (now rows) roots (now ends) from until) ⌝ }
+    requires { ⌜ ((roots : List ℕ) × Trees (now rows) roots (now ends) from until × ((ds : List Definition) × Env (now rows) roots (now ends) false ds)) ⌝ }
     ensures { λ r. ⌜ FitAs (now (rows .entry)) (now (ends .entry)) tested from until r ⌝ }
 {
     let mut i = from;
@@ -67,7 +67,7 @@ pub(crate) fn validate_decs(
     from: usize,
     to: usize,
 ) -> bool
-    requires { ⌜ ((roots : List ℕ) × BodiesIn (now entries) (now rows) roots (now ends) from to) ⌝ }
+    requires { ⌜ ((roots : List ℕ) × BodiesIn (now entries) (now rows) roots (now ends) from to × ((all : List Definition) × Env (now rows) roots (now ends) false all)) ⌝ }
     ensures { λ r. ⌜ BodiesFitAs (now (entries .entry)) (now (rows .entry)) (now (ends .entry)) from to r ⌝ }
 {
     let mut d = from;

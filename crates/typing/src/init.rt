@@ -38,7 +38,8 @@ fn refused(verdict: Verdict) -> InitFound
     }
 }
 
-// The init file's own definitions, which are those of the entries from `main` on: they do not see main's. Their table goes into `own`.
+// The init file's own definitions, which are those of the entries from `main` on: they do not see main's. Their table goes into `own`, which
+// has nothing before, and nothing where they are refused.
 fn check_own(book: &[u8], c: Contents, main: usize, own: &mut [u16]) -> Verdict
     requires { ⌜ Admitted (now book) c × (main ≤ c .definitions) × (now own ≡ blankTable) ⌝ }
     ensures { λ r. ⌜ OwnDecsAs (now (book .entry)) c main (now (own .exit)) r ⌝ }
@@ -169,7 +170,7 @@ fn check_file(book: &[u8], p: Passed, roots: &[u16], init: usize, both: &mut [u1
 
 // Without an init file the arguments, which are none, see main's definitions.
 fn no_file(book: &[u8], p: Passed, roots: &[u16], both: &mut [u16]) -> InitFound
-    requires { ⌜ (length (now roots) ≡ 1024) × (length (now both) ≡ 1024) ⌝ }
+    requires { ⌜ ((ends : List ℕ) × (x : PassedBook (now book) (now roots) ends p) × NoInitFile (x .admitted)) × (length (now both) ≡ 1024) ⌝ }
     ensures { λ r. ⌜ ((ends : List ℕ) (x : PassedBook (now (book .entry)) (now (roots .entry)) ends p) → NoInitFile (x .admitted) → InitFoundAs (x .admitted) (now (both .exit)) r) ⌝ }
 {
     let none = book::tables::blank();

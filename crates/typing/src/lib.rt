@@ -59,7 +59,8 @@ fn check_modes(value: u32, kids: usize) -> Verdict
 
 // The type at node n. While bodies are walked (`pre`) methods are not tested for being functions.
 fn check_type(rows: &[u8], roots: &[u16], ends: &[u16], pre: bool, n: usize) -> Verdict
-    requires { ⌜ Trees (now rows) (now roots) (now ends) n (n + rowAt (now rows) n .size) × (n < n + rowAt (now rows) n .size) ⌝ }
+    requires { ⌜ Trees (now rows) (now roots) (now ends) n (n + rowAt (now rows) n .size) × (n < n + rowAt (now rows) n .size) ×
+        ((ds : List Definition) × Env (now rows) (now roots) (now ends) pre ds) ⌝ }
     ensures { λ r. ⌜ ((ds : List Definition) → Env (now (rows .entry)) (now (roots .entry)) (now (ends .entry)) pre ds → r ≡ typeVerdict pre ds (now (rows .entry)) n) ⌝ }
 {
     let t = Node::at(rows, n);
@@ -92,7 +93,7 @@ fn check_fields(
     from: usize,
     until: usize,
 ) -> Verdict
-    requires { ⌜ Trees (now rows) (now roots) (now ends) from until ⌝ }
+    requires { ⌜ Trees (now rows) (now roots) (now ends) from until × ((ds : List Definition) × Env (now rows) (now roots) (now ends) pre ds) ⌝ }
     ensures { λ r. ⌜ ((ds : List Definition) → Env (now (rows .entry)) (now (roots .entry)) (now (ends .entry)) pre ds → r ≡ checkForest pre false ds (siblings (now (rows .entry)) from until)) ⌝ }
 {
     let mut i = from;
@@ -117,7 +118,7 @@ fn check_func(
     from: usize,
     until: usize,
 ) -> Verdict
-    requires { ⌜ Trees (now rows) (now roots) (now ends) from until ⌝ }
+    requires { ⌜ Trees (now rows) (now roots) (now ends) from until × ((ds : List Definition) × Env (now rows) (now roots) (now ends) pre ds) ⌝ }
     ensures { λ r. ⌜ ((ds : List Definition) → Env (now (rows .entry)) (now (roots .entry)) (now (ends .entry)) pre ds → r ≡ funcVerdict pre ds value (siblings (now (rows .entry)) from until)) ⌝ }
 {
     let mut i = from;
@@ -154,7 +155,7 @@ fn check_meths(
     from: usize,
     until: usize,
 ) -> Verdict
-    requires { ⌜ Methods (now rows) (now roots) (now ends) from until ⌝ }
+    requires { ⌜ Methods (now rows) (now roots) (now ends) from until × ((ds : List Definition) × Env (now rows) (now roots) (now ends) pre ds) ⌝ }
     ensures { λ r. ⌜ ((ds : List Definition) → Env (now (rows .entry)) (now (roots .entry)) (now (ends .entry)) pre ds → r ≡ checkForest pre (not pre) ds (siblings (now (rows .entry)) from until)) ⌝ }
 {
     let mut i = from;

@@ -4,7 +4,7 @@ ghost use mathlib.Core.Path.{_≡_};
 ghost use Rattle.book.specs.Reading.{Admitted};
 ghost use Rattle.book.specs.Tables.{blankTable};
 ghost use Rattle.syntax.specs.Files.{FilesPassed};
-ghost use Rattle.typing.specs.Passing.{DecsPassed, foundNone, FoundAs};
+ghost use Rattle.typing.specs.Passing.{DecsPassed, foundNone, ActorFoundAs, FoundAs};
 use book::kinds::Contents;
 use refusals::Verdict;
 use syntax::files::Files;
@@ -49,7 +49,7 @@ fn check_resolved(
 ) -> Found
     requires { ⌜ ((a : Admitted (now book) c) × FilesPassed a files × DecsPassed a main (now roots) (now ends)) ⌝ }
     ensures { λ r. ⌜ ((a : Admitted (now (book .entry)) c) → FilesPassed a files → DecsPassed a main (now (roots .entry)) (now (ends .entry)) →
-        FoundAs a (now (roots .entry)) (now (ends .entry)) r) ⌝ }
+        ActorFoundAs a (now (roots .entry)) (now (ends .entry)) r) ⌝ }
 {
     let resolved = syntax::actor::resolve_actor(book, c, files, main, roots, ends);
     let v = resolved.verdict;
@@ -71,7 +71,8 @@ fn check_resolved(
     }
 }
 
-// The definitions that are not the init file's, of a book whose imports passed; and its actor.
+// The definitions that are not the init file's, of a book whose imports passed; and its actor. A refusal leaves both tables with nothing, as
+// they were lent.
 fn check_files(book: &[u8], c: Contents, files: Files, roots: &mut [u16], ends: &mut [u16]) -> Found
     requires { ⌜ ((a : Admitted (now book) c) × FilesPassed a files × (now roots ≡ blankTable) × (now ends ≡ blankTable)) ⌝ }
     ensures { λ r. ⌜ ((a : Admitted (now (book .entry)) c) → FilesPassed a files → FoundAs a (now (roots .exit)) (now (ends .exit)) r) ⌝ }
@@ -81,7 +82,14 @@ fn check_files(book: &[u8], c: Contents, files: Files, roots: &mut [u16], ends: 
     if !v.passed() {
         return nothing(c, v);
     }
-    check_resolved(book, c, files, main, roots, ends)
+    let found = check_resolved(book, c, files, main, roots, ends);
+    let w = found.verdict;
+    if !w.passed() {
+        environment::clear(roots);
+        environment::clear(ends);
+        return found;
+    }
+    found
 }
 
 // The check of an admitted book, into tables that have nothing: refusals 2 to 10 and 12 to 14, the first in the order of the check.

@@ -15,6 +15,10 @@ Inv-loop entries names nodes from to roots₀ d₀ roots d = TableLeft entries n
 abbrev μ-loop : tie.MeasureT-loop
 μ-loop entries names nodes from to roots₀ d₀ roots d = to - d
 
+-- the name has a definition already
+abbrev tested : tie.Then1 Inv-loop μ-loop → tie.Start Inv-loop μ-loop
+tested c = c .before .before .before .before .before .before .before .before
+
 loop-holds : tie.Need-loop-holds Inv-loop μ-loop
 loop-holds c = rw (c .before .before .pre .3) (table-start _ _ _ _ _ (c .before .before .pre .0))
 
@@ -37,11 +41,16 @@ mul-if1 c = omega (arith, named c)
 slice-read-if1 : tie.Need-slice-read-if1 Inv-loop μ-loop
 slice-read-if1 c = omega (arith, named (c .before), c .before .before .before .before .loop .inv .long)
 
+clear-requires : tie.Need-clear-requires Inv-loop μ-loop
+clear-requires c κs = c .before .before .before .before .before .before .loop .inv .long
+
 same-length : tie.Need-same-length Inv-loop μ-loop
-same-length c = c .before .before .before .before .before .loop .inv .long ∙ sym (ap length (c .before .before .before .before .before .before .before .before .pre .3) ∙ blank-length)
+same-length c = ap length (c .before .before .clear .ensures ∙ sym (tested (c .before .before .before .before) .pre .3))
 
 returns : tie.Need-returns Inv-loop μ-loop
-returns c = table-twice (c .before .before .before .before .before .before .before .before .pre .0) (c .before .before .before .before .before .before .before .before .pre .1) (c .before .before .before .before .before .before .before .before .pre .2) (c .before .before .before .before .before .loop .inv) (c .before .before .before .before .loop-test .taken) _ (c .before .before .before .at .ensures) (λ e. c .if1 .taken (in-table (c .before .before) ∙ e))
+returns c =
+    let k = c .before .before .before .before in let p = tested k .pre in
+    table-twice (p .0) (p .1) (p .2) (k .before .before .before .before .before .loop .inv) (k .before .before .before .before .loop-test .taken) _ (k .before .before .before .at .ensures) (λ e. k .if1 .taken (in-table (k .before .before) ∙ e)) (c .before .before .clear .ensures)
 
 mul-roots : tie.Need-mul-roots Inv-loop μ-loop
 mul-roots c = omega (arith, named (c .before .before))
@@ -75,6 +84,7 @@ enter-spec =
     cast-n
     mul-if1
     slice-read-if1
+    clear-requires
     same-length
     returns
     mul-roots

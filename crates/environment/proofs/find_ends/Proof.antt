@@ -18,6 +18,10 @@ abbrev μ-loop : tie.MeasureT-loop
 abbrev entry-after-in-loop : tie.In-loop Inv-loop μ-loop → tie.Start Inv-loop μ-loop
 entry-after-in-loop c = c .before .before .before .before .before .before .before .before .before
 
+-- the chain never ends
+abbrev turned : tie.Then1 Inv-loop μ-loop → tie.In-loop Inv-loop μ-loop
+turned c = c .before .before .before
+
 open-ends-requires : tie.Need-open-ends-requires Inv-loop μ-loop
 open-ends-requires c κs = (c .before .before .before .before .pre .1 .long, c .before .before .before .before .pre .0 .fewNames, c .before .before .before .before .pre .2)
 
@@ -25,16 +29,21 @@ loop-holds : tie.Need-loop-holds Inv-loop μ-loop
 loop-holds c = ends-start _ _ _ _ _ _ (c .before .before .open-ends .ensures)
 
 follow-requires : tie.Need-follow-requires Inv-loop μ-loop
-follow-requires c κs = ((entry-after-in-loop (c .before)) .pre .0, (entry-after-in-loop (c .before)) .pre .1, c .before .before .loop .inv .table, c .before .loop-test .taken)
+follow-requires c κs = ((entry-after-in-loop (c .before)) .pre .0, (entry-after-in-loop (c .before)) .pre .1, c .before .before .loop .inv .table, c .before .loop-test .taken, (entry-after-in-loop (c .before)) .pre .3)
+
+clear-requires : tie.Need-clear-requires Inv-loop μ-loop
+clear-requires c κs = c .before .before .before .before .before .loop .inv .table .long
 
 cast-result : tie.Need-cast-result Inv-loop μ-loop
-cast-result c = omega (arith, c .before .before .before .loop-test .taken, (entry-after-in-loop (c .before .before .before)) .pre .0 .fewNames)
+cast-result c = let k = turned (c .before .before .before .before) in omega (arith, k .loop-test .taken, (entry-after-in-loop k) .pre .0 .fewNames)
 
 same-length : tie.Need-same-length Inv-loop μ-loop
-same-length c = c .before .before .before .before .loop .inv .table .long ∙ sym (ap length ((entry-after-in-loop (c .before .before .before)) .pre .2) ∙ blank-length)
+same-length c = ap length (c .before .before .clear .ensures ∙ sym ((entry-after-in-loop (turned (c .before .before .before .before))) .pre .2))
 
 returns : tie.Need-returns Inv-loop μ-loop
-returns c = ends-circle ((entry-after-in-loop (c .before .before .before)) .pre .0 .fewNames) (c .before .before .before .before .loop .inv) (c .before .before .before .loop-test .taken) _ (c .before .follow .ensures) (c .if1 .taken)
+returns c =
+    let e = c .before .before .before .before in let k = turned e in
+    ends-circle ((entry-after-in-loop k) .pre .0 .fewNames) (k .before .loop .inv) (k .loop-test .taken) _ (e .before .follow .ensures) (e .if1 .taken) (c .before .before .clear .ensures)
 
 note-requires : tie.Need-note-requires Inv-loop μ-loop
 note-requires c κs = ((entry-after-in-loop (c .before .before .before .before)) .pre .0, (entry-after-in-loop (c .before .before .before .before)) .pre .1, c .before .before .before .before .before .loop .inv .table, c .before .before .before .before .loop-test .taken, c .before .before .follow .ensures .known (c .before .if1 .left))
@@ -63,6 +72,7 @@ find-ends-spec =
     open-ends-requires
     loop-holds
     follow-requires
+    clear-requires
     cast-result
     same-length
     returns

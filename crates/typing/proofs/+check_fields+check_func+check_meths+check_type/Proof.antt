@@ -2,16 +2,19 @@
 -- more, a type two for each node: so every call weighs less. Assumes nothing.
 use mathlib.Core.Path.{refl, sym, ap, _∙_}
 use mathlib.Core.Bool.{false}
+use mathlib.Core.List.{List}
 use Prim.Native.Nat.{ℕ, _+_, _-_, _*_, _<_}
 use native.Mathlib.Omega.{arith}
 use borrow.Author.Tests.{not-true, not-false}
 use borrow.Fn.Kinds.{In}
 use borrow.Fn.PlainCycle.{Measures, is, falls, and}
+use Rattle.format.specs.Book.{Definition}
 use Rattle.format.specs.Encode.{Row}
 use Rattle.book.specs.Reading.{asRow}
 use Rattle.format.specs.Layout.{rowAt}
 use Rattle.refusals.specs.declared.Refusal as refusal
 use Rattle.refusals.specs.declared.Verdict.the-variants.{Refused}
+use Rattle.typing.specs.Walk.{Env}
 use Rattle.typing.proofs.Nodes.{RowRead, row-kind, row-name, row-few, row-kids, row-methods, row-weight, at-prim, at-var, at-func, at-service, at-class, at-fields}
 use Rattle.environment.proofs.Trees.{ends-inside, one-at-least, this-tree, row-within, ended, method-label}
 use Rattle.typing.proofs.Walk.{WalkLeft, walk-start, walk-end, walk-stop, walk-method, walk-on, untested, method-refused, MethodsLeft, methods-start, methods-on, FuncLeft, func-start, func-end, func-stop, func-on}
@@ -91,13 +94,13 @@ abbrev fields-μ-loop : check-fields-lts.MeasureT-loop
 fields-μ-loop rows roots ends pre from until i₀ i = until - i
 
 fields-loop-holds : (t : ℕ) → check-fields-lts.Need-loop-holds (fields-calls t) (check-fields-at t) check-fields.Post fields-Inv-loop fields-μ-loop
-fields-loop-holds t c = walk-start (c .before .before .before .args .pre) false (c .before .before .before .pre .1)
+fields-loop-holds t c = walk-start (c .before .before .before .args .pre) false (c .before .before .before .pre .1 .0)
 
 fields-check-type-requires : (t : ℕ) → check-fields-lts.Need-check-type-requires (fields-calls t) (check-fields-at t) check-fields.Post fields-Inv-loop fields-μ-loop
 fields-check-type-requires t c κs =
     let t = c .before .loop .inv .trees in
     let h = c .loop-test .taken in
-    (omega (arith, one-at-least t h, ends-inside t h, c .before .loop .inv .later, c .before .before .before .before .before .pre .0), (this-tree t h, omega (arith, one-at-least t h)))
+    (omega (arith, one-at-least t h, ends-inside t h, c .before .loop .inv .later, c .before .before .before .before .before .pre .0), (this-tree t h, omega (arith, one-at-least t h), c .before .before .before .before .before .pre .1 .1))
 
 fields-passed-requires : (t : ℕ) → check-fields-lts.Need-passed-requires (fields-calls t) (check-fields-at t) check-fields.Post fields-Inv-loop fields-μ-loop
 fields-passed-requires t c κs = tt
@@ -127,13 +130,13 @@ abbrev func-μ-loop : check-func-lts.MeasureT-loop
 func-μ-loop rows roots ends pre value from until i₀ kids₀ i kids = until - i
 
 func-loop-holds : (t : ℕ) → check-func-lts.Need-loop-holds (func-calls t) (check-func-at t) check-func.Post func-Inv-loop func-μ-loop
-func-loop-holds t c = func-start (c .before .before .before .args .pre) (c .before .before .before .pre .1)
+func-loop-holds t c = func-start (c .before .before .before .args .pre) (c .before .before .before .pre .1 .0)
 
 func-check-type-requires : (t : ℕ) → check-func-lts.Need-check-type-requires (func-calls t) (check-func-at t) check-func.Post func-Inv-loop func-μ-loop
 func-check-type-requires t c κs =
     let t = c .before .loop .inv .walk .trees in
     let h = c .loop-test .taken in
-    (omega (arith, one-at-least t h, ends-inside t h, c .before .loop .inv .walk .later, c .before .before .before .before .before .pre .0), (this-tree t h, omega (arith, one-at-least t h)))
+    (omega (arith, one-at-least t h, ends-inside t h, c .before .loop .inv .walk .later, c .before .before .before .before .before .pre .0), (this-tree t h, omega (arith, one-at-least t h), c .before .before .before .before .before .pre .1 .1))
 
 func-passed-requires : (t : ℕ) → check-func-lts.Need-passed-requires (func-calls t) (check-func-at t) check-func.Post func-Inv-loop func-μ-loop
 func-passed-requires t c κs = tt
@@ -169,13 +172,13 @@ abbrev meths-μ-loop : check-meths-lts.MeasureT-loop
 meths-μ-loop rows roots ends pre from until i₀ i = until - i
 
 meths-loop-holds : (t : ℕ) → check-meths-lts.Need-loop-holds (meths-calls t) (check-meths-at t) check-meths.Post meths-Inv-loop meths-μ-loop
-meths-loop-holds t c = methods-start (c .before .before .before .args .pre) (c .before .before .before .pre .1)
+meths-loop-holds t c = methods-start (c .before .before .before .args .pre) (c .before .before .before .pre .1 .0)
 
 meths-check-type-requires : (t : ℕ) → check-meths-lts.Need-check-type-requires (meths-calls t) (check-meths-at t) check-meths.Post meths-Inv-loop meths-μ-loop
 meths-check-type-requires t c κs =
     let t = c .before .loop .inv .walk .trees in
     let h = c .loop-test .taken in
-    (omega (arith, one-at-least t h, ends-inside t h, c .before .loop .inv .walk .later, c .before .before .before .before .before .pre .0), (this-tree t h, omega (arith, one-at-least t h)))
+    (omega (arith, one-at-least t h, ends-inside t h, c .before .loop .inv .walk .later, c .before .before .before .before .before .pre .0), (this-tree t h, omega (arith, one-at-least t h), c .before .before .before .before .before .pre .1 .1))
 
 meths-passed-requires : (t : ℕ) → check-meths-lts.Need-passed-requires (meths-calls t) (check-meths-at t) check-meths.Post meths-Inv-loop meths-μ-loop
 meths-passed-requires t c κs = tt
@@ -239,6 +242,9 @@ inner t c = row t (read t c)
 weight : (t : ℕ) (c : Inner t) → let n = entry t (read t c) .args .n in 2 * (n + read t c .at .result .size - (n + 1)) + 1 < t
 weight t c = row-weight (inner t c) t (entry t (read t c) .pre .0)
 
+env : (t : ℕ) (c : Inner t) → let a = entry t (read t c) .args in (ds : List Definition) × Env (a .rows .now) (a .roots .now) (a .ends .now) (a .pre) ds
+env t c = entry t (read t c) .pre .1 .2
+
 type-returns : (t : ℕ) → check-type-lts.Need-returns (type-calls t) (check-type-at t) check-type.Post
 type-returns t c = λ ds e. at-prim _ ds _ _ _ (row t (c .before .before) .is) (c .if1 .taken)
 
@@ -257,13 +263,13 @@ type-add-until : (t : ℕ) → check-type-lts.Need-add-until (type-calls t) (che
 type-add-until t c = omega (arith, row-few (row t (c .before .before .before .before .before)) .1)
 
 type-check-func-requires : (t : ℕ) → check-type-lts.Need-check-func-requires (type-calls t) (check-type-at t) check-type.Post
-type-check-func-requires t c κs = (weight t (c .before), row-kids (inner t (c .before)))
+type-check-func-requires t c κs = (weight t (c .before), (row-kids (inner t (c .before)), env t (c .before)))
 
 type-returns-3 : (t : ℕ) → check-type-lts.Need-returns-3 (type-calls t) (check-type-at t) check-type.Post
 type-returns-3 t c = λ ds e. c .check-func .ensures ds e ∙ at-func _ ds _ _ _ (inner t (c .before .before) .is) (c .before .if3 .taken)
 
 type-check-meths-requires : (t : ℕ) → check-type-lts.Need-check-meths-requires (type-calls t) (check-type-at t) check-type.Post
-type-check-meths-requires t c κs = (weight t (c .before .before .before), row-methods (inner t (c .before .before .before)) (c .if4 .taken))
+type-check-meths-requires t c κs = (weight t (c .before .before .before), (row-methods (inner t (c .before .before .before)) (c .if4 .taken), env t (c .before .before .before)))
 
 type-returns-4 : (t : ℕ) → check-type-lts.Need-returns-4 (type-calls t) (check-type-at t) check-type.Post
 type-returns-4 t c = λ ds e. c .check-meths .ensures ds e ∙ at-service _ ds _ _ _ (inner t (c .before .before .before .before) .is) (c .before .if4 .taken)
@@ -272,7 +278,7 @@ type-returns-5 : (t : ℕ) → check-type-lts.Need-returns-5 (type-calls t) (che
 type-returns-5 t c = λ ds e. at-class _ ds _ _ _ (inner t (c .before .before .before .before .before) .is) (c .if5 .taken)
 
 type-check-fields-requires : (t : ℕ) → check-type-lts.Need-check-fields-requires (type-calls t) (check-type-at t) check-type.Post
-type-check-fields-requires t c κs = (weight t (c .before .before .before .before .before), row-kids (inner t (c .before .before .before .before .before)))
+type-check-fields-requires t c κs = (weight t (c .before .before .before .before .before), (row-kids (inner t (c .before .before .before .before .before)), env t (c .before .before .before .before .before)))
 
 type-returns-6 : (t : ℕ) → check-type-lts.Need-returns-6 (type-calls t) (check-type-at t) check-type.Post
 type-returns-6 t c =

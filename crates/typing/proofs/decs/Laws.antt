@@ -18,15 +18,16 @@ use Rattle.judgement.specs.Environment.{findType}
 use Rattle.judgement.specs.Check.{onceVerdict, bodiesVerdict, eachName, circleVerdict, bodiesFit, decsVerdict}
 use Rattle.book.specs.declared.kinds.Contents.{Contents}
 use Rattle.book.specs.Reading.{Admitted}
+use Rattle.book.specs.Tables.{blankTable}
 use Rattle.book.proofs.Opened.{names-count, definitions-count}
-use Rattle.environment.specs.Tables.{Roots, Binds, EndNodes, DefinesAs, AliasEndsAs, definitionsIn}
+use Rattle.environment.specs.Tables.{Roots, Binds, Tabled, EndNodes, DefinesAs, AliasEndsAs, definitionsIn}
 use Rattle.environment.proofs.Definitions.{defined-length, defined-binds, defined-once}
 use Rattle.environment.proofs.FuncEnds.{ends-func}
-use Rattle.refusals.proofs.Verdicts.{refused-passed, passed-is, and-on, and-stops}
+use Rattle.refusals.proofs.Verdicts.{passed-is, and-on, and-stops}
 use Rattle.syntax.proofs.Book.{all-trees, rows-exact, entries-of, definition-tree-fits}
 use Rattle.typing.specs.Walk.{Env}
 use Rattle.typing.specs.Defs.{BodiesIn, BodiesFitAs}
-use Rattle.typing.specs.Decs.{Bodies, Checked, DecsAs, Entered, Walked, CycleAs}
+use Rattle.typing.specs.Decs.{Bodies, Checked, EnteredAs, DecsAs, Entered, Walked, CycleAs}
 use Rattle.typing.proofs.defs.Entries.{bodies-in}
 
 -- the bodies of the entries of an admitted book
@@ -39,6 +40,14 @@ bodies-of {bs} a l h =
       fits = rw (names-count a) (λ d m k. definition-tree-fits bs (a .laid) d (omega (arith, k, h, definitions-count a)));
     }
 
+-- a refusal, wherever it comes from
+refuse : {es ns : List ℕ} {names count from to : ℕ} {v : Verdict} → v ≡ decsVerdict names (definitionsIn ns es from to) → isPassed v ≡ false →
+    {roots ends′ : List ℕ} → ends′ ≡ blankTable → EnteredAs es ns names count from to v roots ends′
+refuse {v = v} is f z = record { verdict = is; checked = λ e. never e; chains = λ e. never e; beyond = λ e. never e; left = λ g. z }
+  where
+    never : {A : Type 0} → v ≡ Passed → A
+    never e = absurd (false≢true (sym f ∙ ap isPassed e))
+
 module _ {es ns : List ℕ} {names count from to : ℕ} (x : Bodies es ns names count from to) {roots : List ℕ} {twice : ℕ} (d : DefinesAs es count from to roots twice) where
   abbrev ds : List Definition
   ds = definitionsIn ns es from to
@@ -46,14 +55,9 @@ module _ {es ns : List ℕ} {names count from to : ℕ} (x : Bodies es ns names 
   once-is : onceVerdict [] ds ≡ cond (eqb twice 65535) Passed (Refused (refusal.Refusal.Twice twice))
   once-is = defined-once ns (x .entries) d (x .nodes .fewNames)
 
-  pub decs-twice : (ends′ : List ℕ) → (twice ≡ 65535 → ⊥) → DecsAs es ns names count from to (Refused (refusal.Refusal.Twice twice)) roots ends′
+  pub decs-twice : {ends′ : List ℕ} → ends′ ≡ blankTable → (twice ≡ 65535 → ⊥) → DecsAs es ns names count from to (Refused (refusal.Refusal.Twice twice)) roots ends′
   unfolding decsVerdict
-  decs-twice ends′ h =
-      record {
-        verdict = sym (rw once-is (rw (ne-eqb twice 65535 h) refl));
-        checked = λ e. refused-passed e;
-        chains = λ e. refused-passed e;
-      }
+  decs-twice z h = record { entered = refuse (sym (rw once-is (rw (ne-eqb twice 65535 h) refl))) refl z; left = λ f. d .left h }
 
   pub entered : twice ≡ 65535 → Entered es ns names count from to roots
   entered h = record { bodies = x; defined = subst (DefinesAs es count from to roots) h d }
@@ -64,6 +68,10 @@ module _ {es ns : List ℕ} {names count from to : ℕ} {roots : List ℕ} (e : 
 
   binds : Binds ns roots (definitionsIn ns es from to)
   binds = defined-binds ns (x .entries) (e .defined) (x .nodes .fewNodes) refl
+
+  -- the table is that of the definitions
+  pub tabled : Tabled ns roots (to - from) (definitionsIn ns es from to)
+  tabled = (binds, defined-length ns (x .entries))
 
   pub table : Roots roots count
   table = e .defined .table (sym (e .defined .twice-is))
@@ -79,14 +87,9 @@ module _ {es ns : List ℕ} {names count from to : ℕ} {roots : List ℕ} (e : 
   env-pre ends′ = record { binds = binds; func = λ e. absurd (true≢false e) }
 
   module _ {v : Verdict} (q : v ≡ bodiesVerdict (definitionsIn ns es from to) (definitionsIn ns es from to)) where
-    pub decs-body : (ends′ : List ℕ) → isPassed v ≡ false → DecsAs es ns names count from to v roots ends′
+    pub decs-body : {ends′ : List ℕ} → ends′ ≡ blankTable → isPassed v ≡ false → EnteredAs es ns names count from to v roots ends′
     unfolding decsVerdict
-    decs-body ends′ f =
-        record {
-          verdict = sym (rw once-passed (rw (← q) (and-stops v _ f)));
-          checked = λ e. absurd (false≢true (sym f ∙ ap isPassed e));
-          chains = λ e. absurd (false≢true (sym f ∙ ap isPassed e));
-        }
+    decs-body z f = refuse (sym (rw once-passed (rw (← q) (and-stops v _ f)))) f z
 
     pub walked : isPassed v ≡ true → Walked es ns names count from to roots
     walked p = record { entered = e; walked = sym q ∙ passed-is v p }
@@ -105,14 +108,9 @@ module _ {es ns : List ℕ} {names count from to : ℕ} {roots : List ℕ} (w : 
   lowest : eachName (λ n. circleVerdict all n (findType all n)) 0 names ≡ v
   lowest = sym (y .verdict all (binds n) long)
 
-  pub decs-circle : isPassed v ≡ false → DecsAs es ns names count from to v roots ends′
+  pub decs-circle : isPassed v ≡ false → EnteredAs es ns names count from to v roots ends′
   unfolding decsVerdict
-  decs-circle f =
-      record {
-        verdict = sym (rw (once-passed n, w .walked, lowest) (and-stops v _ f));
-        checked = λ e. absurd (false≢true (sym f ∙ ap isPassed e));
-        chains = λ e. absurd (false≢true (sym f ∙ ap isPassed e));
-      }
+  decs-circle f = refuse (sym (rw (once-passed n, w .walked, lowest) (and-stops v _ f))) f (y .left f)
 
   module _ (p : isPassed v ≡ true) where
     ends-are : AliasEndsAs ns roots names count (to - from) ends′ 65535
@@ -133,31 +131,44 @@ module _ {es ns : List ℕ} {names count from to : ℕ} {roots : List ℕ} (w : 
               };
         }
 
+    pub env-ends : Env ns roots ends′ false all
+    env-ends = env-checked .env
+
     module _ {b : Bool} (f : BodiesFitAs es ns ends′ from to b) where
       fit-is : b ≡ bodiesFit all all
-      fit-is = f roots all (bodies-here n ends-nodes) (env-checked .env)
+      fit-is = f roots all (bodies-here n ends-nodes) env-ends
 
       said : (t : Bool) → b ≡ t → decsVerdict names all ≡ unless t refusal.Refusal.NoFunction
       unfolding decsVerdict
       said t e = rw (once-passed n, w .walked, lowest) (and-on v _ p ∙ ap (λ (z : Bool). unless z refusal.Refusal.NoFunction) (sym fit-is ∙ e))
 
-      pub decs-unfit : b ≡ false → DecsAs es ns names count from to (Refused refusal.Refusal.NoFunction) roots ends′
-      decs-unfit e =
+      pub decs-unfit : b ≡ false → {after : List ℕ} → after ≡ blankTable → EnteredAs es ns names count from to (Refused refusal.Refusal.NoFunction) roots after
+      decs-unfit e z = refuse (sym (said false e)) refl z
+
+      pub decs-passed : b ≡ true → EnteredAs es ns names count from to Passed roots ends′
+      decs-passed e =
           record {
-            verdict = sym (said false e);
-            checked = λ z. refused-passed z;
-            chains = λ z. refused-passed z;
+            verdict = sym (said true e);
+            checked = λ z. env-checked;
+            chains = λ z. ends-are .all refl all (binds n) long;
+            beyond = λ z. ends-are .beyond refl;
+            left = λ f. absurd (false≢true (sym f));
           }
 
-      pub decs-passed : b ≡ true → DecsAs es ns names count from to Passed roots ends′
-      decs-passed e = record { verdict = sym (said true e); checked = λ z. env-checked; chains = λ z. ends-are .all refl all (binds n) long }
+-- ---- the table of roots, as it is and cleared
+module _ {es ns : List ℕ} {names count from to : ℕ} {v : Verdict} {roots ends′ : List ℕ} (e : EnteredAs es ns names count from to v roots ends′) where
+  pub decs-found : isPassed v ≡ true → DecsAs es ns names count from to v roots ends′
+  decs-found p = record { entered = e; left = λ f. absurd (false≢true (sym f ∙ p)) }
+
+  pub decs-cleared : isPassed v ≡ false → {after : List ℕ} → after ≡ blankTable → DecsAs es ns names count from to v after ends′
+  decs-cleared f z = record { entered = refuse (e .verdict) f (e .left f); left = λ g. z }
 
 -- ---- 7
 module _ {ns roots : List ℕ} {names count definitions : ℕ} {ends′ : List ℕ} {circle′ : ℕ} (a : AliasEndsAs ns roots names count definitions ends′ circle′) where
   pub cycle-found : (circle′ ≡ 65535 → ⊥) → CycleAs ns roots names count definitions ends′ (Refused (refusal.Refusal.Circle circle′))
   cycle-found h =
-      record { verdict = λ ds b l. sym (a .lowest ds b l ∙ rw (ne-eqb circle′ 65535 h) refl); ends = λ e. absurd (false≢true e) }
+      record { verdict = λ ds b l. sym (a .lowest ds b l ∙ rw (ne-eqb circle′ 65535 h) refl); ends = λ e. absurd (false≢true e); left = λ e. a .left h }
 
   pub cycle-none : circle′ ≡ 65535 → CycleAs ns roots names count definitions ends′ Passed
   cycle-none h =
-      record { verdict = λ ds b l. sym (a .lowest ds b l ∙ rw h refl); ends = λ e. subst (AliasEndsAs ns roots names count definitions ends′) h a }
+      record { verdict = λ ds b l. sym (a .lowest ds b l ∙ rw h refl); ends = λ e. subst (AliasEndsAs ns roots names count definitions ends′) h a; left = λ e. absurd (false≢true (sym e)) }

@@ -144,7 +144,7 @@ module _ {bs : List ℕ} {c : Contents} (a : Admitted bs c) where
   rows = nodesPart bs
 
   pub own-as : {main : ℕ} {own ends′ : List ℕ} {v : Verdict} → DecsAs (definitionsPart bs) rows (c .names) (c .nodes) main (c .definitions) v own ends′ → OwnDecsAs bs c main own v
-  own-as d = record { verdict = d .verdict; table = λ e. d .checked e .table; binds = λ e. d .checked e .env .binds }
+  own-as d = record { verdict = d .entered .verdict; table = λ e. d .entered .checked e .table; binds = λ e. d .entered .checked e .env .binds; left = d .left }
 
   pub mergeable : {own roots hs : List ℕ} → Roots own (c .nodes) → Roots roots (c .nodes) → length hs ≡ 1024 → Mergeable rows hs own roots (c .names)
   mergeable y z l = record { count = c .nodes; nodes = all-trees a .nodes; long = l; first = y; second = z }
@@ -169,7 +169,7 @@ module _ {bs : List ℕ} {c : Contents} (a : Admitted bs c) where
       ends-all : AliasEndsAs rows both (c .names) (c .nodes) count′ ends′ 65535
       ends-all = subst (AliasEndsAs rows both (c .names) (c .nodes) count′ ends′) no-circle x
 
-      seen-env : Env rows both ends′ false ds
+      pub seen-env : Env rows both ends′ false ds
       seen-env =
           record {
             binds = s .binds;

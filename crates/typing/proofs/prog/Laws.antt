@@ -1,5 +1,6 @@
 -- The check of an admitted book, stage by stage. Assumes nothing.
 --     imports-refused, decs-refused, ..     a refusal at each stage
+--     found-passed, found-cleared           the tables as they are, and cleared
 --     defined, resolved-stored, ..          what the next stage asks
 --     prog-passed                           what is handed on
 use mathlib.Core.Path.{_≡_, refl, sym, ap, subst, _∙_}
@@ -22,6 +23,7 @@ use Rattle.refusals.specs.Verdict.{isPassed, andThen}
 use Rattle.refusals.proofs.Verdicts.{passed-is, both-pass, and-on, and-stops, unless-passed}
 use Rattle.book.specs.declared.kinds.Contents.{Contents}
 use Rattle.book.specs.Reading.{Admitted}
+use Rattle.book.specs.Tables.{blankTable}
 use Rattle.book.proofs.Opened.{names-count, nodes-count, definitions-count, files-count}
 use Rattle.judgement.specs.Environment.{mainDefinitions, asService, kidsOf}
 use Rattle.judgement.specs.Actor.{serviceImports, mainActor, isClass, belowClass, resolveActor}
@@ -36,9 +38,10 @@ use Rattle.syntax.specs.Resolving.{ResolvedAs}
 use Rattle.syntax.proofs.Book.{all-trees, book-trees, entries-of, main-definitions-are}
 use Rattle.syntax.proofs.interface.Laws.{interface-as}
 use Rattle.typing.specs.declared.prog.Found.{Found}
+use Rattle.typing.specs.Walk.{Env}
 use Rattle.typing.specs.Decs.{Checked, DecsAs}
 use Rattle.typing.specs.Actors.{ActorStored}
-use Rattle.typing.specs.Passing.{DecsPassed, foundNone, FoundAs}
+use Rattle.typing.specs.Passing.{DecsPassed, foundNone, ActorFoundAs, FoundAs}
 
 -- ---- The actor of a book that passes is a service below its top
 actor-service : (ds : List Definition) (t : Forest Node) → (t ≡ end → ⊥) → actorVerdict ds t ≡ passes → asService ds (belowClass t) ≡ true
@@ -56,19 +59,42 @@ definitions-passed b e =
     let p = both-pass (importsVerdict (serviceImports (b .files))) _ e in
     both-pass (decsVerdict (length (b .names)) (mainDefinitions b)) _ (p .1) .0
 
+-- ---- Definitions that passed have tables
+pub decs-tables : {es ns : List ℕ} {names count from to : ℕ} {v : Verdict} {roots ends′ : List ℕ} → DecsAs es ns names count from to v roots ends′ → isPassed v ≡ true →
+    Checked ns roots ends′ count (definitionsIn ns es from to)
+decs-tables {v = v} d p = d .entered .checked (passed-is v p)
+
 -- ---- A refusal, wherever it comes from
 module _ {bs : List ℕ} {c : Contents} (a : Admitted bs c) where
   abbrev ds : List Definition
   ds = mainDefinitions (a .book)
 
-  stop : {v : Verdict} → v ≡ check (a .book) → isPassed v ≡ false → {roots ends′ : List ℕ} {z : Found} → z ≡ foundNone c v → FoundAs a roots ends′ z
+  stop : {v : Verdict} → v ≡ check (a .book) → isPassed v ≡ false → {roots ends′ : List ℕ} {z : Found} → z ≡ foundNone c v → ActorFoundAs a roots ends′ z
   stop is f e = rw e (record { verdict = is; passed = λ q. absurd (false≢true (sym f ∙ ap isPassed q)); refused = λ g. refl })
+
+  -- the tables as they are, and cleared
+  module _ {roots ends′ : List ℕ} {r : Found} (x : ActorFoundAs a roots ends′ r) where
+    pub found-passed : isPassed (r .verdict) ≡ true → FoundAs a roots ends′ r
+    found-passed p = record { found = x; roots-left = λ f. absurd (false≢true (sym f ∙ p)); ends-left = λ f. absurd (false≢true (sym f ∙ p)) }
+
+    pub found-cleared : isPassed (r .verdict) ≡ false → {roots″ ends″ : List ℕ} → roots″ ≡ blankTable → ends″ ≡ blankTable → FoundAs a roots″ ends″ r
+    found-cleared f y z =
+        record {
+          found = record { verdict = x .verdict; passed = λ q. absurd (false≢true (sym f ∙ ap isPassed q)); refused = x .refused };
+          roots-left = λ g. y;
+          ends-left = λ g. z;
+        }
+
+  -- a refusal before anything is in the tables
+  stop-blank : {v : Verdict} → v ≡ check (a .book) → isPassed v ≡ false → {roots ends′ : List ℕ} → roots ≡ blankTable → ends′ ≡ blankTable → {z : Found} → z ≡ foundNone c v → FoundAs a roots ends′ z
+  stop-blank is f x y e = record { found = stop is f e; roots-left = λ g. x; ends-left = λ g. y }
 
   -- ---- 12
   module _ {r : Files} (x : FilesAs a r) where
-    pub imports-refused : isPassed (r .imports .verdict) ≡ false → {roots ends′ : List ℕ} {z : Found} → z ≡ foundNone c (r .imports .verdict) → FoundAs a roots ends′ z
+    pub imports-refused : isPassed (r .imports .verdict) ≡ false → {roots ends′ : List ℕ} → roots ≡ blankTable → ends′ ≡ blankTable →
+        {z : Found} → z ≡ foundNone c (r .imports .verdict) → FoundAs a roots ends′ z
     unfolding check
-    imports-refused f e = stop (sym (rw (← x .verdict) (and-stops (r .imports .verdict) _ f))) f e
+    imports-refused f = stop-blank (sym (rw (← x .verdict) (and-stops (r .imports .verdict) _ f))) f
 
     past-imports : isPassed (r .imports .verdict) ≡ true →
         check (a .book) ≡ andThen (decsVerdict (length (a .book .names)) ds) (andThen (resolveVerdict (a .book .names) ds (mainActor (a .book)) (serviceImports (a .book .files)) (resolveActor (a .book))) (actorVerdict ds (resolveActor (a .book))))
@@ -87,10 +113,10 @@ module _ {bs : List ℕ} {c : Contents} (a : Admitted bs c) where
 
     module _ {r : Files} (x : FilesPassed a r) {w : Verdict} {roots ends′ : List ℕ} (d : DecsAs (definitionsPart bs) (nodesPart bs) (c .names) (c .nodes) 0 main w roots ends′) where
       decs-is : w ≡ decsVerdict (length (a .book .names)) ds
-      decs-is = d .verdict ∙ ap (λ (k : ℕ). decsVerdict k (definitionsIn (nodesPart bs) (definitionsPart bs) 0 main)) (names-count a) ∙ ap (decsVerdict (length (a .book .names))) (sym definitions-are)
+      decs-is = d .entered .verdict ∙ ap (λ (k : ℕ). decsVerdict k (definitionsIn (nodesPart bs) (definitionsPart bs) 0 main)) (names-count a) ∙ ap (decsVerdict (length (a .book .names))) (sym definitions-are)
 
       pub decs-refused : isPassed w ≡ false → {z : Found} → z ≡ foundNone c w → FoundAs a roots ends′ z
-      decs-refused f e = stop (sym (past-imports (x .files) (x .passed) ∙ rw (← decs-is) (and-stops w _ f))) f e
+      decs-refused f = stop-blank (sym (past-imports (x .files) (x .passed) ∙ rw (← decs-is) (and-stops w _ f))) f (d .left f) (d .entered .left f)
 
       pub defined : isPassed w ≡ true → DecsPassed a main roots ends′
       defined p = record { split = s; passed = subst (λ (v : Verdict). DecsAs (definitionsPart bs) (nodesPart bs) (c .names) (c .nodes) 0 main v roots ends′) (passed-is w p) d }
@@ -98,7 +124,7 @@ module _ {bs : List ℕ} {c : Contents} (a : Admitted bs c) where
   -- ---- The resolved actor
   module _ {r : Files} (x : FilesPassed a r) {main : ℕ} {roots ends′ : List ℕ} (o : DecsPassed a main roots ends′) where
     tables : Checked (nodesPart bs) roots ends′ (c .nodes) ds
-    tables = rw (definitions-are (o .split)) (o .passed .checked refl)
+    tables = rw (definitions-are (o .split)) (o .passed .entered .checked refl)
 
     pub roots-table : Roots roots (c .nodes)
     roots-table = tables .table
@@ -107,10 +133,13 @@ module _ {bs : List ℕ} {c : Contents} (a : Admitted bs c) where
     ends-table = tables .ended
 
     pub ends-chains : Chains (nodesPart bs) ends′ (c .names) ds
-    ends-chains = subst (λ (l : List Definition). Chains (nodesPart bs) ends′ (c .names) l) (sym (definitions-are (o .split))) (o .passed .chains refl)
+    ends-chains = subst (λ (l : List Definition). Chains (nodesPart bs) ends′ (c .names) l) (sym (definitions-are (o .split))) (o .passed .entered .chains refl)
 
     counted : length ds ≡ main
     counted = ap length (definitions-are (o .split)) ∙ defined-length (nodesPart bs) (entries-of a (omega arith) (o .split .within)) ∙ sub-zero main
+
+    pub env : Env (nodesPart bs) roots ends′ false ds
+    env = tables .env
 
     pub tabled : Tabled (nodesPart bs) roots main ds
     tabled = (tables .env .binds, counted)
@@ -123,7 +152,7 @@ module _ {bs : List ℕ} {c : Contents} (a : Admitted bs c) where
       unfolding resolveActor
       resolved-is = y .verdict
 
-      pub resolve-refused : isPassed (z .verdict) ≡ false → {w : Found} → w ≡ foundNone c (z .verdict) → FoundAs a roots ends′ w
+      pub resolve-refused : isPassed (z .verdict) ≡ false → {w : Found} → w ≡ foundNone c (z .verdict) → ActorFoundAs a roots ends′ w
       resolve-refused f e = stop (sym (past-decs ∙ rw (← resolved-is) (and-stops (z .verdict) _ f))) f e
 
       module _ (p : isPassed (z .verdict) ≡ true) where
@@ -150,10 +179,10 @@ module _ {bs : List ℕ} {c : Contents} (a : Admitted bs c) where
           check-is : v ≡ check (a .book)
           check-is = walked-is ∙ sym (past-decs ∙ rw (← resolved-is) (and-on (z .verdict) _ p))
 
-          pub actor-refused : isPassed v ≡ false → {w : Found} → w ≡ foundNone c v → FoundAs a roots ends′ w
+          pub actor-refused : isPassed v ≡ false → {w : Found} → w ≡ foundNone c v → ActorFoundAs a roots ends′ w
           actor-refused f e = stop check-is f e
 
-          pub prog-passed : isPassed v ≡ true → FoundAs a roots ends′ (record { verdict = v; passed = record { contents = c; main = main; interface = z .interface } })
+          pub prog-passed : isPassed v ≡ true → ActorFoundAs a roots ends′ (record { verdict = v; passed = record { contents = c; main = main; interface = z .interface } })
           prog-passed t =
               record {
                 verdict = check-is;
@@ -169,6 +198,7 @@ module _ {bs : List ℕ} {c : Contents} (a : Admitted bs c) where
                       counted = counted;
                       checked = rw (← nodes-count a) tables;
                       chains = subst (λ (k : ℕ). Chains (nodesPart bs) ends′ k ds) (names-count a) ends-chains;
+                      beyond = λ n h. o .passed .entered .beyond refl n (omega (arith, names-count a));
                       all = book-trees a;
                       tree = actor-as .tree;
                       nodes = rw (← nodes-count a) (actor-as .nodes);

@@ -25,7 +25,9 @@ check-prog-requires : tie.Need-check-prog-requires
 check-prog-requires c κs = (admission-gives _ (sym (c .before .before .before .c .given .1) ∙ c .before .before .before .before .before .admit .ensures) .read, c .before .before .before .before .before .before .before .before .before .pre .0, c .before .before .before .before .before .before .before .before .before .pre .1)
 
 returns : tie.Need-returns
-returns c = pass-refused _ _ _ (sym (c .before .before .before .why .given .1) ∙ c .before .before .before .before .before .admit .ensures) (c .before .no-contents .ensures) (c .nothing .ensures)
+returns c =
+    let p = c .before .before .before .before .before .before .before .before .before .pre in
+    pass-refused _ _ _ (sym (c .before .before .before .why .given .1) ∙ c .before .before .before .before .before .admit .ensures) (c .before .no-contents .ensures) (c .nothing .ensures) (p .0) (p .1)
 
 same-length : tie.Need-same-length
 same-length c = search needs

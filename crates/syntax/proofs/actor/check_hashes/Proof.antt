@@ -18,7 +18,7 @@ slice-aggregate-hashes : tie.Need-slice-aggregate-hashes
 slice-aggregate-hashes c = search needs
 
 hashes-requires : tie.Need-hashes-requires
-hashes-requires c κs = let p = c .before .before .before .before .before .before .pre in rw (c .before .nodes .ensures) (services-in (all-trees (p .0)) (p .1), c .before .before .before .name-hashes .ensures .long)
+hashes-requires c κs = let p = c .before .before .before .before .before .before .pre in rw (c .before .nodes .ensures) (services-in (all-trees (p .0)) (p .1), c .before .before .before .name-hashes .ensures .long, (p .0 .book .names, hashes-book (p .0) (rw (c .before .before .before .before .names .ensures) at (c .before .before .before .name-hashes .ensures))))
 
 returns : tie.Need-returns
 returns c = λ a. (rw (c .before .before .nodes .ensures) at (c .hashes .ensures)) (a .book .names) (hashes-book a (rw (c .before .before .before .before .before .names .ensures) at (c .before .before .before .before .name-hashes .ensures)))

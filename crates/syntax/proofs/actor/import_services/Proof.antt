@@ -54,7 +54,7 @@ cast-chase-service : tie.Need-cast-chase-service Inv-loop μ-loop
 cast-chase-service c = search needs
 
 chase-service-requires : tie.Need-chase-service-requires Inv-loop μ-loop
-chase-service-requires c κs = let p = c .before .before .before .before .before .before .before .before .before .pre in (p .0, p .2, import-inside (p .0) (p .1) (c .before .before .loop-test .taken) (rw (c .before .before .before .before .before .before .files .ensures) at (c .before .at .ensures)))
+chase-service-requires c κs = let p = c .before .before .before .before .before .before .before .before .before .pre in (p .0, p .2, import-inside (p .0) (p .1) (c .before .before .loop-test .taken) (rw (c .before .before .before .before .before .before .files .ensures) at (c .before .at .ensures)), p .4)
 
 passed-requires : tie.Need-passed-requires Inv-loop μ-loop
 passed-requires c κs = search needs

@@ -12,7 +12,7 @@ chase-service-requires : tie.Need-chase-service-requires
 chase-service-requires c κs =
     let p = c .before .before .before .pre in
     let b = p .2 (c .if1 .left) in
-    (p .0, p .1, omega (arith, b .1 .inside, all-trees (p .0) .nodes .tree _ (b .0) .ends))
+    (p .0, p .1, omega (arith, b .1 .inside, all-trees (p .0) .nodes .tree _ (b .0) .ends), p .3)
 
 returns-2 : tie.Need-returns-2
 returns-2 c =

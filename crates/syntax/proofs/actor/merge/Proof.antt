@@ -11,7 +11,7 @@ abbrev entry-after-imports : tie.After-import-services → tie.Start
 entry-after-imports c = c .before .before .before .before .before .before .before
 
 main-service-requires : tie.Need-main-service-requires
-main-service-requires c κs = let p = c .before .before .pre in (p .0, p .2, λ h. (root-inside (p .0) (p .1) h, p .3 .below h))
+main-service-requires c κs = let p = c .before .before .pre in (p .0, p .2, λ h. (root-inside (p .0) (p .1) h, p .3 .below h), p .4)
 
 passed-requires : tie.Need-passed-requires
 passed-requires c κs = search needs
@@ -23,7 +23,7 @@ returns : tie.Need-returns
 returns c = λ a x t. main-refused a x (c .before .before .before .main-service .ensures) (sym (c .before .before .passed .ensures) ∙ not-true _ (c .before .if1 .taken)) (c .refused .ensures)
 
 import-services-requires : tie.Need-import-services-requires
-import-services-requires c κs = let p = c .before .before .before .before .before .before .pre in (p .0, files-listed (p .0) (p .1), p .2, (c .before .before .before .before .before .before .args .files .root, record { main = c .before .before .before .main-service .ensures; passed = sym (c .before .before .passed .ensures) ∙ not-false _ (c .before .if1 .left) }))
+import-services-requires c κs = let p = c .before .before .before .before .before .before .pre in (p .0, files-listed (p .0) (p .1), p .2, (c .before .before .before .before .before .before .args .files .root, record { main = c .before .before .before .main-service .ensures; passed = sym (c .before .before .passed .ensures) ∙ not-false _ (c .before .if1 .left) }), p .4)
 
 passed-requires-2 : tie.Need-passed-requires-2
 passed-requires-2 c κs = search needs

@@ -21,7 +21,7 @@ written-requires : tie.Need-written-requires
 written-requires c κs =
     let p = c .before .before .before .before .before .before .before .before .pre in
     let t = (rw (c .before .before .before .before .nodes .ensures) at (c .before .before .before .top-of .ensures)) _ _ (all-trees (p .0)) (root-inside (p .0) (p .1)) in
-    rw (c .before .before .before .before .nodes .ensures) (_, _, all-trees (p .0), p .3, root-inside (p .0) (p .1), t)
+    rw (c .before .before .before .before .nodes .ensures) (_, _, all-trees (p .0), p .3, root-inside (p .0) (p .1), t, (_, p .4 .2))
 
 returns : tie.Need-returns
 returns c =
@@ -32,7 +32,7 @@ returns c =
 merge-requires : tie.Need-merge-requires
 merge-requires c κs =
     let p = c .before .before .before .before .before .before .before .before .pre in
-    (p .0, p .1, p .2, (rw (c .before .before .before .before .nodes .ensures) at (c .before .before .before .top-of .ensures)) _ _ (all-trees (p .0)) (root-inside (p .0) (p .1)))
+    (p .0, p .1, p .2, (rw (c .before .before .before .before .nodes .ensures) at (c .before .before .before .top-of .ensures)) _ _ (all-trees (p .0)) (root-inside (p .0) (p .1)), (_, p .4 .1))
 
 passed-requires : tie.Need-passed-requires
 passed-requires c κs = search needs

@@ -7,7 +7,7 @@ use Rattle.typing.proofs.actor.check_actor.Statement.{statement}
 use Rattle.typing.proofs.actor.check_actor.Tie as tie
 
 check-merged-requires : tie.Need-check-merged-requires
-check-merged-requires c κs = let p = c .before .before .before .before .pre in (p .0, p .1, c .if1 .taken)
+check-merged-requires c κs = let p = c .before .before .before .before .pre in (p .0, p .1, c .if1 .taken, p .2)
 
 returns : tie.Need-returns
 returns c = λ ds s e. c .check-merged .ensures ds s (c .before .if1 .taken) e
@@ -19,7 +19,10 @@ cast-check-top : tie.Need-cast-check-top
 cast-check-top c = search needs
 
 check-top-requires : tie.Need-check-top-requires
-check-top-requires c κs = root-stored (c .before .before .before .before .before .before .before .pre .1) (c .before .if2 .left)
+check-top-requires c κs =
+    let p = c .before .before .before .before .before .before .before .pre in
+    let s = root-stored (p .1) (c .before .if2 .left) in
+    (s .0, s .1, (p .0, p .2))
 
 passed-requires : tie.Need-passed-requires
 passed-requires c κs = search needs

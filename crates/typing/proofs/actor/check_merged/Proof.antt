@@ -7,7 +7,7 @@ use Rattle.typing.proofs.actor.check_merged.Statement.{statement}
 use Rattle.typing.proofs.actor.check_merged.Tie as tie
 
 check-fields-requires : tie.Need-check-fields-requires
-check-fields-requires c κs = let p = c .before .before .before .pre in arguments-stored (p .1) (p .2)
+check-fields-requires c κs = let p = c .before .before .before .pre in (arguments-stored (p .1) (p .2), (p .0, p .3))
 
 passed-requires : tie.Need-passed-requires
 passed-requires c κs = search needs
@@ -16,7 +16,7 @@ returns : tie.Need-returns
 returns c = λ ds s m e. arguments-stop s m (c .before .before .check-fields .ensures ds e) (sym (c .before .passed .ensures) ∙ not-true _ (c .if1 .taken))
 
 check-services-requires : tie.Need-check-services-requires
-check-services-requires c κs = let p = c .before .before .before .before .before .before .before .pre in services-stored (p .1) (p .2)
+check-services-requires c κs = let p = c .before .before .before .before .before .before .before .pre in (services-stored (p .1) (p .2), (p .0, p .3))
 
 returns-2 : tie.Need-returns-2
 returns-2 c = λ ds s m e. arguments-on s m (c .before .before .before .before .check-fields .ensures ds e) (sym (c .before .before .before .passed .ensures) ∙ not-false _ (c .before .before .if1 .left)) (c .check-services .ensures ds e)

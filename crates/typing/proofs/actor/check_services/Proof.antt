@@ -18,35 +18,38 @@ loop-holds : tie.Need-loop-holds Inv-loop μ-loop
 loop-holds c = merged-start _ _ _ _ _
 
 mul-check-type : tie.Need-mul-check-type Inv-loop μ-loop
-mul-check-type c = omega (arith, c .loop-test .taken, c .before .before .before .before .before .pre .few)
+mul-check-type c = omega (arith, c .loop-test .taken, c .before .before .before .before .before .pre .0 .few)
 
 array-read-check-type : tie.Need-array-read-check-type Inv-loop μ-loop
-array-read-check-type c = let s = c .before .before .before .before .before .pre in omega (arith, c .loop-test .taken, s .few, s .held)
+array-read-check-type c = let s = c .before .before .before .before .before .pre .0 in omega (arith, c .loop-test .taken, s .few, s .held)
 
 cast-check-type : tie.Need-cast-check-type Inv-loop μ-loop
-cast-check-type c = let s = c .before .before .before .before .before .pre in omega (arith, s .service _ (c .loop-test .taken) .0, s .all .nodes .fewNodes)
+cast-check-type c = let s = c .before .before .before .before .before .pre .0 in omega (arith, s .service _ (c .loop-test .taken) .0, s .all .nodes .fewNodes)
 
 check-type-requires : tie.Need-check-type-requires Inv-loop μ-loop
-check-type-requires c κs = service-stored (c .before .before .before .before .before .pre) (c .loop-test .taken)
+check-type-requires c κs =
+    let p = c .before .before .before .before .before .pre in
+    let s = service-stored (p .0) (c .loop-test .taken) in
+    (s .0, s .1, p .1)
 
 passed-requires : tie.Need-passed-requires Inv-loop μ-loop
 passed-requires c κs = search needs
 
 returns : tie.Need-returns Inv-loop μ-loop
 returns c =
-    let s = c .before .before .before .before .before .before .before .before .pre in
+    let s = c .before .before .before .before .before .before .before .before .pre .0 in
     let h = c .before .before .before .loop-test .taken in
     λ ds e. merged-stop (c .before .before .before .before .loop .inv) h (omega (arith, s .few, s .held)) (service-whole s h) (s .service _ h .1) _ (c .before .before .check-type .ensures) (sym (c .before .passed .ensures) ∙ not-true _ (c .if1 .taken)) ds e
 
 add-k : tie.Need-add-k Inv-loop μ-loop
-add-k c = omega (arith, c .before .before .before .loop-test .taken, c .before .before .before .before .before .before .before .before .pre .few)
+add-k c = omega (arith, c .before .before .before .loop-test .taken, c .before .before .before .before .before .before .before .before .pre .0 .few)
 
 loop-less : tie.Need-loop-less Inv-loop μ-loop
 loop-less c = omega (arith, c .before .before .before .loop-test .taken)
 
 loop-again : tie.Need-loop-again Inv-loop μ-loop
 loop-again c =
-    let s = c .before .before .before .before .before .before .before .before .pre in
+    let s = c .before .before .before .before .before .before .before .before .pre .0 in
     let h = c .before .before .before .loop-test .taken in
     merged-on (c .before .before .before .before .loop .inv) h (omega (arith, s .few, s .held)) (service-whole s h) (s .service _ h .1) _ (c .before .before .check-type .ensures) (sym (c .before .passed .ensures) ∙ not-false _ (c .if1 .left))
 

@@ -20,7 +20,7 @@ add-check-fields-2 : tie.Need-add-check-fields-2
 add-check-fields-2 c = let p = c .before .before .before .before .before .before .before .pre in omega (arith, p .0 .inside, p .0 .walk .nodes .fewNodes, ap (λ (q : Row). q .size) (c .before .before .before .at .ensures))
 
 check-fields-requires : tie.Need-check-fields-requires
-check-fields-requires c κs = let p = c .before .before .before .before .before .before .before .pre in rw (ap (λ (q : Row). q .size) (c .before .before .before .at .ensures)) (kids-trees (p .0) (p .1))
+check-fields-requires c κs = let p = c .before .before .before .before .before .before .before .pre in rw (ap (λ (q : Row). q .size) (c .before .before .before .at .ensures)) (kids-trees (p .0) (p .1), p .2)
 
 returns : tie.Need-returns
 returns c = let p = c .before .before .before .before .before .before .before .before .pre in λ ds e. c .check-fields .ensures ds e ∙ ap (checkForest false false ds) (top-class (opened (p .0) (p .1) .here) _ (c .before .before .before .before .at .ensures) (c .before .before .if1 .taken))

@@ -18,7 +18,7 @@ definitions-requires : tie.Need-definitions-requires
 definitions-requires c κs = c .before .before .before .before .pre .0
 
 check-defs-requires : tie.Need-check-defs-requires
-check-defs-requires c κs = let p = c .before .before .before .before .before .before .pre in rw (c .before .definitions .ensures, c .before .before .nodes .ensures) (bodies-here (p .1) (blank-nodes _ _ (p .2)))
+check-defs-requires c κs = let p = c .before .before .before .before .before .before .pre in rw (c .before .definitions .ensures, c .before .before .nodes .ensures) (bodies-here (p .1) (blank-nodes _ _ (p .2)), (_, env-pre (p .1) _))
 
 passed-requires : tie.Need-passed-requires
 passed-requires c κs = search needs
@@ -27,7 +27,7 @@ same-length : tie.Need-same-length
 same-length c = search needs
 
 returns : tie.Need-returns
-returns c = let e = c .before .before .before .before .before .before .before .before .before .pre .1 in decs-body e ((rw (c .before .before .before .before .definitions .ensures, c .before .before .before .before .before .nodes .ensures) at (c .before .before .check-defs .ensures)) _ (env-pre e _)) _ (sym (c .before .passed .ensures) ∙ not-true _ (c .if1 .taken))
+returns c = let p = c .before .before .before .before .before .before .before .before .before .pre in let e = p .1 in decs-body e ((rw (c .before .before .before .before .definitions .ensures, c .before .before .before .before .before .nodes .ensures) at (c .before .before .check-defs .ensures)) _ (env-pre e _)) (p .2) (sym (c .before .passed .ensures) ∙ not-true _ (c .if1 .taken))
 
 check-ends-requires : tie.Need-check-ends-requires
 check-ends-requires c κs =

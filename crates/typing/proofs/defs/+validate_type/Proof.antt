@@ -66,7 +66,8 @@ validate-type-requires t c κs =
     let tr = c .before .before .before .before .before .before .loop .inv .trees in
     let h = c .before .before .before .before .before .loop-test .taken in
     let s = ap (λ (q : Row). q .size) (c .before .before .at .ensures) in
-    (omega (arith, s, one-at-least tr h, ends-inside tr h, c .before .before .before .before .before .before .loop .inv .later, c .before .before .before .before .before .before .before .before .before .pre .0), (c .before .before .before .before .before .before .loop .inv .table, rw s (kids-trees tr h)))
+    let p = c .before .before .before .before .before .before .before .before .before .pre .1 in
+    (omega (arith, s, one-at-least tr h, ends-inside tr h, c .before .before .before .before .before .before .loop .inv .later, c .before .before .before .before .before .before .before .before .before .pre .0), (p .0, rw s (kids-trees (c .before .before .before .before .before .before .loop .inv .left (p .0) (p .1)) h), p .2))
 
 returns-2 : (t : ℕ) → lts.Need-returns-2 (calls t) (validate-type-at t) validate-type.Post Inv-loop μ-loop
 returns-2 t c = fit-below (c .before .before .before .before .before .before .before .before .loop .inv) (c .before .before .before .before .before .before .before .loop-test .taken) _ (c .before .before .before .before .before .before .method-fits .ensures) _ (c .before .before .before .before .at .ensures) _ (c .before .validate-type .ensures) (not-true _ (c .if2 .taken))

@@ -39,7 +39,7 @@ add-validate-type c =
     omega (arith, t .inside, t .walk .nodes .fewNodes, ap (λ (q : Row). q .size) (c .before .at2 .ensures))
 
 validate-type-requires : tie.Need-validate-type-requires Inv-loop μ-loop
-validate-type-requires c κs = (c .before .before .before .before .before .before .before .before .before .pre .0, rw (ap (λ (q : Row). q .size) (c .before .at2 .ensures)) (body-trees (c .before .before .before .before .before .before .before .before .before .pre .1) (c .before .before .before .before .before .loop .inv .began) (c .before .before .before .before .loop-test .taken) _ (c .before .before .before .at .ensures)))
+validate-type-requires c κs = (c .before .before .before .before .before .before .before .before .before .pre .0, rw (ap (λ (q : Row). q .size) (c .before .at2 .ensures)) (body-trees (c .before .before .before .before .before .before .before .before .before .pre .1) (c .before .before .before .before .before .loop .inv .began) (c .before .before .before .before .loop-test .taken) _ (c .before .before .before .at .ensures)), c .before .before .before .before .before .before .before .before .before .pre .2)
 
 returns : tie.Need-returns Inv-loop μ-loop
 returns c = bodies-fit-stop (c .before .before .before .before .before .before .before .loop .inv) (c .before .before .before .before .before .before .loop-test .taken) _ (c .before .before .before .before .before .at .ensures) _ (c .before .before .before .at2 .ensures) _ (c .before .validate-type .ensures) (not-true _ (c .if1 .taken))

@@ -4,7 +4,7 @@ use native.Mathlib.Omega.{arith}
 use borrow.Author.Tests.{not-true, not-false}
 use Rattle.format.proofs.Rows.{node-within}
 use Rattle.syntax.proofs.Book.{all-trees}
-use Rattle.typing.proofs.init.Laws.{arguments-in, arguments-refused, arguments-passed}
+use Rattle.typing.proofs.init.Laws.{seen-env, arguments-in, arguments-refused, arguments-passed}
 use borrow.Author.Needs.{needs}
 use Rattle.typing.proofs.init.check_arguments.Statement.{statement}
 use Rattle.typing.proofs.init.check_arguments.Tie as tie
@@ -26,7 +26,7 @@ slice-aggregate-find-ends : tie.Need-slice-aggregate-find-ends
 slice-aggregate-find-ends c = search needs
 
 find-ends-requires : tie.Need-find-ends-requires
-find-ends-requires c κs = let p = c .before .before .before .before .before .pre in rw (c .before .before .nodes .ensures) (all-trees (p .0) .nodes, p .1, c .before .blank .ensures)
+find-ends-requires c κs = let p = c .before .before .before .before .before .pre in rw (c .before .before .nodes .ensures) (all-trees (p .0) .nodes, p .1, c .before .blank .ensures, (_, (p .3 .1 .binds, p .3 .1 .counted)))
 
 at-requires : tie.Need-at-requires
 at-requires c κs = let p = c .before .before .before .before .before .before .before .pre in rw (c .before .before .before .before .nodes .ensures) (node-within (all-trees (p .0) .nodes .tree _ (p .2) .whole))
@@ -46,7 +46,9 @@ slice-aggregate-check-fields c = search needs
 check-fields-requires : tie.Need-check-fields-requires
 check-fields-requires c κs =
     let p = (entry-after-struct-known (c .before)) .pre in
-    rw (c .before .before .before .before .before .before .before .nodes .ensures) (arguments-in (p .0) (p .1) (p .2) (rw (c .before .before .before .before .before .before .before .nodes .ensures) at (c .before .before .before .before .find-ends .ensures)) (p .3 .1) (rw (c .before .before .before .before .before .before .before .nodes .ensures) at (c .before .before .at .ensures)))
+    let x = rw (c .before .before .before .before .before .before .before .nodes .ensures) at (c .before .before .before .before .find-ends .ensures) in
+    rw (c .before .before .before .before .before .before .before .nodes .ensures)
+    (arguments-in (p .0) (p .1) (p .2) x (p .3 .1) (rw (c .before .before .before .before .before .before .before .nodes .ensures) at (c .before .before .at .ensures)), (_, seen-env (p .0) (p .1) (p .2) x (p .3 .1)))
 
 passed-requires : tie.Need-passed-requires
 passed-requires c κs = search needs

@@ -9,7 +9,7 @@ init-file-requires : tie.Need-init-file-requires
 init-file-requires c κs = c .before .before .before .before .pre .0 .1 .admitted
 
 no-file-requires : tie.Need-no-file-requires
-no-file-requires c κs = let p = c .before .before .before .before .before .before .before .before .pre in (p .0 .1 .passed .checked .table .long, rw (p .1) blank-length)
+no-file-requires c κs = let p = c .before .before .before .before .before .before .before .before .pre in ((p .0 .0, p .0 .1, sym (c .before .before .before .init-file .ensures (p .0 .1 .admitted)) ∙ c .before .if1 .taken), rw (p .1) blank-length)
 
 same-length : tie.Need-same-length
 same-length c = search needs

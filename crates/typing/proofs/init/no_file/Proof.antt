@@ -12,7 +12,7 @@ slice-aggregate-merged : tie.Need-slice-aggregate-merged
 slice-aggregate-merged c = search needs
 
 merged-requires : tie.Need-merged-requires
-merged-requires c κs = let p = c .before .before .before .before .before .before .pre in (rw (c .before .before .blank .ensures) blank-length, p .0, p .1)
+merged-requires c κs = let p = c .before .before .before .before .before .before .pre in (rw (c .before .before .blank .ensures) blank-length, p .0 .1 .passed .checked .table .long, p .1)
 
 same-length : tie.Need-same-length
 same-length c = search needs

@@ -3,7 +3,7 @@ use mathlib.Core.Path.{sym, _∙_}
 use borrow.Author.Tests.{not-true, not-false}
 use native.Mathlib.Omega.{arith}
 use Rattle.syntax.proofs.Book.{entries-held}
-use Rattle.typing.proofs.prog.Laws.{split-files, decs-refused, defined}
+use Rattle.typing.proofs.prog.Laws.{decs-tables, split-files, decs-refused, defined, found-cleared, found-passed}
 use borrow.Author.Needs.{needs}
 use Rattle.typing.proofs.prog.check_files.Statement.{statement}
 use Rattle.typing.proofs.prog.check_files.Tie as tie
@@ -50,6 +50,19 @@ check-resolved-requires c κs =
     let p = (entry-after-roots (c .before .before .before .before .before .before .before)) .pre in
     (p .0, p .1, defined (p .0) (split-files (p .0) (p .1) ((definitions-after-passed (c .before .before .before)) .definitions .ensures) ((main-definitions-after-else1 (c .before .before)) .main-definitions .ensures)) (p .1) (c .before .before .before .before .before .before .before .before .check-decs .ensures) (sym (c .before .before .before .passed .ensures) ∙ not-false _ (c .before .before .if1 .left)))
 
+passed-requires-2 : tie.Need-passed-requires-2
+passed-requires-2 c κs = search needs
+
+clear-requires : tie.Need-clear-requires
+clear-requires c κs =
+    let k = c .before .before .before .before .before .before in
+    decs-tables (k .before .before .before .before .before .before .check-decs .ensures) (sym (k .before .passed .ensures) ∙ not-false _ (k .if1 .left)) .table .long
+
+clear-requires-2 : tie.Need-clear-requires-2
+clear-requires-2 c κs =
+    let t = c .before .before .before .before .before in let k = t .before .before .before .before .before in
+    decs-tables (k .before .before .before .before .before .before .check-decs .ensures) (sym (k .before .passed .ensures) ∙ not-false _ (k .if1 .left)) .ended .long
+
 same-length-3 : tie.Need-same-length-3
 same-length-3 c = search needs
 
@@ -57,7 +70,29 @@ same-length-4 : tie.Need-same-length-4
 same-length-4 c = search needs
 
 returns-2 : tie.Need-returns-2
-returns-2 c = λ a x. c .check-resolved .ensures a x (defined a (split-files a x ((definitions-after-passed (c .before .before .before .before)) .definitions .ensures) ((main-definitions-after-else1 (c .before .before .before)) .main-definitions .ensures)) x (c .before .before .before .before .before .before .before .before .before .check-decs .ensures) (sym (c .before .before .before .before .passed .ensures) ∙ not-false _ (c .before .before .before .if1 .left)))
+returns-2 c =
+    λ a x.
+    let t = c .before .before .before .before .before .before .before .before in
+    let k = t .before .before in
+    let s = split-files a x ((definitions-after-passed (k .before .before .before .before)) .definitions .ensures) ((main-definitions-after-else1 (k .before .before .before)) .main-definitions .ensures) in
+    let d = defined a s x (k .before .before .before .before .before .before .before .before .before .check-decs .ensures) (sym (k .before .before .before .before .passed .ensures) ∙ not-false _ (k .before .before .before .if1 .left)) in
+    found-cleared a (k .check-resolved .ensures a x d)
+    (sym (t .before .passed2 .ensures) ∙ not-true _ (t .if2 .taken)) (c .before .before .before .before .before .before .clear .ensures) (c .before .before .clear2 .ensures)
+
+same-length-5 : tie.Need-same-length-5
+same-length-5 c = search needs
+
+same-length-6 : tie.Need-same-length-6
+same-length-6 c = search needs
+
+returns-3 : tie.Need-returns-3
+returns-3 c =
+    λ a x.
+    let k = c .before .before in
+    let s = split-files a x ((definitions-after-passed (k .before .before .before .before)) .definitions .ensures) ((main-definitions-after-else1 (k .before .before .before)) .main-definitions .ensures) in
+    let d = defined a s x (k .before .before .before .before .before .before .before .before .before .check-decs .ensures) (sym (k .before .before .before .before .passed .ensures) ∙ not-false _ (k .before .before .before .if1 .left)) in
+    found-passed a (k .check-resolved .ensures a x d)
+    (sym (c .before .passed2 .ensures) ∙ not-false _ (c .if2 .left))
 
 pub check-files-spec : {M : Type 1} → statement M
 check-files-spec =
@@ -72,6 +107,12 @@ check-files-spec =
     same-length-2
     returns
     check-resolved-requires
+    passed-requires-2
+    clear-requires
+    clear-requires-2
     same-length-3
     same-length-4
-    returns-2)
+    returns-2
+    same-length-5
+    same-length-6
+    returns-3)

@@ -20,7 +20,9 @@ nothing-requires : tie.Need-nothing-requires
 nothing-requires c κs = search needs
 
 returns : tie.Need-returns
-returns c = λ a. imports-refused a (c .before .before .before .before .read-files .ensures a) (sym (c .before .before .passed .ensures) ∙ not-true _ (c .before .if1 .taken)) (c .nothing .ensures)
+returns c =
+    let p = c .before .before .before .before .before .before .before .before .pre in
+    λ a. imports-refused a (c .before .before .before .before .read-files .ensures a) (sym (c .before .before .passed .ensures) ∙ not-true _ (c .before .if1 .taken)) (p .1) (p .2) (c .nothing .ensures)
 
 check-files-requires : tie.Need-check-files-requires
 check-files-requires c κs = let p = c .before .before .before .before .before .before .before .before .before .pre in (p .0, record { files = c .before .before .before .before .before .read-files .ensures (p .0); passed = sym (c .before .before .before .passed .ensures) ∙ not-false _ (c .before .before .if1 .left) }, p .1, p .2)

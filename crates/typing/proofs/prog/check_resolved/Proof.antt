@@ -1,7 +1,7 @@
 -- `check_resolved` meets its contract. Assumes nothing.
 use mathlib.Core.Path.{sym, _∙_}
 use borrow.Author.Tests.{not-true, not-false}
-use Rattle.typing.proofs.prog.Laws.{roots-table, ends-table, ends-chains, tabled, resolve-refused, resolved-stored, actor-refused, prog-passed}
+use Rattle.typing.proofs.prog.Laws.{roots-table, ends-table, ends-chains, env, tabled, resolve-refused, resolved-stored, actor-refused, prog-passed}
 use borrow.Author.Needs.{needs}
 use Rattle.typing.proofs.prog.check_resolved.Statement.{statement}
 use Rattle.typing.proofs.prog.check_resolved.Tie as tie
@@ -9,7 +9,7 @@ use Rattle.typing.proofs.prog.check_resolved.Tie as tie
 resolve-actor-requires : tie.Need-resolve-actor-requires
 resolve-actor-requires c κs =
     let p = c .before .before .before .pre in
-    (p .0, p .1, roots-table (p .0) (p .1) (p .2), ends-table (p .0) (p .1) (p .2), (_, tabled (p .0) (p .1) (p .2)))
+    (p .0, p .1, roots-table (p .0) (p .1) (p .2), ends-table (p .0) (p .1) (p .2), (_, tabled (p .0) (p .1) (p .2), ends-chains (p .0) (p .1) (p .2)))
 
 passed-requires : tie.Need-passed-requires
 passed-requires c κs = search needs
@@ -29,7 +29,7 @@ check-actor-requires : tie.Need-check-actor-requires
 check-actor-requires c κs =
     let p = c .before .before .before .before .before .before .before .before .pre in
     let a = p .0 in let x = p .1 in let o = p .2 in
-    rw (c .nodes .ensures) (_, resolved-stored a x o (c .before .before .before .before .resolve-actor .ensures a _ x (ends-table a x o) (tabled a x o) (ends-chains a x o)) (sym (c .before .before .before .passed .ensures) ∙ not-false _ (c .before .before .if1 .left)))
+    rw (c .nodes .ensures) (_, resolved-stored a x o (c .before .before .before .before .resolve-actor .ensures a _ x (ends-table a x o) (tabled a x o) (ends-chains a x o)) (sym (c .before .before .before .passed .ensures) ∙ not-false _ (c .before .before .if1 .left)), env a x o)
 
 passed-requires-2 : tie.Need-passed-requires-2
 passed-requires-2 c κs = search needs
