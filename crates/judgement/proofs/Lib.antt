@@ -3,6 +3,7 @@ pub mod Lookup
 pub mod Heads
 pub mod Chains
 pub mod Walks
+pub mod Says
 pub mod Each
 pub mod Decs
 pub mod Classes
