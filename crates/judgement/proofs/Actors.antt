@@ -44,7 +44,7 @@ use Rattle.judgement.proofs.Walks.{trees-well-formed, actor-walk, walk-
 use Rattle.judgement.proofs.Each.{each, each-says, each-refused, Again, repeats, repeats-says, repeats-refused}
 use Rattle.judgement.proofs.Decs.{found-says}
 use Rattle.judgement.proofs.Fitting.{Fitting, fitting-class, fitting-top, methods-fit, arguments-fit, service-fits}
-use Rattle.judgement.proofs.Classes.{last-beside}
+use Rattle.judgement.proofs.Meaning.{foundMethods, merged-below}
 
 -- ---- 14: methods of the same hash
 abbrev hashOf : List (List ℕ) → ℕ → ℕ
@@ -239,19 +239,11 @@ imports-refused b e =
 -- ---- The resolved actor, with service imports
 module _ (ds : List Definition) (main : Forest Node) (imports : List File) where
   abbrev allMethods : Forest Node
-  allMethods = beside (methodsOf ds (belowClass main)) (importedMethods ds imports)
-
-  pub merged-below : belowClass (mergedActor ds main imports) ≡ serviceOf allMethods
-  unfolding mergedActor belowClass isClass isClassKind kidsOf breadth
-  merged-below = go (isClass main)
-    where
-      go : (c : Bool) → belowClass (cond c (classOf (classArguments main) (serviceOf allMethods)) (serviceOf allMethods)) ≡ serviceOf allMethods
-      go true = last-beside (classArguments main) (serviceOf allMethods) refl
-      go false = refl
+  allMethods = foundMethods ds main imports
 
   merged-stands : StandsFor isServKind ds (belowClass (mergedActor ds main imports))
-  unfolding head headKind isServKind
-  merged-stands = rw merged-below (record { type = serviceOf allMethods; leads = arrived refl; root = tt })
+  unfolding mergedActor head headKind isServKind
+  merged-stands = rw (merged-below main allMethods) (record { type = serviceOf allMethods; leads = arrived refl; root = tt })
 
   merged-fits : (names : ℕ) → Fitting names main → T (forestFits names Method allMethods) → Fitting names (belowTop (mergedActor ds main imports))
   unfolding mergedActor belowTop isClass isClassKind kidsOf

@@ -7,6 +7,7 @@ pub mod Says
 pub mod Each
 pub mod Decs
 pub mod Classes
+pub mod Meaning
 pub mod Fitting
 pub mod Actors
 pub mod Books

@@ -424,7 +424,7 @@ is-service ServT t = refl
 is-service ClassT t = absurd t
 is-service InitT t = absurd t
 
-service-is : (κ : Kind) → κ ≡ ServT → T (isServKind κ)
+pub service-is : (κ : Kind) → κ ≡ ServT → T (isServKind κ)
 unfolding isServKind
 service-is κ e = rw e tt
 
