@@ -33,13 +33,6 @@ use Rattle.judgement.proofs.Chains.{is-circle, circle-never, leads-no-c
 use Rattle.judgement.proofs.Walks.{TreesPass, trees-well-formed, body-walk, walk-definitions-row, methods-fit, methods-unfit}
 use Rattle.judgement.proofs.Each.{each, each-says, each-refused, names-passed, passed-names, names-refused, repeats, repeats-says, repeats-refused}
 
--- A name is found exactly if it is defined.
-pub found-says : (ds : List Definition) (n : ℕ) → (findType ds n ≡ missing → ⊥) ↔ Defined ds n
-found-says ds n = (
-  λ h. elim (found-cases (findType ds n)) [ inl e ↦ absurd (h e) | inr f ↦ found-defined ds n (f .0) (f .1) ],
-  λ d e. not-both-found e (find-defined ds n d .1),
-)
-
 -- Each definition has a name that exists and one tree that fits.
 pub record FitDefinitions (names : ℕ) (ds : List Definition) : Type 0 where
   pub exists : (d : Definition) → List·Memᴰ d ds → d .name < names
