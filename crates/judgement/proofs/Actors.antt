@@ -14,7 +14,6 @@ use native.Mathlib.Omega.{arith}
 use lib.Dec.{T}
 use lib.ListN.{length, getD, length-map, length-append, List·getD-append}
 use lib.Seq.{getD-append-seam}
-use Rattle.labels.specs.Number.{labelNumber}
 use Rattle.format.specs.declared.Place.the-variants.{Method, Inner}
 use Rattle.format.specs.Forest.{Forest, end, tree, beside, breadth}
 use Rattle.format.specs.Node.{Kind, Node, labelValue}
@@ -33,8 +32,8 @@ use Rattle.judgement.specs.Environment.{mainDefinitions, End, unbound, c
 use Rattle.judgement.specs.Actor.{serviceImports, mainActor, isClassKind, isClass, lastTree, classArguments, belowClass, serviceOf, classOf, methodsOf, importedMethods, mergedActor, resolveWith, resolveActor}
 use Rattle.judgement.specs.Check.{checkForest, importsVerdict, serviceVerdict, importedVerdict, hashesVerdict, mainVerdict, resolveVerdict, actorVerdict}
 use Rattle.format.specs.Distinct.{Distinct}
-use Rattle.judgement.specs.WellFormed.{definedName, Leads, arrived, onward, RootIs, StandsFor, WellFormedTrees, belowTop}
-use Rattle.judgement.specs.Rust.{OneMode, methodHashes}
+use Rattle.judgement.specs.WellFormed.{definedName, arrived, StandsFor, WellFormedTrees, belowTop}
+use Rattle.judgement.specs.Rust.{OneMode, hashOf, methodHashes}
 use Rattle.format.specs.Labels.{methodNames}
 use Rattle.judgement.specs.Rows.{TreesRow, MeetsUnbound, HashRepeated, ActorRow, noService, importWithoutActor, importNoService, sameHash}
 use Rattle.judgement.specs.Rows as rows
@@ -44,24 +43,26 @@ use Rattle.judgement.proofs.Walks.{trees-well-formed, actor-walk, walk-
 use Rattle.judgement.proofs.Each.{each, each-says, each-refused, Again, repeats, repeats-says, repeats-refused}
 use Rattle.judgement.proofs.Decs.{found-says}
 use Rattle.judgement.proofs.Fitting.{Fitting, fitting-class, fitting-top, methods-fit, arguments-fit, service-fits}
-use Rattle.judgement.proofs.Meaning.{foundMethods, merged-below}
+use Rattle.judgement.proofs.Meaning.{foundMethods, MainStands, ImportsStand, some-tree, none-stands, merged-below}
 
 -- ---- 14: methods of the same hash
-abbrev hashOf : List (List ℕ) → ℕ → ℕ
-hashOf names n = labelNumber (getD names n [])
+
+-- The hashes of methods.
+abbrev pub hashesOf : List (List ℕ) → Forest Node → List ℕ
+hashesOf names f = map (hashOf names) (methodNames f)
 
 hashes-repeats : (names : List (List ℕ)) (seen : List ℕ) (f : Forest Node) → hashesVerdict names seen f ≡ repeats (hashOf names) SameHash seen (methodNames f)
 unfolding hashesVerdict repeats methodNames
 hashes-repeats names seen end = refl
 hashes-repeats names seen (tree n kids next) = rw (hashes-repeats names (hashOf names (labelValue (n .label)) ∷ seen) next)
 
-hashes-map : (names : List (List ℕ)) (f : Forest Node) → methodHashes names f ≡ map (hashOf names) (methodNames f)
+hashes-map : (names : List (List ℕ)) (f : Forest Node) → methodHashes names f ≡ hashesOf names f
 unfolding methodHashes methodNames
 hashes-map names end = refl
 hashes-map names (tree n kids next) = ap (λ (l : List ℕ). hashOf names (labelValue (n .label)) ∷ l) (hashes-map names next)
 
-pub hashes-says : (names : List (List ℕ)) (f : Forest Node) → (hashesVerdict names [] f ≡ Passed) ↔ Distinct (methodHashes names f)
-hashes-says names f = rw (hashes-repeats names [] f, hashes-map names f) (repeats-says (hashOf names) SameHash (methodNames f))
+pub hashes-says : (names : List (List ℕ)) (f : Forest Node) → (hashesVerdict names [] f ≡ Passed) ↔ Distinct (hashesOf names f)
+hashes-says names f = rw (hashes-repeats names [] f) (repeats-says (hashOf names) SameHash (methodNames f))
 
 -- the place of an element
 place-of : {a : ℕ} {l : List ℕ} → List·Memᴰ a l → (i : ℕ) × (i < length l) × (getD l i 0 ≡ a)
@@ -112,21 +113,13 @@ Unserved ds else′ t r = ((n : ℕ) × (r ≡ Unbound n) × MeetsUnbound ds n t
 abbrev NoServer : List Definition → Forest Node → Type 0
 NoServer ds t = (t ≡ end → ⊥) × (StandsFor isServKind ds (belowClass t) → ⊥)
 
-some-tree : {n : Node} {kids next : Forest Node} {A : Type 0} → tree n kids next ≡ end → A
-some-tree e = let z : _≡_ {A = ℕ} 0 1 = cc in absurd (omega arith)
-
 some-file : {f : File} {fs : List File} {A : Type 0} → f ∷ fs ≡ [] → A
 some-file e = let z : _≡_ {A = ℕ} 0 1 = cc in absurd (omega arith)
 
-none-stands : (test : Kind → Bool) {ds : List Definition} {u : Forest Node} → Leads ds end u → RootIs test u → ⊥
-unfolding head
-none-stands test (arrived h) p = p
-none-stands test (onward h m e l) p = let z : _≡_ {A = ℕ} 0 1 = cc in omega arith
-
-stands-some : {test : Kind → Bool} {ds : List Definition} (t : Forest Node) → StandsFor test ds t → T (not (noTrees t))
+stands-some : {ds : List Definition} (t : Forest Node) → StandsFor isServKind ds t → T (not (noTrees t))
 unfolding noTrees
-stands-some {test} end s = none-stands test (s .leads) (s .root)
-stands-some {test} (tree n kids next) s = tt
+stands-some end s = none-stands s refl
+stands-some (tree n kids next) s = tt
 
 module _ (ds : List Definition) (once : Distinct (map definedName ds)) where
   serves-says : (else′ : Refusal) (t : Forest Node) → (serviceVerdict else′ (aliasEnd ds t) ≡ Passed) ↔ StandsFor isServKind ds t
@@ -143,7 +136,7 @@ module _ (ds : List Definition) (once : Distinct (map definedName ds)) where
       ]
 
   -- ---- The main actor, where there is one
-  main-says : (main : Forest Node) → (mainVerdict ds main ≡ Passed) ↔ ((main ≡ end) ⊎ StandsFor isServKind ds (belowClass main))
+  main-says : (main : Forest Node) → (mainVerdict ds main ≡ Passed) ↔ MainStands ds main
   unfolding mainVerdict noTrees
   main-says end = (λ e. inl refl, λ h. refl)
   main-says (tree n kids next) =
@@ -160,7 +153,7 @@ module _ (ds : List Definition) (once : Distinct (map definedName ds)) where
   imported-each [] = refl
   imported-each (f ∷ fs) = rw (imported-each fs)
 
-  imported-says : (fs : List File) → (importedVerdict ds fs ≡ Passed) ↔ ((f : File) → List·Memᴰ f fs → StandsFor isServKind ds (f .actor))
+  imported-says : (fs : List File) → (importedVerdict ds fs ≡ Passed) ↔ ImportsStand ds fs
   imported-says fs =
       let s = each-says (λ (f : File). serviceVerdict (ImportNoService (f .name)) (aliasEnd ds (f .actor))) fs in
       let one : (f : File) → (serviceVerdict (ImportNoService (f .name)) (aliasEnd ds (f .actor)) ≡ Passed) ↔ StandsFor isServKind ds (f .actor) = λ f.
@@ -185,7 +178,7 @@ module _ (ds : List Definition) (once : Distinct (map definedName ds)) where
 
   -- an actor: it is well-formed, and a service where there is one
   actor-says : (names : ℕ) (t : Forest Node) → Fitting names (belowTop t) →
-      (actorVerdict ds t ≡ Passed) ↔ ((WellFormedTrees ds (belowTop t) × OneMode (belowTop t)) × ((t ≡ end) ⊎ StandsFor isServKind ds (belowClass t)))
+      (actorVerdict ds t ≡ Passed) ↔ ((WellFormedTrees ds (belowTop t) × OneMode (belowTop t)) × MainStands ds t)
   unfolding actorVerdict noTrees belowTop isClass checkForest
   actor-says names end x = (λ e. (walk-says names end x .0 refl, inl refl), λ h. refl)
   actor-says names (tree n kids next) x =
@@ -219,7 +212,7 @@ unfolding importsVerdict each
 imports-each [] = refl
 imports-each (f ∷ fs) = rw (imports-each fs)
 
-pub imports-passed : (ds : List Definition) (fs : List File) → ((f : File) → List·Memᴰ f fs → StandsFor isServKind ds (f .actor)) → importsVerdict fs ≡ Passed
+pub imports-passed : (ds : List Definition) (fs : List File) → ImportsStand ds fs → importsVerdict fs ≡ Passed
 imports-passed ds fs h =
     imports-each fs ∙ each-says importVerdict fs .1 (λ f m. passed-unless (not (noTrees (f .actor))) (ImportWithoutActor (f .name)) (stands-some (f .actor) (h f m)))
 
@@ -262,13 +255,13 @@ module _ (names : ℕ) (ds : List Definition) (once : Distinct (map definedName 
   unfolding methodsOf methodsAt belowClass isClass kidsOf head forestFits
   no-methods = rw (leads-end ds once (arrived {t = end} refl)) tt
 
-  main-fits : (main : Forest Node) → Fitting names main → (main ≡ end) ⊎ StandsFor isServKind ds (belowClass main) →
+  main-fits : (main : Forest Node) → Fitting names main → MainStands ds main →
       T (forestFits names Method (methodsOf ds (belowClass main)))
   main-fits main x (inl e) = subst (λ (t : Forest Node). T (forestFits names Method (methodsOf ds (belowClass t)))) (sym e) no-methods
   main-fits main x (inr s) = methods-of-fit (belowClass main) (fitting-class names main x) s
 
-  imported-fit : (fs : List File) → ((f : File) → List·Memᴰ f fs → Fitting names (f .actor)) →
-      ((f : File) → List·Memᴰ f fs → StandsFor isServKind ds (f .actor)) → T (forestFits names Method (importedMethods ds fs))
+  imported-fit : (fs : List File) → ((f : File) → List·Memᴰ f fs → Fitting names (f .actor)) → ImportsStand ds fs →
+      T (forestFits names Method (importedMethods ds fs))
   unfolding importedMethods forestFits
   imported-fit [] x s = tt
   imported-fit (f ∷ fs) x s =
@@ -282,9 +275,9 @@ module _ (names : ℕ) (ds : List Definition) (once : Distinct (map definedName 
 pub record Resolved (names : List (List ℕ)) (ds : List Definition) (main : Forest Node) (imports : List File) : Type 0 where
   pub actor : WellFormedTrees ds (belowTop (resolveWith ds main imports))
   pub modes : OneMode (belowTop (resolveWith ds main imports))
-  pub service : (main ≡ end) ⊎ StandsFor isServKind ds (belowClass main)
-  pub imported : (f : File) → List·Memᴰ f imports → StandsFor isServKind ds (f .actor)
-  pub hashes : (imports ≡ []) ⊎ Distinct (methodHashes names (kidsOf (belowClass (resolveWith ds main imports))))
+  pub service : MainStands ds main
+  pub imported : ImportsStand ds imports
+  pub hashes : (imports ≡ []) ⊎ Distinct (hashesOf names (kidsOf (belowClass (resolveWith ds main imports))))
 
 module _ (names : List (List ℕ)) (ds : List Definition) (once : Distinct (map definedName ds))
     (fits : (d : Definition) → List·Memᴰ d ds → Fitting (length names) (d .body)) (main : Forest Node) (x : Fitting (length names) main) where
@@ -303,12 +296,10 @@ module _ (names : List (List ℕ)) (ds : List Definition) (once : Distinct (map 
       let imports = f ∷ fs in
       let resolved = mergedActor ds main imports in
       let methods = kidsOf (belowClass resolved) in
-      let all = allMethods ds main imports in
       let ofMain = main-says ds once main in
       let ofImports = imported-says ds once imports in
       let ofHashes = hashes-says names methods in
-      let walked : (main ≡ end) ⊎ StandsFor isServKind ds (belowClass main) → ((g : File) → List·Memᴰ g imports → StandsFor isServKind ds (g .actor)) →
-      Fitting (length names) (belowTop resolved) = λ s h.
+      let walked : MainStands ds main → ImportsStand ds imports → Fitting (length names) (belowTop resolved) = λ s h.
       merged-fits ds main imports (length names) x
       (fits-join (length names) Method (methodsOf ds (belowClass main)) (importedMethods ds imports)
       (main-fits (length names) ds once fits main x s) (imported-fit (length names) ds once fits imports y h)) in (

@@ -3,7 +3,8 @@ use mathlib.Core.Path.{_≡_, refl, subst, sym}
 use mathlib.Core.Logic.{_⊎_, ⊎-elim}
 use mathlib.Core.Bool.{Bool, true, false, cond}
 use mathlib.Core.List.{List, [], _∷_, List·Memᴰ, List·Memᴰ·head, List·Memᴰ·tail, List·Memᴰ·cases-cons, List·Memᴰ·not-nil}
-use Prim.Native.Nat.{ℕ, _<_}
+use Prim.Native.Nat.{ℕ, _≤_, _<_}
+use native.Mathlib.Omega.{arith}
 use lib.Dec.{T}
 use lib.ListN.{length}
 use Rattle.format.specs.declared.Place.the-variants.{Root}
@@ -15,7 +16,7 @@ use Rattle.format.proofs.Encoded.{fit-parts}
 use Rattle.judgement.specs.Environment.{keep, mainDefinitions, initDefinitions}
 use Rattle.judgement.specs.Actor.{isServiceImport, serviceImports, firstActor, mainActor, initTree}
 use Rattle.judgement.proofs.Lookup.{keep-says}
-use Rattle.judgement.proofs.Fitting.{Fitting}
+use Rattle.judgement.proofs.Fitting.{Fitting, Written}
 use Rattle.judgement.proofs.Decs.{FitDefinitions}
 
 every-listed : {A : Type 0} (test : A → Bool) (l : List A) → T (every test l) → (a : A) → List·Memᴰ a l → T (test a)
@@ -31,20 +32,20 @@ pub definition-fits : (names files : ℕ) (d : Definition) → T (definitionFits
 unfolding definitionFits
 definition-fits names files d t = let p = simp says at t in (p .0 .0 .0 .0, p .0 .0 .1, p .1)
 
-pub file-fits : (names : ℕ) (f : File) → T (fileFits names f) → T (forestFits names Root (f .actor))
+pub file-fits : (names : ℕ) (f : File) → T (fileFits names f) → (breadth (f .actor) ≤ 1) × T (forestFits names Root (f .actor))
 unfolding fileFits
-file-fits names f t = (simp says at t) .1
+file-fits names f t = let p = simp says at t in (p .0 .0 .1, p .1)
 
 -- The actor that stands first, the service imports, and the init arguments.
 module _ (names : ℕ) where
   abbrev AllFit : List File → Type 0
-  AllFit fs = (f : File) → List·Memᴰ f fs → Fitting names (f .actor)
+  AllFit fs = (f : File) → List·Memᴰ f fs → Written names (f .actor)
 
-  no-tree : Fitting names end
-  unfolding forestFits
-  no-tree = record { place = Root; fit = tt }
+  no-tree : Written names end
+  unfolding forestFits breadth
+  no-tree = record { fits = record { place = Root; fit = tt }; few = omega arith }
 
-  first-fits : (fs : List File) → AllFit fs → Fitting names (firstActor fs)
+  first-fits : (fs : List File) → AllFit fs → Written names (firstActor fs)
   unfolding firstActor
   first-fits [] h = no-tree
   first-fits (f ∷ fs) h = h f (List·Memᴰ·head refl)
@@ -58,12 +59,12 @@ module _ (names : ℕ) where
       go true rest = λ g m. ⊎-elim (λ e. h g (List·Memᴰ·head e)) (rest g) (List·Memᴰ·cases-cons m)
       go false rest = rest
 
-  init-fits : (fs : List File) → AllFit fs → Fitting names (initTree fs)
+  init-fits : (fs : List File) → AllFit fs → Written names (initTree fs)
   unfolding initTree
   init-fits [] h = no-tree
   init-fits (f ∷ fs) h = go (isInitRole (f .role)) (init-fits fs (λ g m. h g (List·Memᴰ·tail m)))
     where
-      go : (c : Bool) → Fitting names (initTree fs) → Fitting names (cond c (f .actor) (initTree fs))
+      go : (c : Bool) → Written names (initTree fs) → Written names (cond c (f .actor) (initTree fs))
       go true rest = h f (List·Memᴰ·head refl)
       go false rest = rest
 
@@ -86,14 +87,21 @@ module _ (b : Book) (fits : Fits b) where
 
   actors-fit : AllFit (length (b .names)) (b .files)
   actors-fit f m =
-      record { place = Root; fit = file-fits (length (b .names)) f (every-listed (fileFits (length (b .names))) (b .files) (fit-parts fits .files) f m) }
+      let p = file-fits (length (b .names)) f (every-listed (fileFits (length (b .names))) (b .files) (fit-parts fits .files) f m) in
+      record { fits = record { place = Root; fit = p .1 }; few = p .0 }
+
+  pub main-actor-written : Written (length (b .names)) (mainActor b)
+  unfolding mainActor
+  main-actor-written = first-fits (length (b .names)) (b .files) actors-fit
 
   pub main-actor-fits : Fitting (length (b .names)) (mainActor b)
-  unfolding mainActor
-  main-actor-fits = first-fits (length (b .names)) (b .files) actors-fit
+  main-actor-fits = main-actor-written .fits
+
+  pub imports-written : (f : File) → List·Memᴰ f (serviceImports (b .files)) → Written (length (b .names)) (f .actor)
+  imports-written = services-fit (length (b .names)) (b .files) actors-fit
 
   pub imports-fit : (f : File) → List·Memᴰ f (serviceImports (b .files)) → Fitting (length (b .names)) (f .actor)
-  imports-fit = services-fit (length (b .names)) (b .files) actors-fit
+  imports-fit f m = imports-written f m .fits
 
   pub init-tree-fits : Fitting (length (b .names)) (initTree (b .files))
-  init-tree-fits = init-fits (length (b .names)) (b .files) actors-fit
+  init-tree-fits = init-fits (length (b .names)) (b .files) actors-fit .fits

@@ -1,8 +1,9 @@
 -- A class's arguments and its service, which is its last child. Assumes nothing.
 --     is-class                       the kind that the test tells
 --     last-beside, others-beside     of trees beside one other
---     beside-last, last-sole         the last and the others make the whole
+--     beside-last, last-few, ..      the last and the others make the whole
 use mathlib.Core.Path.{_≡_, refl, ap}
+use Prim.Native.Nat.{_≤_}
 use native.Mathlib.Omega.{arith}
 use lib.Dec.{T}
 use Rattle.format.specs.Forest.{Forest, end, tree, beside, breadth}
@@ -47,6 +48,12 @@ unfolding allButLast lastTree beside
 beside-last end = refl
 beside-last (tree n kids end) = refl
 beside-last (tree n kids (tree m lids next)) = ap (tree n kids) (beside-last (tree m lids next))
+
+pub last-few : (f : Forest Node) → breadth (lastTree f) ≤ 1
+unfolding lastTree breadth
+last-few end = omega arith
+last-few (tree n kids end) = omega arith
+last-few (tree n kids (tree m lids next)) = last-few (tree m lids next)
 
 pub last-sole : (f : Forest Node) → (lastTree f ≡ end → ⊥) → breadth (lastTree f) ≡ 1
 unfolding lastTree breadth

@@ -1,31 +1,44 @@
 -- Trees that fit, at whatever place, and the trees of them that are walked. Assumes nothing.
 --     fitting-kids, fitting-class, fitting-top    the children, what stands below a class's top, and what is walked of an actor
+--     Written, written-class, named-leaf          one tree or none, as a file has it; a name has no children
 --     methods-fit, service-fits                   a service's methods, and a service of methods
 --     arguments-fit                               a class's arguments
-use mathlib.Core.Path.{_≡_, ap, subst}
+use mathlib.Core.Path.{_≡_, refl, ap, subst}
 use mathlib.Core.Bool.{Bool, true, false, cond}
-use Prim.Native.Nat.{ℕ}
-use lib.Dec.{T}
+use Prim.Native.Nat.{ℕ, _≤_}
+use native.Mathlib.Omega.{arith}
+use lib.Dec.{T, ltb, eqb, eqb→eq}
 use Rattle.format.specs.declared.Place.{Place}
 use Rattle.format.specs.declared.Place.the-variants.{Method, Inner}
 use Rattle.format.specs.Forest.{Forest, end, tree, breadth}
-use Rattle.format.specs.Node.{Kind, ServT, unlabelled, Node}
+use Rattle.format.specs.Node.{Kind, VarT, ServT, unlabelled, Node}
 use Rattle.format.specs.Fits.{placeBelow, kindFits, notInit, kindAllowed, labelFits, nodeFits, forestFits}
-use Rattle.format.proofs.Logic.{both₃, join₃}
-use Rattle.judgement.specs.Environment.{isServKind, kidsOf}
+use Rattle.format.proofs.Logic.{both, both₃, join₃}
+use Rattle.judgement.specs.Environment.{named, head, isServKind, kidsOf}
 use Rattle.judgement.specs.Actor.{isClassKind, isClass, lastTree, allButLast, classArguments, belowClass, serviceOf}
 use Rattle.judgement.specs.WellFormed.{RootIs, belowTop}
-use Rattle.judgement.proofs.Classes.{is-class}
+use Rattle.judgement.proofs.Heads.{other-named, named-var}
+use Rattle.judgement.proofs.Classes.{is-class, last-few}
 use Rattle.judgement.proofs.Walks.{is-service}
 
 pub record Fitting (names : ℕ) (f : Forest Node) : Type 0 where
   pub place : Place
   pub fit : T (forestFits names place f)
 
+-- A type as written in a file: one tree, or none.
+pub record Written (names : ℕ) (f : Forest Node) : Type 0 where
+  pub fits : Fitting names f
+  pub few : breadth f ≤ 1
+
 -- the arguments of a class
 inner : (κ : Kind) → T (isClassKind κ) → placeBelow κ ≡ Inner
 unfolding placeBelow
 inner κ t = ap placeBelow (is-class κ t)
+
+pub no-breadth : (f : Forest Node) → breadth f ≡ 0 → f ≡ end
+unfolding breadth
+no-breadth end e = refl
+no-breadth (tree n kids next) e = absurd (omega arith)
 
 module _ (names : ℕ) where
   tree-fits : (p : Place) (n : Node) (kids next : Forest Node) → T (forestFits names p (tree n kids next)) →
@@ -63,6 +76,25 @@ module _ (names : ℕ) where
       go : (c : Bool) → Fitting names (cond c (lastTree (kidsOf f)) f)
       go true = let k = fitting-kids f x in record { place = k .place; fit = last-fits (k .place) (kidsOf f) (k .fit) }
       go false = x
+
+  pub written-class : (f : Forest Node) → Written names f → Written names (belowClass f)
+  unfolding belowClass
+  written-class f x = record { fits = fitting-class f (x .fits); few = go (isClass f) }
+    where
+      go : (c : Bool) → breadth (cond c (lastTree (kidsOf f)) f) ≤ 1
+      go true = last-few (kidsOf f)
+      go false = x .few
+
+  -- a name has no children
+  pub named-leaf : (t : Forest Node) {n : ℕ} → Written names t → head t ≡ named n → (x : Node) × (t ≡ tree x end end) × (x .kind ≡ VarT n)
+  unfolding head breadth nodeFits kindFits
+  named-leaf end w h = other-named refl h
+  named-leaf (tree x kids next) {n} w h =
+      let κ = named-var (x .kind) h in
+      let node = tree-fits (w .fits .place) x kids next (w .fits .fit) .0 in
+      let fits = both₃ (kindFits names (x .kind) (breadth kids)) (kindAllowed (w .fits .place) (x .kind)) (labelFits names (w .fits .place) (x .label)) node .0 in
+      let leaf = both (ltb n names) (eqb (breadth kids) 0) (subst (λ (k : Kind). T (kindFits names k (breadth kids))) κ fits) in
+      (x, rw (no-breadth kids (eqb→eq (breadth kids) 0 (leaf .1)), no-breadth next (omega (arith, w .few))) refl, κ)
 
   pub fitting-top : (f : Forest Node) → Fitting names f → Fitting names (belowTop f)
   unfolding belowTop

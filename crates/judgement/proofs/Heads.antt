@@ -1,5 +1,6 @@
--- A type that is a name refers to it. Assumes nothing.
+-- A type that is a name refers to it, and is no class. Assumes nothing.
 use mathlib.Core.Path.{_≡_, refl}
+use mathlib.Core.Bool.{false}
 use mathlib.Core.List.{List·Memᴰ}
 use Prim.Native.Nat.{ℕ}
 use native.Mathlib.Omega.{arith}
@@ -7,6 +8,7 @@ use Rattle.format.specs.Forest.{Forest, end, tree}
 use Rattle.format.specs.Node.{Kind, PrimT, VarT, OptT, VecT, RecordT, VariantT, FuncT, ServT, ClassT, InitT, Node}
 use Rattle.format.specs.References.{references}
 use Rattle.judgement.specs.Environment.{Head, named, other, headKind, head}
+use Rattle.judgement.specs.Actor.{isClassKind, isClass}
 use Rattle.format.specs.Occurs.{here}
 use Rattle.format.proofs.Occurs.{occurs-reference}
 
@@ -30,3 +32,8 @@ pub head-refers : (t : Forest Node) {n : ℕ} → head t ≡ named n → List·M
 unfolding head
 head-refers end e = other-named refl e
 head-refers (tree m kids next) e = occurs-reference here (named-var (m .kind) e)
+
+pub named-no-class : (t : Forest Node) {n : ℕ} → head t ≡ named n → isClass t ≡ false
+unfolding head isClass isClassKind
+named-no-class end h = refl
+named-no-class (tree m kids next) h = rw (named-var (m .kind) h)

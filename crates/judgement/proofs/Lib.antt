@@ -11,6 +11,7 @@ pub mod Meaning
 pub mod Fitting
 pub mod Actors
 pub mod Books
+pub mod Written
 pub mod Merge
 pub mod MergeChains
 pub mod Theorems

@@ -1,15 +1,17 @@
 -- Laws of the actor that a book means: the relations of Meaning.antt against what `resolveActor` finds. Assumes nothing; where it matters that
 -- each name is defined once, the lemma says so.
 --     serves-stands, stands-serves       a type that leads to a service has methods
+--     none-stands, stands-no-class       there is something, and it is no class
 --     serves-methods, serves-unique      they are what is found
---     together-main, together-imports    where all methods are taken together, each type leads to a service
+--     all-services, services-all         of main's type and each import's, one by one
+--     together-stands, together-main, .. where all methods are taken together, each type leads to a service
 --     merged-together, together-merged   and then they are those that are found, and no others
 --     merged-below, resolved-methods     they are the methods of the resolved actor
 --     actor-of, actor-unique             the resolved actor is the actor of the book, and the only one
 use mathlib.Core.Path.{_≡_, refl, sym, ap, ap₂, subst, _∙_}
 use mathlib.Core.Logic.{_⊎_, inl, inr, ⊎-elim}
 use mathlib.Core.Bool.{Bool, true, false, cond}
-use mathlib.Core.List.{List, [], _∷_, _++_, map, List·Memᴰ, List·Memᴰ·head, List·Memᴰ·tail, List·Memᴰ·cases-cons, List·Memᴰ·not-nil}
+use mathlib.Core.List.{List, [], _∷_, _++_, map, List·Memᴰ, List·Memᴰ·head, List·Memᴰ·tail, List·Memᴰ·cases-cons, List·Memᴰ·not-nil, Memᴰ·map, Memᴰ·of-map}
 use Prim.Native.Nat.{ℕ}
 use native.Mathlib.Omega.{arith}
 use Rattle.format.specs.Forest.{Forest, end, tree, beside, breadth}
@@ -18,11 +20,15 @@ use Rattle.format.specs.Book.{Definition, File, Book}
 use Rattle.format.specs.Distinct.{Distinct}
 use Rattle.judgement.specs.Environment.{mainDefinitions, head, headKind, ends, isServKind, kidsOf, methodsAt}
 use Rattle.judgement.specs.Actor.{serviceImports, mainActor, isClassKind, isClass, classArguments, belowClass, serviceOf, classOf, methodsOf, importedMethods, mergedOf, mergedActor, resolveWith, resolveActor}
-use Rattle.judgement.specs.WellFormed.{definedName, Leads, arrived, RootIs, StandsFor}
+use Rattle.judgement.specs.WellFormed.{definedName, Leads, arrived, onward, RootIs, StandsFor}
 use Rattle.judgement.specs.Meaning.{Serves, Together, none, more, mainService, actorOf, services, ActorOf, written, merged}
+use Rattle.judgement.proofs.Heads.{other-named, named-no-class}
 use Rattle.judgement.proofs.Chains.{leads-end}
 use Rattle.judgement.proofs.Walks.{is-service, service-is}
 use Rattle.judgement.proofs.Classes.{last-beside}
+
+pub some-tree : {n : Node} {kids next : Forest Node} {A : Type 0} → tree n kids next ≡ end → A
+some-tree e = let z : _≡_ {A = ℕ} 0 1 = cc in absurd (omega arith)
 
 -- ---- A type that leads to a service
 pub serves-stands : {ds : List Definition} {t methods : Forest Node} → Serves ds t methods → StandsFor isServKind ds t
@@ -34,6 +40,27 @@ stands-serves {ds} {t} s = go (s .type) (s .leads) (s .root)
     go : (u : Forest Node) → Leads ds t u → RootIs isServKind u → (methods : Forest Node) × Serves ds t methods
     go end l r = absurd r
     go (tree n kids next) l r = (kids, record { node = n; next = next; leads = l; service = is-service (n .kind) r })
+
+-- no tree stands for nothing, and a class for no service
+none-leads : {ds : List Definition} {t u : Forest Node} → Leads ds t u → t ≡ end → u ≡ end
+unfolding head
+none-leads (arrived h) e = e
+none-leads (onward h m q l) e = let g = rw e at h in other-named refl g
+
+pub none-stands : {test : Kind → Bool} {ds : List Definition} {t : Forest Node} → StandsFor test ds t → t ≡ end → ⊥
+none-stands {test} s e = subst (RootIs test) (none-leads (s .leads) e) (s .root)
+
+root-no-class : (t : Forest Node) → RootIs isServKind t → isClass t ≡ false
+unfolding isClass isClassKind
+root-no-class end r = refl
+root-no-class (tree n kids next) r = rw (is-service (n .kind) r)
+
+leads-no-class : {ds : List Definition} {t u : Forest Node} → Leads ds t u → RootIs isServKind u → isClass t ≡ false
+leads-no-class {t = t} (arrived h) r = root-no-class t r
+leads-no-class {t = t} (onward h m q l) r = named-no-class t h
+
+pub stands-no-class : {ds : List Definition} {t : Forest Node} → StandsFor isServKind ds t → isClass t ≡ false
+stands-no-class s = leads-no-class (s .leads) (s .root)
 
 -- the methods of a service are its children
 service-methods : (node : Node) (methods next : Forest Node) → node .kind ≡ ServT → methodsAt (ends (tree node methods next)) ≡ methods
@@ -57,21 +84,37 @@ MainStands ds main = (main ≡ end) ⊎ StandsFor isServKind ds (belowClass main
 abbrev pub ImportsStand : List Definition → List File → Type 0
 ImportsStand ds fs = (f : File) → List·Memᴰ f fs → StandsFor isServKind ds (f .actor)
 
-module _ {ds : List Definition} where
-  actors-stand : (fs : List File) {methods : Forest Node} → Together ds (map actorOf fs) methods → ImportsStand ds fs
-  actors-stand [] r f m = absurd (List·Memᴰ·not-nil m)
-  actors-stand (g ∷ fs) (more x r) f m =
-      ⊎-elim (λ (e : f ≡ g). subst (λ (h : File). StandsFor isServKind ds (h .actor)) (sym e) (serves-stands x)) (actors-stand fs r f) (List·Memᴰ·cases-cons m)
-
-  pub together-imports : (main : Forest Node) (fs : List File) {methods : Forest Node} → Together ds (servicesOf main fs) methods → ImportsStand ds fs
+-- Of each of these types: of main's, where there is one, and of each import's.
+module _ (P : Forest Node → Type 0) where
+  pub all-services : (main : Forest Node) (fs : List File) → (main ≡ end) ⊎ P (belowClass main) → ((f : File) → List·Memᴰ f fs → P (f .actor)) →
+      (t : Forest Node) → List·Memᴰ t (servicesOf main fs) → P t
   unfolding mainService
-  together-imports end fs r = actors-stand fs r
-  together-imports (tree n kids next) fs (more x r) = actors-stand fs r
+  all-services main fs h k t = go main h
+    where
+      imported : List·Memᴰ t (map actorOf fs) → P t
+      imported m = let f = Memᴰ·of-map actorOf fs m in subst P (f .2) (k (f .0) (f .1))
+
+      go : (main : Forest Node) → (main ≡ end) ⊎ P (belowClass main) → List·Memᴰ t (servicesOf main fs) → P t
+      go end h m = imported m
+      go (tree n kids next) h m =
+          ⊎-elim (λ (e : t ≡ belowClass (tree n kids next)). subst P (sym e) (⊎-elim (λ e. some-tree e) (λ p. p) h)) imported (List·Memᴰ·cases-cons m)
+
+  pub services-all : (main : Forest Node) (fs : List File) → ((t : Forest Node) → List·Memᴰ t (servicesOf main fs) → P t) →
+      ((main ≡ end) ⊎ P (belowClass main)) × ((f : File) → List·Memᴰ f fs → P (f .actor))
+  unfolding mainService
+  services-all end fs h = (inl refl, λ f m. h (f .actor) (Memᴰ·map actorOf m))
+  services-all (tree n kids next) fs h = (inr (h _ (List·Memᴰ·head refl)), λ f m. h (f .actor) (List·Memᴰ·tail (Memᴰ·map actorOf m)))
+
+module _ {ds : List Definition} where
+  pub together-stands : {ts : List (Forest Node)} {methods : Forest Node} → Together ds ts methods → (t : Forest Node) → List·Memᴰ t ts → StandsFor isServKind ds t
+  together-stands none t m = absurd (List·Memᴰ·not-nil m)
+  together-stands (more x r) t m = ⊎-elim (λ e. subst (StandsFor isServKind ds) (sym e) (serves-stands x)) (λ i. together-stands r t i) (List·Memᴰ·cases-cons m)
 
   pub together-main : (main : Forest Node) (fs : List File) {methods : Forest Node} → Together ds (servicesOf main fs) methods → MainStands ds main
-  unfolding mainService
-  together-main end fs r = inl refl
-  together-main (tree n kids next) fs (more x r) = inr (serves-stands x)
+  together-main main fs r = services-all (StandsFor isServKind ds) main fs (together-stands r) .0
+
+  pub together-imports : (main : Forest Node) (fs : List File) {methods : Forest Node} → Together ds (servicesOf main fs) methods → ImportsStand ds fs
+  together-imports main fs r = services-all (StandsFor isServKind ds) main fs (together-stands r) .1
 
 module _ (ds : List Definition) (once : Distinct (map definedName ds)) where
   pub serves-methods : {t methods : Forest Node} → Serves ds t methods → methodsOf ds t ≡ methods
@@ -101,7 +144,7 @@ module _ (ds : List Definition) (once : Distinct (map definedName ds)) where
   pub merged-together : (main : Forest Node) (fs : List File) → MainStands ds main → ImportsStand ds fs → Together ds (servicesOf main fs) (foundMethods ds main fs)
   unfolding mainService beside
   merged-together end fs m s = rw no-methods (actors-together fs s)
-  merged-together (tree n kids next) fs m s = more (found-serves (⊎-elim (λ e. let z : _≡_ {A = ℕ} 0 1 = cc in absurd (omega arith)) (λ x. x) m)) (actors-together fs s)
+  merged-together (tree n kids next) fs m s = more (found-serves (⊎-elim (λ e. some-tree e) (λ x. x) m)) (actors-together fs s)
 
   pub together-merged : (main : Forest Node) (fs : List File) {methods : Forest Node} → Together ds (servicesOf main fs) methods → methods ≡ foundMethods ds main fs
   together-merged main fs r = together-unique r (merged-together main fs (together-main main fs r) (together-imports main fs r))
@@ -116,15 +159,20 @@ merged-below main methods = go (isClass main)
     go false = refl
 
 -- Without service imports the resolved actor is main's, and with them main's with the methods that are found.
-resolved-written : (ds : List Definition) (main : Forest Node) (fs : List File) → fs ≡ [] → resolveWith ds main fs ≡ main
+pub resolved-written : (ds : List Definition) (main : Forest Node) (fs : List File) → fs ≡ [] → resolveWith ds main fs ≡ main
 unfolding resolveWith
 resolved-written ds main [] e = refl
 resolved-written ds main (f ∷ fs) e = let z : _≡_ {A = ℕ} 0 1 = cc in absurd (omega arith)
 
-resolved-merged : (ds : List Definition) (main : Forest Node) (fs : List File) → (fs ≡ [] → ⊥) → resolveWith ds main fs ≡ mergedOf main (foundMethods ds main fs)
+pub resolved-merged : (ds : List Definition) (main : Forest Node) (fs : List File) → (fs ≡ [] → ⊥) → resolveWith ds main fs ≡ mergedOf main (foundMethods ds main fs)
 unfolding resolveWith mergedActor
 resolved-merged ds main [] h = absurd (h refl)
 resolved-merged ds main (f ∷ fs) h = refl
+
+-- Which of the two it is.
+pub none-imported : (fs : List File) → (fs ≡ []) ⊎ (fs ≡ [] → ⊥)
+none-imported [] = inl refl
+none-imported (f ∷ fs) = inr (λ e. let z : _≡_ {A = ℕ} 0 1 = cc in omega arith)
 
 module _ (b : Book) where
   abbrev ds : List Definition
@@ -132,11 +180,6 @@ module _ (b : Book) where
 
   abbrev imports : List File
   imports = serviceImports (b .files)
-
-  -- Which of the two it is.
-  none-imported : (fs : List File) → (fs ≡ []) ⊎ (fs ≡ [] → ⊥)
-  none-imported [] = inl refl
-  none-imported (f ∷ fs) = inr (λ e. let z : _≡_ {A = ℕ} 0 1 = cc in omega arith)
 
   module _ (once : Distinct (map definedName ds)) where
     pub resolved-together : {methods : Forest Node} → (imports ≡ [] → ⊥) → Together ds (services b) methods → resolveActor b ≡ mergedOf (mainActor b) methods

@@ -1,11 +1,12 @@
 -- The theorems that pin the check and the init check. Assumes nothing; a book that was read from bytes fits (crate format, `found`).
---     check-says, init-check-says                  what passes: exactly what Candid calls well-formed and the Rust takes
+--     check-says, init-check-says                  what passes: exactly what Candid calls well-formed, but for labels, and the Rust takes
+--     actor-means, actor-trees                     the actor of a book that passes is the one that is resolved, and it is well-formed
 --     check-row, init-check-row                    what is refused lies in the row of its refusal
 --     without-init                                 without an init file both say the same
 --     no-init-definitions, no-init-tree            there are then no definitions and no arguments of it
 --     check-numbers, init-numbers                  the rows that there are
 --     check-bytes-says, check-bytes-row, ..        all of this on bytes, which are broken or a book
-use mathlib.Core.Path.{_≡_, refl}
+use mathlib.Core.Path.{_≡_, refl, sym, subst}
 use mathlib.Core.Logic.{_↔_, _⊎_, inl, inr, ⊎-elim}
 use mathlib.Core.Bool.{false}
 use mathlib.Core.List.{List, [], _∷_, _++_, map, List·Memᴰ, List·Memᴰ·head, List·Memᴰ·tail}
@@ -25,10 +26,11 @@ use Rattle.refusals.specs.declared.Verdict.{Verdict}
 use Rattle.refusals.specs.declared.Verdict.the-variants.{Passed, Refused}
 use Rattle.refusals.specs.Refusal.{numberOf}
 use Rattle.judgement.specs.Environment.{roleAt, mainDefinitions, initDefinitions, findType, mergeDefinitions, kidsOf}
-use Rattle.judgement.specs.Actor.{serviceImports, mainActor, resolveActor, initTree}
+use Rattle.judgement.specs.Actor.{serviceImports, mainActor, initTree, NoInit, resolveActor}
 use Rattle.judgement.specs.Check.{checkForest, member, onceVerdict, bodiesVerdict, eachName, circleVerdict, bodiesFit, decsVerdict, importsVerdict, resolveVerdict, actorVerdict, check, sameVerdict, mergeVerdict, initVerdict, initCheck, checkBytes, initCheckBytes}
 use Rattle.format.specs.Distinct.{Distinct}
-use Rattle.judgement.specs.WellFormed.{definedName, WellFormed, WellFormedInit}
+use Rattle.judgement.specs.WellFormed.{definedName, WellFormedTrees, belowTop, Typed, TypedInit}
+use Rattle.judgement.specs.Meaning.{ActorOf}
 use Rattle.judgement.specs.Rust.{Rust, RustInit}
 use Rattle.judgement.specs.Rows.{DefinitionsRow, TreesRow, ActorRow, CheckRow, checkRows, MergeRow, InitRow, twice, unbound, class, modes, oneway, circle, noFunction, methodNoFunction, noService, importWithoutActor, importNoService, sameHash, differs}
 use Rattle.refusals.proofs.Verdicts.{both-pass, pass-both, which-refused, and-passed}
@@ -37,6 +39,8 @@ use Rattle.judgement.proofs.Each.{passed-names}
 use Rattle.judgement.proofs.Decs.{once-says, decs-says, decs-refused}
 use Rattle.judgement.proofs.Fitting.{Fitting, fitting-kids}
 use Rattle.judgement.proofs.Actors.{Resolved, resolved-says, resolve-refused, actor-refused, imports-passed, imports-refused, walk-says, walk-refused}
+use Rattle.judgement.proofs.Meaning.{actor-of, actor-unique}
+use Rattle.judgement.proofs.Written.{resolved-typed, typed-resolved}
 use Rattle.judgement.proofs.Merge.{merge-says, merge-refused}
 use Rattle.judgement.proofs.Books.{main-definitions-fit, init-definitions-fit, main-actor-fits, imports-fit, init-tree-fits}
 
@@ -67,28 +71,42 @@ module _ (b : Book) where
         let bodies : (d : Definition) → List·Memᴰ d ds → Fitting names (d .body) = λ d m. record { place = Root; fit = main-definitions-fit b fits .fit d m } in
         resolved-says (b .names) ds once bodies (mainActor b) (main-actor-fits b fits) imports (imports-fit b fits)
 
-    check-passed : check b ≡ Passed → WellFormed b × Rust b
+    check-passed : check b ≡ Passed → Typed b × Rust b
     unfolding check resolveActor
     check-passed e =
         let p = both-pass (importsVerdict imports) _ e in
         let q = both-pass (decsVerdict names ds) _ (p .1) in
         let w = decs-says names ds (main-definitions-fit b fits) .0 (q .0) in
-        let r = resolves (w .0 .once) .0 (both-pass resolving (actorVerdict ds (resolveActor b)) (q .1)) in (
-          record { definitions = w .0; actor = r .actor; service = r .service },
-          record { modes = w .1; actorModes = r .modes; imports = r .imported; hashes = r .hashes },
-        )
+        resolved-typed b fits (w .0) (w .1) (resolves (w .0 .once) .0 (both-pass resolving (actorVerdict ds (resolveActor b)) (q .1)))
 
-    passed-check : WellFormed b → Rust b → check b ≡ Passed
+    passed-resolved : Typed b → Rust b → Resolved (b .names) ds (mainActor b) imports
+    passed-resolved t r = typed-resolved b fits (t .definitions) (r .modes) t r
+
+    passed-check : Typed b → Rust b → check b ≡ Passed
     unfolding check resolveActor
-    passed-check w r =
-        let s = resolves (w .definitions .once) .1
-        record { actor = w .actor; modes = r .actorModes; service = w .service; imported = r .imports; hashes = r .hashes } in
-        pass-both (importsVerdict imports) _ (imports-passed ds imports (r .imports))
-        (pass-both (decsVerdict names ds) _ (decs-says names ds (main-definitions-fit b fits) .1 (w .definitions, r .modes))
+    passed-check t r =
+        let x = passed-resolved t r in
+        let s = resolves (t .definitions .once) .1 x in
+        pass-both (importsVerdict imports) _ (imports-passed ds imports (x .imported))
+        (pass-both (decsVerdict names ds) _ (decs-says names ds (main-definitions-fit b fits) .1 (t .definitions, r .modes))
         (pass-both resolving (actorVerdict ds (resolveActor b)) (s .0) (s .1)))
 
-pub check-says : (b : Book) → Fits b → (check b ≡ Passed) ↔ (WellFormed b × Rust b)
+pub check-says : (b : Book) → Fits b → (check b ≡ Passed) ↔ (Typed b × Rust b)
 check-says b fits = (check-passed b fits, λ h. passed-check b fits (h .0) (h .1))
+
+-- ---- The actor of a book that passes
+module _ (b : Book) (fits : Fits b) (passed : check b ≡ Passed) where
+  walked : Resolved (b .names) (ds b) (mainActor b) (imports b)
+  walked = let p = check-says b fits .0 passed in passed-resolved b fits (p .0) (p .1)
+
+  pub actor-trees : WellFormedTrees (ds b) (belowTop (resolveActor b))
+  unfolding resolveActor
+  actor-trees = walked .actor
+
+  pub actor-means : (t : Forest Node) → ActorOf b t ↔ (t ≡ resolveActor b)
+  actor-means t =
+      let once = check-says b fits .0 passed .0 .definitions .once in
+      (actor-unique b once, λ e. subst (ActorOf b) (sym e) (actor-of b once (walked .service) (walked .imported)))
 
 pub check-row : (b : Book) {r : Refusal} → check b ≡ Refused r → CheckRow b r
 unfolding check
@@ -123,7 +141,7 @@ module _ (b : Book) where
   init-once : Distinct (map definedName ids) → Distinct (map definedName (ds b)) → Distinct (map definedName both-files)
   init-once = merge-distinct ids (ds b)
 
-  init-passed : Fits b → Distinct (map definedName (ds b)) → initVerdict b ≡ Passed → WellFormedInit b × RustInit b
+  init-passed : Fits b → Distinct (map definedName (ds b)) → initVerdict b ≡ Passed → TypedInit b × RustInit b
   unfolding initVerdict
   init-passed fits main e =
       let fit = init-definitions-fit b fits in
@@ -136,7 +154,7 @@ module _ (b : Book) where
         record { modes = w .1; argumentModes = a .1; merged = merge-says b once main (fit .exists) .0 (q .0) },
       )
 
-  passed-init : Fits b → Distinct (map definedName (ds b)) → WellFormedInit b → RustInit b → initVerdict b ≡ Passed
+  passed-init : Fits b → Distinct (map definedName (ds b)) → TypedInit b → RustInit b → initVerdict b ≡ Passed
   unfolding initVerdict
   passed-init fits main w r =
       let fit = init-definitions-fit b fits in
@@ -163,7 +181,7 @@ module _ (b : Book) where
   unfolding check
   check-once e = decs-once (names b) (ds b) (both-pass (decsVerdict (names b) (ds b)) _ (both-pass (importsVerdict (imports b)) _ e .1) .0)
 
-pub init-check-says : (b : Book) → Fits b → (initCheck b ≡ Passed) ↔ ((WellFormed b × Rust b) × (WellFormedInit b × RustInit b))
+pub init-check-says : (b : Book) → Fits b → (initCheck b ≡ Passed) ↔ ((Typed b × Rust b) × (TypedInit b × RustInit b))
 unfolding initCheck
 init-check-says b fits = (
   λ e. let p = both-pass (check b) (initVerdict b) e in (check-says b fits .0 (p .0), init-passed b fits (check-once b (p .0)) (p .1)),
@@ -179,9 +197,6 @@ init-check-row b e =
     ]
 
 -- ---- Without an init file
-abbrev pub NoInit : List File → Type 0
-NoInit fs = (f : File) → List·Memᴰ f fs → f .role ≡ InitArgs → ⊥
-
 other-role : (r : Role) → (r ≡ InitArgs → ⊥) → isInitRole r ≡ false
 unfolding isInitRole
 other-role Main h = refl
@@ -262,18 +277,18 @@ module _ (b : Book) (r : Refusal) where
 
 -- ---- On bytes
 
-pub check-bytes-says : (bs : Source) → (checkBytes bs ≡ Passed) ↔ BookIn bs (λ b. WellFormed b × Rust b)
+pub check-bytes-says : (bs : Source) → (checkBytes bs ≡ Passed) ↔ BookIn bs (λ b. Typed b × Rust b)
 unfolding checkBytes
-check-bytes-says bs = judged-says bs check (λ b. WellFormed b × Rust b) check-says
+check-bytes-says bs = judged-says bs check (λ b. Typed b × Rust b) check-says
 
 pub check-bytes-row : (bs : Source) {r : Refusal} → checkBytes bs ≡ Refused r → InRow bs CheckRow r
 unfolding checkBytes
 check-bytes-row bs = judged-row bs check CheckRow (λ b. check-row b)
 
 pub init-check-bytes-says : (bs : Source) →
-    (initCheckBytes bs ≡ Passed) ↔ BookIn bs (λ b. (WellFormed b × Rust b) × (WellFormedInit b × RustInit b))
+    (initCheckBytes bs ≡ Passed) ↔ BookIn bs (λ b. (Typed b × Rust b) × (TypedInit b × RustInit b))
 unfolding initCheckBytes
-init-check-bytes-says bs = judged-says bs initCheck (λ b. (WellFormed b × Rust b) × (WellFormedInit b × RustInit b)) init-check-says
+init-check-bytes-says bs = judged-says bs initCheck (λ b. (Typed b × Rust b) × (TypedInit b × RustInit b)) init-check-says
 
 pub init-check-bytes-row : (bs : Source) {r : Refusal} → initCheckBytes bs ≡ Refused r →
     InRow bs (λ b r. CheckRow b r ⊎ InitRow b r) r

@@ -1,6 +1,7 @@
 -- The actor that a book means: `IDLMergedProg::resolve_actor` of syntax/mod.rs, where nothing is refused. Definitions; assumes nothing.
+use mathlib.Core.Path.{_≡_}
 use mathlib.Core.Bool.{Bool, true, false, cond}
-use mathlib.Core.List.{List, [], _∷_}
+use mathlib.Core.List.{List, [], _∷_, List·Memᴰ}
 use Rattle.format.specs.Forest.{Forest, end, tree, beside}
 use Rattle.format.specs.Node.{Kind, PrimT, VarT, OptT, VecT, RecordT, VariantT, FuncT, ServT, ClassT, InitT, unlabelled, Node}
 use Rattle.format.specs.Book.{Definition, Role, Main, TypeImport, ServiceImport, InitArgs, File, Book}
@@ -30,6 +31,10 @@ mainActor b = firstActor (b .files)
 unfoldable pub initTree : List File → Forest Node
 initTree [] = end
 initTree (f ∷ fs) = cond (isInitRole (f .role)) (f .actor) (initTree fs)
+
+-- None of the files is one.
+abbrev pub NoInit : List File → Type 0
+NoInit fs = (f : File) → List·Memᴰ f fs → f .role ≡ InitArgs → ⊥
 
 -- ---- A class: its arguments, and its service, which is the last child
 unfoldable pub isClassKind : Kind → Bool

@@ -1,4 +1,4 @@
--- What the Rust asks beyond Candid.md. Predicates: none of them knows of the check or its verdicts. Definitions; assumes nothing.
+-- What the Rust asks beyond Candid.md. Predicates: none of them knows of the check, its verdicts or fuel. Definitions; assumes nothing.
 use mathlib.Core.Path.{_≡_}
 use mathlib.Core.Logic.{_⊎_}
 use mathlib.Core.List.{List, [], _∷_, map, List·Memᴰ}
@@ -13,9 +13,9 @@ use Rattle.format.specs.Book.{Definition, File, Book}
 use Rattle.format.specs.Occurs.{Occurs}
 use Rattle.format.specs.Distinct.{Distinct}
 use Rattle.format.specs.Labels.{methodNames}
-use Rattle.judgement.specs.Environment.{mainDefinitions, initDefinitions, isServKind, kidsOf, sameForest}
-use Rattle.judgement.specs.Actor.{serviceImports, initTree, belowClass, resolveActor}
-use Rattle.judgement.specs.WellFormed.{StandsFor, belowTop}
+use Rattle.judgement.specs.Environment.{mainDefinitions, initDefinitions, kidsOf, sameForest}
+use Rattle.judgement.specs.Actor.{serviceImports, mainActor, initTree, isClass}
+use Rattle.judgement.specs.WellFormed.{belowTop}
 use Rattle.judgement.specs.Meaning.{Together, services}
 
 -- At most one mode.
@@ -35,19 +35,21 @@ pub record Hashed (b : Book) : Type 0 where
   pub together : Together (mainDefinitions b) (services b) methods
   pub distinct : Distinct (map (hashOf (b .names)) (methodNames methods))
 
--- The methods of the resolved actor, by their hashes.
+-- The methods of a service, by their hashes.
 unfoldable pub methodHashes : List (List ℕ) → Forest Node → List ℕ
 methodHashes names end = []
 methodHashes names (tree n kids next) = labelNumber (getD names (labelValue (n .label)) []) ∷ methodHashes names next
 
--- The Rust: at most one mode, a service import has an actor and it is a plain service, and with service imports all methods differ by hash.
+-- At most one mode; a service import has an actor, and it is no class; with service imports all methods differ by hash.
 pub record Rust (b : Book) : Type 0 where
   pub modes : OneModeDefinitions (mainDefinitions b)
-  pub actorModes : OneMode (belowTop (resolveActor b))
-  pub imports : (f : File) → List·Memᴰ f (serviceImports (b .files)) → StandsFor isServKind (mainDefinitions b) (f .actor)
-  pub hashes : (serviceImports (b .files) ≡ []) ⊎ Distinct (methodHashes (b .names) (kidsOf (belowClass (resolveActor b))))
+  pub actorModes : OneMode (belowTop (mainActor b))
+  pub importModes : (f : File) → List·Memᴰ f (serviceImports (b .files)) → OneMode (f .actor)
+  pub importActors : (f : File) → List·Memᴰ f (serviceImports (b .files)) → f .actor ≡ end → ⊥
+  pub importServices : (f : File) → List·Memᴰ f (serviceImports (b .files)) → T (isClass (f .actor)) → ⊥
+  pub hashes : (serviceImports (b .files) ≡ []) ⊎ Hashed b
 
--- The Rust: one mode, and what both files define is the same.
+-- Init arguments: one mode, and what both files define is the same.
 pub record RustInit (b : Book) : Type 0 where
   pub modes : OneModeDefinitions (initDefinitions b)
   pub argumentModes : OneMode (kidsOf (initTree (b .files)))

@@ -1,22 +1,20 @@
--- Well-formed declarations, as Candid.md states them. Predicates on trees and environments: none of them
--- knows of the check or its verdicts (proofs/Theorems.antt joins the two). Definitions; assumes nothing.
+-- Well-formed declarations, as Candid.md states them of what is written. Predicates on trees and definitions: none of them knows of the
+-- check, its verdicts or fuel (proofs/Theorems.antt joins the two). Definitions; assumes nothing.
 use mathlib.Core.Path.{_≡_}
 use mathlib.Core.Logic.{_⊎_}
 use mathlib.Core.Bool.{Bool, true, cond}
-use mathlib.Core.List.{List, [], _∷_, map, List·Memᴰ}
+use mathlib.Core.List.{List, map, List·Memᴰ}
 use Prim.Native.Nat.{ℕ, _≤_}
-use lib.ListN.{length, getD}
 use lib.Dec.{T}
-use Rattle.labels.specs.Number.{labelNumber}
-use Rattle.format.specs.declared.Place.the-variants.{Root}
 use Rattle.format.specs.Forest.{Forest, end, tree, breadth}
-use Rattle.format.specs.Node.{Kind, FuncT, ServT, ClassT, FuncMode, Oneway, Node, labelValue}
-use Rattle.format.specs.Book.{Definition, File, Book}
+use Rattle.format.specs.Node.{Kind, FuncT, ServT, ClassT, FuncMode, Oneway, Node}
+use Rattle.format.specs.Book.{Definition, File, Book, trees}
 use Rattle.format.specs.References.{references}
-use Rattle.judgement.specs.Environment.{mainDefinitions, initDefinitions, mergeDefinitions, named, other, head, isFuncKind, isServKind, kidsOf, sameForest}
 use Rattle.format.specs.Occurs.{Occurs, Beside}
 use Rattle.format.specs.Distinct.{Distinct}
-use Rattle.judgement.specs.Actor.{serviceImports, mainActor, isClass, belowClass, resolveActor, initTree}
+use Rattle.format.specs.Labels.{Labels}
+use Rattle.judgement.specs.Environment.{mainDefinitions, initDefinitions, mergeDefinitions, named, other, head, isFuncKind, isServKind, kidsOf}
+use Rattle.judgement.specs.Actor.{serviceImports, mainActor, initTree, isClass, belowClass}
 
 -- ---- Names
 abbrev pub definedName : Definition → ℕ
@@ -76,14 +74,24 @@ pub record WellFormedDefinitions (ds : List Definition) : Type 0 where
 unfoldable pub belowTop : Forest Node → Forest Node
 belowTop t = cond (isClass t) (kidsOf t) t
 
--- Candid.md: each name is defined once, every name is bound, no class below the top, a oneway function has no results, alias chains
--- end, each method's alias end is a function, and the actor's is a service.
-pub record WellFormed (b : Book) : Type 0 where
+-- An actor as written: what stands below its top is well-formed, and it stands for a service, a class by its last child.
+pub record WellFormedActor (ds : List Definition) (t : Forest Node) : Type 0 where
+  pub trees : WellFormedTrees ds (belowTop t)
+  pub service : StandsFor isServKind ds (belowClass t)
+
+-- Candid.md but for labels: each name is defined once, every name is bound, no class below the top, a oneway function has no results, alias
+-- chains end, each method stands for a function, and the main actor and each service import's, where there is one, for a service.
+pub record Typed (b : Book) : Type 0 where
   pub definitions : WellFormedDefinitions (mainDefinitions b)
-  pub actor : WellFormedTrees (mainDefinitions b) (belowTop (resolveActor b))
-  pub service : (mainActor b ≡ end) ⊎ StandsFor isServKind (mainDefinitions b) (belowClass (mainActor b))
+  pub actor : (mainActor b ≡ end) ⊎ WellFormedActor (mainDefinitions b) (mainActor b)
+  pub imports : (f : File) → List·Memᴰ f (serviceImports (b .files)) → (f .actor ≡ end) ⊎ WellFormedActor (mainDefinitions b) (f .actor)
+
+-- Candid.md: and labels differ, in every tree of the book. The Rust leaves this to its grammar, so books with repeats pass.
+pub record WellFormed (b : Book) : Type 0 where
+  pub typed : Typed b
+  pub labels : Labels (b .names) (trees b)
 
 -- ---- Init arguments: definitions of their own, and arguments under these and main's
-pub record WellFormedInit (b : Book) : Type 0 where
+pub record TypedInit (b : Book) : Type 0 where
   pub definitions : WellFormedDefinitions (initDefinitions b)
   pub arguments : WellFormedTrees (mergeDefinitions (initDefinitions b) (mainDefinitions b)) (kidsOf (initTree (b .files)))
