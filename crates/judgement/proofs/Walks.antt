@@ -1,6 +1,6 @@
 -- The walk over trees and the test of their methods, against the predicates of WellFormed.antt and Order.antt. Assumes that each name is
 -- defined once. The walk does not look below a leaf; so the trees have to fit: then a leaf has no children.
---     walk-says            the walk of a definition's body, of an actor or of init arguments passes sound trees, and refuses the first fault
+--     walk-say            the walk of a definition's body, of an actor or of init arguments passes sound trees, and refuses the first fault
 --     sound-formed         sound trees whose methods are tested are well-formed, and have one mode
 --     methods-fit, methods-unfit    the test of methods alone passes, and does not
 --     is-service, ..       the kind that the test tells
@@ -50,7 +50,7 @@ if-fails : (a : Bool) {B : Type 0} → ((T a → B) → ⊥) → T a × (B → �
 if-fails true h = (tt, λ b. h (λ t. b))
 if-fails false h = absurd (h (λ (z : ⊥). absurd z))
 
-one-fails : (a b : Bool) → (T (a && b) → ⊥) → (T a → ⊥) ⊎ (T b → ⊥)
+pub one-fails : (a b : Bool) → (T (a && b) → ⊥) → (T a → ⊥) ⊎ (T b → ⊥)
 one-fails true b h = inr h
 one-fails false b h = inl (λ x. x)
 
@@ -234,9 +234,9 @@ module _ (ds : List Definition) where
   refused-kind names κ kids below t h (under c e) = refused-under names κ kids below t h c e
   refused-kind names κ kids below t h (modes {a = a} {ms = ms} e p b) = rw (e, p) (refused-modes a ms kids b)
 
-  kind-says : (names : ℕ) (κ : Kind) (kids : ℕ) (below : Verdict) → T (kindFits names κ kids) → (kids ≡ 0 → below ≡ Passed) →
+  kind-say : (names : ℕ) (κ : Kind) (kids : ℕ) (below : Verdict) → T (kindFits names κ kids) → (kids ≡ 0 → below ≡ Passed) →
       Says (kindVerdict ds κ kids below) (Asked ds κ kids × (below ≡ Passed)) (Unasked ds κ kids below)
-  kind-says names κ kids below t h = record {
+  kind-say names κ kids below t h = record {
     passed = (λ e. (kind-asked κ kids below e, below-passed names κ kids below t h e), λ a. passed-kind κ kids below (a .0) (a .1));
     refused = λ r. (kind-refused κ kids below, refused-kind names κ kids below t h);
   }
@@ -327,10 +327,10 @@ module _ (ds : List Definition) (once : Distinct (map definedName ds)) where
       let func = func-says ds once (tree n kids end) in
       (λ t h. func .0 (i .0 t h), λ h. i .1 (λ t. func .1 (h t)))
 
-  method-says : (tested : Bool) (n : Node) (kids : Forest Node) →
+  method-say : (tested : Bool) (n : Node) (kids : Forest Node) →
       Says (methodVerdict tested ds n kids) (T tested → IsFunction ds n kids) (λ r. (r ≡ MethodNoFunction (labelValue (n .label))) × (T tested × (IsFunction ds n kids → ⊥)))
   unfolding methodVerdict
-  method-says tested n kids =
+  method-say tested n kids =
       says-as (says-unless (not tested || asFunc ds (tree n kids end)) (MethodNoFunction (labelValue (n .label))) (own-says tested n kids))
       (λ h. h, λ h. h) (λ r. (λ x. (x .0, if-fails tested (x .1)), λ x. (x .0, λ h. x .1 .1 (h (x .1 .0)))))
 
@@ -380,21 +380,21 @@ module _ (ds : List Definition) (once : Distinct (map definedName ds)) where
     fault-refuses r (order.noFunction t s h) = inl (inr (sole .1 s, (refl, (t, h))))
     fault-refuses r (order.later s h f) = inr ((sole .1 s, h), f)
 
-  pub walk-says : (names : ℕ) (p : Place) (pre method : Bool) (f : Forest Node) → T (forestFits names p f) →
+  pub walk-say : (names : ℕ) (p : Place) (pre method : Bool) (f : Forest Node) → T (forestFits names p f) →
       Says (checkForest pre method ds f) (Good (not pre) method f) (Fault ds (not pre) method f)
   unfolding checkForest forestFits nodeFits
-  walk-says names p pre method end t =
+  walk-say names p pre method end t =
       record { passed = (λ e. (sound-end ds (not pre), λ h n kids o. beside-none o), λ g. refl); refused = λ r. (λ e. passed-refused e, λ x. elim x [ ]) }
-  walk-says names p pre method (tree n kids next) t =
+  walk-say names p pre method (tree n kids next) t =
       let κ = n .kind in
       let serv = not pre && isServKind κ in
       let fit = both₃ (nodeFits names p n (breadth kids)) (forestFits names (placeBelow κ) kids) (forestFits names p next) t in
       let kind = both₃ (kindFits names κ (breadth kids)) (kindAllowed p κ) (labelFits names p (n .label)) (fit .0) in
       let below = checkForest pre serv ds kids in
-      let under = walk-says names (placeBelow κ) pre serv kids (fit .1) in
+      let under = walk-say names (placeBelow κ) pre serv kids (fit .1) in
       says-as
-      (says-then (says-then (kind-says ds names κ (breadth kids) below (kind .0) (no-trees pre serv ds kids)) (λ g. method-says method n kids))
-      (λ g. walk-says names p pre method next (fit .2)))
+      (says-then (says-then (kind-say ds names κ (breadth kids) below (kind .0) (no-trees pre serv ds kids)) (λ g. method-say method n kids))
+      (λ g. walk-say names p pre method next (fit .2)))
       (good-tree (not pre) method n kids next below under)
       (λ r. (refuses-fault (not pre) method n kids next below under r, fault-refuses (not pre) method n kids next below under r))
 

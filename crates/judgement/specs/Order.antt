@@ -19,7 +19,7 @@ use Rattle.judgement.specs.Environment.{mainDefinitions, initDefinitions
 use Rattle.judgement.specs.Actor.{serviceImports, mainActor, initTree, belowClass}
 use Rattle.judgement.specs.WellFormed.{definedName, Defined, StandsFor, Bound, NoClass, OnewayWithoutResults, MethodsAreFunctions, WellFormedDefinitions, belowTop}
 use Rattle.judgement.specs.Rust.{OneMode, OneModeDefinitions, hashOf, Hashed}
-use Rattle.judgement.specs.Rows.{NeverEnds, HasMethod, InBodies, Disagree}
+use Rattle.judgement.specs.Rows.{HasMethod, InBodies, CircleFrom, Disagree}
 use Rattle.judgement.specs.Meaning.{MeetsUnbound, LeadsElsewhere, Together, services, ActorOf}
 
 -- ---- Firsts in a list
@@ -73,10 +73,6 @@ Once ds = Distinct (map definedName ds)
 
 abbrev pub SoundBodies : List Definition → Type 0
 SoundBodies ds = (d : Definition) → List·Memᴰ d ds → Sound ds false (d .body)
-
--- A name's definition starts an alias chain that runs into a circle.
-abbrev pub CircleFrom : List Definition → ℕ → Type 0
-CircleFrom ds n = (d : Definition) × List·Memᴰ d ds × (d .name ≡ n) × NeverEnds ds (d .body)
 
 pub data DefinitionsRefuse (ds : List Definition) : Refusal → Type 0 where
   twice : {d : Definition} → FirstRepeat definedName ds d → DefinitionsRefuse ds (Twice (d .name))
