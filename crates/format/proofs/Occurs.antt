@@ -1,12 +1,13 @@
 -- Laws of nodes that stand somewhere in trees, and of trees beside each other: a tree is its node, what stands below and what stands after.
 -- Assumes nothing.
 --     Everywhere, Somewhere, EachTree    of all nodes, of one, of the trees beside each other
+--     everywhere-beside, each-beside, .. of trees beside others
 --     reference-occurs, occurs-reference the names that trees refer to are nodes there
 use mathlib.Core.Path.{_≡_, refl, sym, ap}
 use mathlib.Core.Logic.{inl, inr}
 use mathlib.Core.List.{_++_, List·Memᴰ, List·Memᴰ·head, List·Memᴰ·not-nil, List·Memᴰ·append-cases, List·Memᴰ·eq-of-singleton, Memᴰ·append-left, Memᴰ·append-right}
 use Prim.Native.Nat.{ℕ}
-use Rattle.format.specs.Forest.{Forest, end, tree}
+use Rattle.format.specs.Forest.{Forest, end, tree, beside}
 use Rattle.format.specs.Node.{Kind, PrimT, VarT, OptT, VecT, RecordT, VariantT, FuncT, ServT, ClassT, InitT, Node}
 use Rattle.format.specs.References.{referenceOf, references}
 use Rattle.format.specs.Occurs.{Occurs, here, below, after, Beside, first, later}
@@ -55,6 +56,28 @@ module _ {P : Node → Forest Node → Type 0} {m : Node} {lids next : Forest No
 
   pub somewhere-after : Somewhere P next → Somewhere P (tree m lids next)
   somewhere-after s = (s .0, s .1, after (s .2), s .3)
+
+-- ---- Trees beside others
+module _ {P : Node → Forest Node → Type 0} where
+  pub everywhere-beside : (f g : Forest Node) → Everywhere P f → Everywhere P g → Everywhere P (beside f g)
+  unfolding beside
+  everywhere-beside end g p q = q
+  everywhere-beside (tree n kids next) g p q = everywhere-tree (p n kids here) (in-kids p) (everywhere-beside next g (in-next p) q)
+
+  pub beside-everywhere : (f g : Forest Node) → Everywhere P (beside f g) → Everywhere P f × Everywhere P g
+  unfolding beside
+  beside-everywhere end g p = (λ n kids o. occurs-end o, p)
+  beside-everywhere (tree n kids next) g p = let r = beside-everywhere next g (in-next p) in (everywhere-tree (p n kids here) (in-kids p) (r .0), r .1)
+
+  pub each-beside : (f g : Forest Node) → EachTree P f → EachTree P g → EachTree P (beside f g)
+  unfolding beside
+  each-beside end g p q = q
+  each-beside (tree n kids next) g p q = each-tree (p n kids first) (each-beside next g (in-others p) q)
+
+  pub beside-each : (f g : Forest Node) → EachTree P (beside f g) → EachTree P f × EachTree P g
+  unfolding beside
+  beside-each end g p = (λ n kids o. beside-none o, p)
+  beside-each (tree n kids next) g p = let r = beside-each next g (in-others p) in (each-tree (p n kids first) (r .0), r .1)
 
 -- ---- References
 

@@ -35,7 +35,7 @@ use Rattle.judgement.specs.Environment.{End, unbound, circle, ends, head
 use Rattle.judgement.specs.Actor.{isClassKind, isClass, lastTree, classArguments, belowClass, serviceOf, classOf, methodsOf, importedMethods, mergedActor}
 use Rattle.judgement.specs.Check.{checkForest, isCircle, importsVerdict, serviceVerdict, importedVerdict, hashesVerdict, mainVerdict, actorVerdict}
 use Rattle.judgement.specs.WellFormed.{definedName, arrived, RootIs, StandsFor, Bound, WellFormedTrees, belowTop}
-use Rattle.judgement.specs.Rust.{OneMode, hashOf}
+use Rattle.judgement.specs.Rust.{OneMode, hashOf, hashesOf}
 use Rattle.judgement.specs.Meaning.{MeetsUnbound, LeadsElsewhere}
 use Rattle.judgement.specs.Order.{First, FirstRepeat, Sound, Fault, DefinitionsPass, Unserved, elsewhere}
 use Rattle.judgement.specs.Order as order
@@ -47,11 +47,6 @@ use Rattle.judgement.proofs.Fitting.{Fitting, fitting-class, methods-fi
 use Rattle.judgement.proofs.Meaning.{foundMethods, MainStands, ImportsStand, some-tree, merged-below}
 
 -- ---- 14: methods of the same hash
-
--- The hashes of methods.
-abbrev pub hashesOf : List (List ℕ) → Forest Node → List ℕ
-hashesOf names f = map (hashOf names) (methodNames f)
-
 hashes-repeats : (names : List (List ℕ)) (seen : List ℕ) (f : Forest Node) → hashesVerdict names seen f ≡ repeats (hashOf names) SameHash seen (methodNames f)
 unfolding hashesVerdict repeats methodNames
 hashes-repeats names seen end = refl

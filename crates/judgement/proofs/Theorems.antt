@@ -1,6 +1,7 @@
 -- The theorems that pin the check and the init check. Assumes nothing; a book that was read from bytes fits (crate format, `found`).
 --     check-says, init-check-says                  what passes: exactly what Candid calls well-formed, but for labels, and the Rust takes
---     actor-means, actor-trees                     the actor of a book that passes is the one that is resolved, and it is well-formed
+--     actor-means                                  the actor of a book that passes is the one that is resolved
+--     actor-trees, actor-hashes                    it is well-formed, and its methods differ by hash where there are service imports
 --     check-row, init-check-row                    what is refused lies in the row of its refusal
 --     without-init                                 without an init file both say the same
 --     no-init-definitions, no-init-tree            there are then no definitions and no arguments of it
@@ -26,12 +27,12 @@ use Rattle.refusals.specs.declared.Verdict.{Verdict}
 use Rattle.refusals.specs.declared.Verdict.the-variants.{Passed, Refused}
 use Rattle.refusals.specs.Refusal.{numberOf}
 use Rattle.judgement.specs.Environment.{roleAt, mainDefinitions, initDefinitions, findType, mergeDefinitions, kidsOf}
-use Rattle.judgement.specs.Actor.{serviceImports, mainActor, initTree, NoInit, resolveActor}
+use Rattle.judgement.specs.Actor.{serviceImports, mainActor, initTree, NoInit, belowClass, resolveActor}
 use Rattle.judgement.specs.Check.{checkForest, member, onceVerdict, bodiesVerdict, eachName, circleVerdict, bodiesFit, decsVerdict, importsVerdict, resolveVerdict, actorVerdict, check, sameVerdict, mergeVerdict, initVerdict, initCheck, checkBytes, initCheckBytes}
 use Rattle.format.specs.Distinct.{Distinct}
 use Rattle.judgement.specs.WellFormed.{definedName, WellFormedTrees, belowTop, Typed, TypedInit}
 use Rattle.judgement.specs.Meaning.{ActorOf}
-use Rattle.judgement.specs.Rust.{Rust, RustInit}
+use Rattle.judgement.specs.Rust.{hashesOf, Rust, RustInit}
 use Rattle.judgement.specs.Rows.{DefinitionsRow, TreesRow, ActorRow, CheckRow, checkRows, MergeRow, InitRow, twice, unbound, class, modes, oneway, circle, noFunction, methodNoFunction, noService, importWithoutActor, importNoService, sameHash, differs}
 use Rattle.refusals.proofs.Verdicts.{both-pass, pass-both, which-refused, and-passed}
 use Rattle.judgement.proofs.Lookup.{member-says, keep-none, merge-distinct}
@@ -102,6 +103,10 @@ module _ (b : Book) (fits : Fits b) (passed : check b ≡ Passed) where
   pub actor-trees : WellFormedTrees (ds b) (belowTop (resolveActor b))
   unfolding resolveActor
   actor-trees = walked .actor
+
+  pub actor-hashes : (imports b ≡ []) ⊎ Distinct (hashesOf (b .names) (kidsOf (belowClass (resolveActor b))))
+  unfolding resolveActor
+  actor-hashes = walked .hashes
 
   pub actor-means : (t : Forest Node) → ActorOf b t ↔ (t ≡ resolveActor b)
   actor-means t =

@@ -1,64 +1,39 @@
--- The actor that is walked against the actors as written. With service imports one service of all methods is walked; each of these stands in an
--- actor as written or, where that is a name, in a definition. Assumes what stands in the sections' heads: that each name is defined once,
--- that definitions are well-formed, and that what is written fits.
---     GoodNode, good-says            well-formed trees of one mode, node by node
---     GoodMethods, together-good     the methods of types that are good are
---     good-together                  types are good where their methods are
---     top-good, merged-good          what is walked of an actor, and of the merged one
---     resolved-typed, typed-resolved the resolved actor passes exactly where what is written does
-use mathlib.Core.Path.{_≡_, refl, sym, ap, subst, _∙_}
+-- The actor that is walked against the actors as written. With service imports one service of all methods is walked; each method stands in
+-- an actor as written or, where that is a name, in a definition. Assumes what stands in the last section's head: a book that fits, whose
+-- definitions are well-formed and of one mode.
+--     good-says                          well-formed trees of one mode, node by node
+--     together-good, good-together       types that lead to services are good, and so are their methods together
+--     top-parts, merged-parts            what is walked of an actor, and of the merged one
+--     merged-good, resolved-good         the actor that is walked is good exactly if each actor as written is
+--     resolved-typed, typed-resolved     the same in the words of Typed and Rust
+use mathlib.Core.Path.{_≡_, refl, sym, subst}
 use mathlib.Core.Logic.{_↔_, _⊎_, inl, inr, ⊎-elim}
 use mathlib.Core.Bool.{Bool, true, false, cond}
-use mathlib.Core.List.{List, [], map, List·Memᴰ, List·Memᴰ·head, List·Memᴰ·tail, List·Memᴰ·cases-cons, List·Memᴰ·not-nil}
+use mathlib.Core.List.{List, [], List·Memᴰ, List·Memᴰ·head, List·Memᴰ·tail, List·Memᴰ·cases-cons, List·Memᴰ·not-nil}
 use Prim.Native.Nat.{ℕ, _≤_}
 use native.Mathlib.Omega.{arith}
-use lib.Dec.{T, ltb, eqb, eqb→eq}
+use lib.Dec.{T}
 use lib.ListN.{length}
-use Rattle.format.specs.declared.Place.{Place}
 use Rattle.format.specs.Forest.{Forest, end, tree, beside, breadth}
 use Rattle.format.specs.Node.{Kind, VarT, ServT, Node}
 use Rattle.format.specs.Book.{Definition, File, Book}
-use Rattle.format.specs.Fits.{placeBelow, kindFits, kindAllowed, labelFits, nodeFits, forestFits, Fits}
-use Rattle.format.specs.Occurs.{Occurs, here, below, after, Beside, first, later}
+use Rattle.format.specs.Fits.{Fits}
+use Rattle.format.specs.Occurs.{here}
 use Rattle.format.specs.Distinct.{Distinct}
-use Rattle.format.proofs.Logic.{both, both₃}
-use Rattle.format.proofs.Occurs.{Everywhere, EachTree, occurs-end, beside-none, everywhere-tree, in-kids, in-next, each-tree, in-others}
-use Rattle.judgement.specs.Environment.{mainDefinitions, head, headKind, isServKind, kidsOf}
+use Rattle.format.proofs.Occurs.{Everywhere, EachTree, occurs-end, beside-none, everywhere-tree, in-kids, everywhere-beside, beside-everywhere, each-beside, beside-each}
+use Rattle.judgement.specs.Environment.{mainDefinitions, isServKind, kidsOf}
 use Rattle.judgement.specs.Actor.{serviceImports, mainActor, isClassKind, isClass, lastTree, allButLast, classArguments, belowClass, serviceOf, classOf, mergedOf, resolveActor}
-use Rattle.judgement.specs.WellFormed.{definedName, Defined, Leads, arrived, onward, StandsFor, WellFormedTrees, WellFormedDefinitions, belowTop, WellFormedActor, Typed}
+use Rattle.judgement.specs.WellFormed.{Defined, Leads, arrived, onward, StandsFor, WellFormedTrees, WellFormedDefinitions, belowTop, Typed}
 use Rattle.judgement.specs.Meaning.{Serves, Together, none, more, services}
-use Rattle.judgement.specs.Rust.{OneMode, OneModeDefinitions, Hashed, Rust}
+use Rattle.judgement.specs.Rust.{OneMode, OneModeDefinitions, hashesOf, Hashed, Rust}
 use Rattle.judgement.proofs.Lookup.{listed-defined}
-use Rattle.judgement.proofs.Heads.{named-var, named-no-class}
 use Rattle.judgement.proofs.Chains.{leads-keeps}
 use Rattle.judgement.proofs.Walks.{Asked, IsFunction, nodes-pass, trees-well-formed}
 use Rattle.judgement.proofs.Classes.{beside-last}
 use Rattle.judgement.proofs.Fitting.{Written, no-breadth, written-class, named-leaf}
 use Rattle.judgement.proofs.Meaning.{MainStands, ImportsStand, servicesOf, foundMethods, none-stands, stands-no-class, all-services, services-all, merged-together, none-imported, resolved-written, resolved-merged, resolved-methods}
-use Rattle.judgement.proofs.Actors.{hashesOf, Resolved}
+use Rattle.judgement.proofs.Actors.{Resolved}
 use Rattle.judgement.proofs.Books.{main-actor-written, imports-written}
-
--- ---- Trees beside each other
-module _ {P : Node → Forest Node → Type 0} where
-  everywhere-beside : (f g : Forest Node) → Everywhere P f → Everywhere P g → Everywhere P (beside f g)
-  unfolding beside
-  everywhere-beside end g p q = q
-  everywhere-beside (tree n kids next) g p q = everywhere-tree (p n kids here) (in-kids p) (everywhere-beside next g (in-next p) q)
-
-  beside-everywhere : (f g : Forest Node) → Everywhere P (beside f g) → Everywhere P f × Everywhere P g
-  unfolding beside
-  beside-everywhere end g p = (λ n kids o. occurs-end o, p)
-  beside-everywhere (tree n kids next) g p = let r = beside-everywhere next g (in-next p) in (everywhere-tree (p n kids here) (in-kids p) (r .0), r .1)
-
-  each-beside : (f g : Forest Node) → EachTree P f → EachTree P g → EachTree P (beside f g)
-  unfolding beside
-  each-beside end g p q = q
-  each-beside (tree n kids next) g p q = each-tree (p n kids first) (each-beside next g (in-others p) q)
-
-  beside-each : (f g : Forest Node) → EachTree P (beside f g) → EachTree P f × EachTree P g
-  unfolding beside
-  beside-each end g p = (λ n kids o. beside-none o, p)
-  beside-each (tree n kids next) g p = let r = beside-each next g (in-others p) in (each-tree (p n kids first) (r .0), r .1)
 
 -- ---- Well-formed trees of one mode, node by node
 abbrev GoodNode : List Definition → Node → Forest Node → Type 0
@@ -240,7 +215,7 @@ module _ (b : Book) (fits : Fits b) (formed : WellFormedDefinitions (mainDefinit
       hashed d =
           ⊎-elim inl
           (λ h. let together = merged-together ds (formed .once) main imports (r .service) (r .imported) in
-              inr record { methods = foundMethods ds main imports; together = together; distinct = rw (resolved-methods b (formed .once) h together) at d })
+          inr record { methods = foundMethods ds main imports; together = together; distinct = rw (resolved-methods b (formed .once) h together) at d })
           (none-imported imports)
 
   pub typed-resolved : Typed b → Rust b → Resolved (b .names) ds main imports

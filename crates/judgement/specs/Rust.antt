@@ -25,15 +25,18 @@ OneMode f = (n : Node) (kids : Forest Node) (a : ℕ) (ms : List FuncMode) → O
 abbrev pub OneModeDefinitions : List Definition → Type 0
 OneModeDefinitions ds = (d : Definition) → List·Memᴰ d ds → OneMode (d .body)
 
--- A method's hash.
+-- A method's hash, by its name; those of methods.
 abbrev pub hashOf : List (List ℕ) → ℕ → ℕ
 hashOf names n = labelNumber (getD names n [])
+
+abbrev pub hashesOf : List (List ℕ) → Forest Node → List ℕ
+hashesOf names methods = map (hashOf names) (methodNames methods)
 
 -- The methods of all services together differ by hash.
 pub record Hashed (b : Book) : Type 0 where
   pub methods : Forest Node
   pub together : Together (mainDefinitions b) (services b) methods
-  pub distinct : Distinct (map (hashOf (b .names)) (methodNames methods))
+  pub distinct : Distinct (hashesOf (b .names) methods)
 
 -- The methods of a service, by their hashes.
 unfoldable pub methodHashes : List (List ℕ) → Forest Node → List ℕ

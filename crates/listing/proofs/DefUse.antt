@@ -33,6 +33,7 @@ use Rattle.judgement.specs.Check.{member, check}
 use Rattle.format.specs.Occurs.{first, later}
 use Rattle.format.specs.Distinct.{Distinct, Ascends}
 use Rattle.judgement.specs.WellFormed.{definedName}
+use Rattle.judgement.specs.Meaning.{Serves}
 use Rattle.judgement.proofs.Chains.{leads-end}
 use Rattle.format.proofs.Distinct.{distinct-head, distinct-tail, ascends-unique}
 use Rattle.judgement.proofs.Lookup.{member-says, listed-or-not}
@@ -43,7 +44,7 @@ use Rattle.listing.specs.Uses.{isListed, usesAt, usesOf, uses, RowOf}
 use Rattle.listing.specs.DefUse.{MapEntry, usesFor, pushUse, pushUses, DefUse, made, unbound, circle, noService, noFunction, onMade, pushWalk, chaseSites, failed, chaseMethod, chaseMethods, chaseService, chaseActor, chaseDefUse}
 use Rattle.listing.specs.References.{Reachable}
 use Rattle.refusals.specs.Outcome.{given}
-use Rattle.listing.specs.Offers.{Serves, Function, Interface, Functions}
+use Rattle.listing.specs.Offers.{Function, Interface, Functions}
 use Rattle.listing.proofs.Interface.{function-end, interface-serves, interface-end, none-serves, passed-interface, passed-once, passed-functions}
 use Rattle.listing.proofs.Examples.{fitting, checked, plain, name, type, book}
 use Rattle.listing.proofs.Uses.{EachSite, row-says, WalkListed, listed-lists, uses-row, passed-listed, uses-answered}

@@ -21,11 +21,11 @@ use Rattle.refusals.specs.declared.Refusal.{Refusal}
 use Rattle.refusals.specs.declared.Verdict.the-variants.{Passed, Refused}
 use Rattle.judgement.specs.Environment.{roleAt, keep, mainDefinitions, initDefinitions, mergeDefinitions, findType, isMissing, kidsOf}
 use Rattle.judgement.specs.Check.{check, initCheck}
-use Rattle.judgement.specs.Actor.{initTree}
+use Rattle.judgement.specs.Actor.{initTree, NoInit}
 use Rattle.format.specs.Distinct.{Distinct}
-use Rattle.judgement.specs.WellFormed.{definedName, Bound, WellFormed, WellFormedInit}
+use Rattle.judgement.specs.WellFormed.{definedName, Bound, Typed, TypedInit}
 use Rattle.judgement.proofs.Lookup.{merge-listed, merge-says, merge-distinct}
-use Rattle.judgement.proofs.Theorems.{init-check-says, init-check-row, init-numbers, NoInit, no-init-tree, without-init}
+use Rattle.judgement.proofs.Theorems.{init-check-says, init-check-row, init-numbers, no-init-tree, without-init}
 use Rattle.listing.specs.Chase.{chaseTypes, walked, chase}
 use Rattle.refusals.specs.Outcome.{Outcome, refused, given, after, fit}
 use Rattle.listing.specs.InitList.{initList, InitListRow, initListRows, checked, short}
@@ -68,7 +68,7 @@ module _ (b : Book) (fits : Fits b) where
   abbrev arguments : Forest Node
   arguments = kidsOf (initTree (b .files))
 
-  module _ (w : WellFormed b) (i : WellFormedInit b) where
+  module _ (w : Typed b) (i : TypedInit b) where
     pub merged-once : Distinct (map definedName merged)
     merged-once = merge-distinct (initDefinitions b) ds (i .definitions .once) (w .definitions .once)
 

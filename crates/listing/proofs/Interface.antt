@@ -1,6 +1,6 @@
 -- An actor's class arguments and methods are what the definitions find. Assumes nothing; where it matters that each name is defined once,
 -- the lemma says so.
---     function-end, serves-methods, ..     what stands at the end of a chain
+--     function-end, function-unique        what stands at the end of a chain
 --     interface-arguments, ..              the arguments and the methods, also where the actor's own alias is followed first
 --     stands-interface, ..                 an actor that stands for a service offers some
 --     passed-interface, passed-functions   such a book's actor offers methods, and these are functions
@@ -8,30 +8,30 @@ use mathlib.Core.Path.{_≡_, refl, sym, ap, _∙_}
 use mathlib.Core.Bool.{Bool, true, false, cond}
 use mathlib.Core.List.{List, map, List·Memᴰ}
 use Prim.Native.Nat.{ℕ}
-use native.Mathlib.Omega.{arith}
 use lib.Dec.{T}
 use lib.ListN.{length}
-use Rattle.format.specs.Forest.{Forest, end, tree, beside}
+use Rattle.format.specs.Forest.{Forest, end, tree}
 use Rattle.format.specs.Node.{Kind, PrimT, VarT, OptT, VecT, RecordT, VariantT, FuncT, ServT, ClassT, InitT, FuncMode, Node}
 use Rattle.format.specs.Book.{Definition, Book}
 use Rattle.format.specs.Fits.{Fits}
 use Rattle.format.specs.Rules.{noTrees}
 use Rattle.refusals.specs.declared.Refusal.the-variants.{NoService}
 use Rattle.refusals.specs.declared.Verdict.the-variants.{Passed}
-use Rattle.judgement.specs.Environment.{named, headKind, head, mainDefinitions, ends, aliasEnd, isFuncKind, isServKind, asService, kidsOf, methodsAt}
-use Rattle.judgement.specs.Actor.{serviceImports, mainActor, isClassKind, isClass, lastTree, allButLast, classArguments, belowClass, resolveActor}
+use Rattle.judgement.specs.Environment.{headKind, head, mainDefinitions, ends, aliasEnd, isFuncKind, isServKind, asService, kidsOf, methodsAt}
+use Rattle.judgement.specs.Actor.{serviceImports, mainActor, isClassKind, isClass, lastTree, allButLast, classArguments, belowClass, methodsOf, resolveActor}
 use Rattle.judgement.specs.Check.{check, checkForest, importsVerdict, decsVerdict, resolveVerdict}
 use Rattle.judgement.specs.Check as judged
-use Rattle.format.specs.Occurs.{Occurs, here, after}
+use Rattle.format.specs.Occurs.{here}
 use Rattle.format.specs.Distinct.{Distinct}
-use Rattle.judgement.specs.WellFormed.{definedName, Leads, arrived, onward, RootIs, StandsFor, MethodsAreFunctions, belowTop}
+use Rattle.judgement.specs.WellFormed.{definedName, Leads, arrived, RootIs, StandsFor, MethodsAreFunctions, belowTop}
+use Rattle.judgement.specs.Meaning.{Serves}
+use Rattle.format.proofs.Occurs.{beside-everywhere}
 use Rattle.refusals.proofs.Verdicts.{both-pass, unless-passed}
 use Rattle.judgement.proofs.Chains.{leads-end, leads-unique, leads-keeps, root-stands}
-use Rattle.judgement.proofs.Heads.{named-var}
-use Rattle.judgement.proofs.Walks.{is-service}
-use Rattle.judgement.proofs.Theorems.{check-says}
+use Rattle.judgement.proofs.Meaning.{serves-stands, stands-serves, none-stands, stands-no-class, serves-methods}
+use Rattle.judgement.proofs.Theorems.{check-says, actor-trees}
 use Rattle.listing.specs.Sites.{typeOf}
-use Rattle.listing.specs.Offers.{Serves, Function, Interface, service, class, Functions}
+use Rattle.listing.specs.Offers.{Function, Interface, service, class, Functions}
 use Rattle.judgement.proofs.Classes.{is-class, last-beside, others-beside, beside-last, last-sole}
 
 -- ---- Kinds
@@ -48,20 +48,6 @@ is-function ServT t = absurd t
 is-function ClassT t = absurd t
 is-function InitT t = absurd t
 
--- a name is no class
-pub named-no-class : (t : Forest Node) {n : ℕ} → head t ≡ named n → isClass t ≡ false
-unfolding head isClass isClassKind
-named-no-class end h = refl
-named-no-class (tree m kids next) h = rw (named-var (m .kind) h)
-
-leads-no-class : {ds : List Definition} {t u : Forest Node} → Leads ds t u → isClass u ≡ false → isClass t ≡ false
-leads-no-class (arrived h) e = e
-leads-no-class {t = t} (onward h m q l) e = named-no-class t h
-
-service-no-class : (node : Node) (methods next : Forest Node) → node .kind ≡ ServT → isClass (tree node methods next) ≡ false
-unfolding isClass isClassKind
-service-no-class node methods next s = rw s
-
 -- ---- Where the definitions find it
 module _ (ds : List Definition) (once : Distinct (map definedName ds)) where
   pub function-end : {t kids : Forest Node} {a : ℕ} (x : Function ds t a kids) → aliasEnd ds t ≡ ends (tree (x .node) kids (x .next))
@@ -75,12 +61,8 @@ module _ (ds : List Definition) (once : Distinct (map definedName ds)) where
       let f : FuncT _ (x .modes) ≡ FuncT _ (y .modes) = sym (x .function) ∙ ap (λ (m : Node). m .kind) n ∙ y .function in
       (cc, k)
 
-  pub serves-methods : {t methods : Forest Node} → Serves ds t methods → methodsAt (aliasEnd ds t) ≡ methods
-  unfolding methodsAt kidsOf
-  serves-methods x = rw (leads-end ds once (x .leads))
-
   serves-no-class : {t methods : Forest Node} → Serves ds t methods → isClass t ≡ false
-  serves-no-class {methods = methods} x = leads-no-class (x .leads) (service-no-class (x .node) methods (x .next) (x .service))
+  serves-no-class x = stands-no-class (serves-stands x)
 
   pub interface-arguments : {t arguments methods : Forest Node} → Interface ds t arguments methods → classArguments t ≡ arguments
   unfolding classArguments isClass kidsOf isClassKind
@@ -93,7 +75,8 @@ module _ (ds : List Definition) (once : Distinct (map definedName ds)) where
   interface-serves {arguments = arguments} (class {last = last} e c one x) = rw (e, c, last-beside arguments last one) x
 
   pub interface-methods : {t arguments methods : Forest Node} → Interface ds t arguments methods → methodsAt (aliasEnd ds (belowClass t)) ≡ methods
-  interface-methods x = serves-methods (interface-serves x)
+  unfolding methodsOf
+  interface-methods x = serves-methods ds once (interface-serves x)
 
   -- where the actor's own alias is followed first, the same is found
   pub interface-end : {t arguments methods : Forest Node} → Interface ds t arguments methods → Interface ds (typeOf (aliasEnd ds t)) arguments methods
@@ -104,14 +87,7 @@ module _ (ds : List Definition) (once : Distinct (map definedName ds)) where
   interface-end {t} (class {c = c} {next = next} e κ one x) =
       rw (leads-end ds once {t = t} {u = t} (arrived (rw (e, κ)))) (class {next = next} e κ one x)
 
--- ---- What stands for a service or a function
-stands-serves : {ds : List Definition} {t : Forest Node} → StandsFor isServKind ds t → (methods : Forest Node) × Serves ds t methods
-stands-serves {ds} {t} s = go (s .type) (s .leads) (s .root)
-  where
-    go : (u : Forest Node) → Leads ds t u → RootIs isServKind u → (methods : Forest Node) × Serves ds t methods
-    go end l r = absurd r
-    go (tree n kids next) l r = (kids, record { node = n; next = next; leads = l; service = is-service (n .kind) r })
-
+-- ---- What stands for a function
 pub stands-function : {ds : List Definition} {t : Forest Node} → StandsFor isFuncKind ds t → (a : ℕ) × (kids : Forest Node) × Function ds t a kids
 stands-function {ds} {t} s = go (s .type) (s .leads) (s .root)
   where
@@ -119,14 +95,8 @@ stands-function {ds} {t} s = go (s .type) (s .leads) (s .root)
     go end l r = absurd r
     go (tree n kids next) l r = let f = is-function (n .kind) r in (f .0, kids, record { node = n; modes = f .1; next = next; leads = l; function = f .2 })
 
--- no tree stands for nothing
-none-leads : {ds : List Definition} {t u : Forest Node} → Leads ds t u → t ≡ end → u ≡ end
-unfolding head
-none-leads (arrived h) e = e
-none-leads (onward h m q l) e = let g = rw e at h in let z : _≡_ {A = ℕ} 0 1 = cc in absurd (omega arith)
-
 pub none-serves : {ds : List Definition} {t methods : Forest Node} → Serves ds t methods → t ≡ end → ⊥
-none-serves x e = let q = none-leads (x .leads) e in let z : _≡_ {A = ℕ} 0 1 = cc in omega arith
+none-serves x = none-stands (serves-stands x)
 
 -- ---- An actor that stands for a service below its top
 pub stands-interface : (ds : List Definition) (t : Forest Node) → StandsFor isServKind ds (belowClass t) →
@@ -143,11 +113,6 @@ stands-interface ds (tree n kids next) s = go (isClassKind (n .kind)) (is-class 
     go false h s = let x = stands-serves s in (x .0, service refl (x .1))
 
 -- Where the methods of all services are functions, those of the actor are.
-occurs-beside : {n : Node} {kids last : Forest Node} (f : Forest Node) → Occurs n kids last → Occurs n kids (beside f last)
-unfolding beside
-occurs-beside end o = o
-occurs-beside (tree m lids next) o = after (occurs-beside next o)
-
 module _ (ds : List Definition) (bodies : (d : Definition) → List·Memᴰ d ds → MethodsAreFunctions ds (d .body)) where
   serves-functions : {t methods : Forest Node} → MethodsAreFunctions ds t → Serves ds t methods → Functions ds methods
   serves-functions {methods = methods} h x n kids i =
@@ -157,7 +122,7 @@ module _ (ds : List Definition) (bodies : (d : Definition) → List·Memᴰ d ds
   unfolding belowTop isClass isClassKind kidsOf
   interface-functions once h (service e x) = serves-functions (rw (serves-no-class ds once x) at h) x
   interface-functions once {arguments = arguments} h (class {last = last} e c one x) =
-      serves-functions (λ n kids o. (rw (e, c) at h) n kids (occurs-beside arguments o)) x
+      serves-functions (beside-everywhere arguments last (rw (e, c) at h) .1) x
 
 -- ---- A book that passes
 actor-stands : (ds : List Definition) (t : Forest Node) → (t ≡ end → ⊥) → judged.actorVerdict ds t ≡ Passed → StandsFor isServKind ds (belowClass t)
@@ -186,5 +151,5 @@ module _ (b : Book) (passed : check b ≡ Passed) (some : resolveActor b ≡ end
 
     pub passed-functions : {arguments methods : Forest Node} → Interface (mainDefinitions b) (resolveActor b) arguments methods → Functions (mainDefinitions b) methods
     passed-functions =
-        let w = check-says b fits .0 passed .0 in
-        interface-functions (mainDefinitions b) (λ d m. w .definitions .trees d m .methods) (w .definitions .once) (w .actor .methods)
+        let w = check-says b fits .0 passed .0 .definitions in
+        interface-functions (mainDefinitions b) (λ d m. w .trees d m .methods) (w .once) (actor-trees b fits passed .methods)

@@ -29,7 +29,7 @@ use Rattle.judgement.specs.Environment.{mainDefinitions, kidsOf}
 use Rattle.judgement.specs.Actor.{isClassKind, isClass, firstActor, mainActor, serviceImports, classOf, serviceOf, mergedActor, resolveWith, resolveActor}
 use Rattle.judgement.specs.Check.{check}
 use Rattle.judgement.specs.WellFormed.{Bound, belowTop}
-use Rattle.judgement.proofs.Theorems.{check-says, check-numbers}
+use Rattle.judgement.proofs.Theorems.{check-says, actor-trees, check-numbers}
 use Rattle.listing.specs.Chase.{chaseTypes, walked}
 use Rattle.refusals.specs.Outcome.{refused, given, after, fit}
 use Rattle.listing.specs.Room.{needsActor, ShortRow, EachOnce, AfterCheck}
@@ -104,7 +104,7 @@ module _ (b : Book) (fits : Fits b) where
       let w = check-says b fits .0 e .0 in
       rw (answered b e some (walked (chaseTypes ds (resolveActor b))))
       (bound-answered ds (w .definitions .once) (main-bodies b fits) (resolveActor b) (resolved-leafy b fits) (main-few b fits)
-      (λ d m. w .definitions .trees d m .bound) (actor-bound (w .actor .bound)))
+      (λ d m. w .definitions .trees d m .bound) (actor-bound (actor-trees b fits e .bound)))
 
   pub list-refused : {r : Refusal} → check b ≡ Refused r → list b ≡ refused r
   unfolding list after

@@ -1,16 +1,16 @@
 -- How many methods an actor offers at most, and arguments and results of a method. Assumes that the book fits.
 --     methods-few                    4,096: trees of the book have no more nodes; with imports methods differ by hash, and names are fewer
 --     resolved-slim, results-few     at most 4,096 of each method, and 4,097 of a class
-use mathlib.Core.Path.{_≡_, refl, ap}
+use mathlib.Core.Path.{_≡_, refl, sym, ap}
 use mathlib.Core.Logic.{⊎-elim}
 use mathlib.Core.Bool.{Bool, true, false, cond}
-use mathlib.Core.List.{List, [], _∷_, map, List·Memᴰ, List·Memᴰ·head, List·Memᴰ·tail, List·Memᴰ·cases-cons, Memᴰ·map}
+use mathlib.Core.List.{List, [], _∷_, map, List·Memᴰ, List·Memᴰ·head, List·Memᴰ·tail, List·Memᴰ·cases-cons, Memᴰ·cast, Memᴰ·map, Memᴰ·of-map}
 use Prim.Native.Nat.{ℕ, zero, suc, _+_, _*_, _≤_}
 use native.Mathlib.Omega.{arith}
 use lib.ListN.{length, length-map, getD}
 use Rattle.labels.specs.Number.{labelNumber}
 use Rattle.format.specs.Forest.{Forest, end, tree, beside, count, breadth}
-use Rattle.format.specs.Node.{Node, labelValue}
+use Rattle.format.specs.Node.{Node}
 use Rattle.format.specs.Book.{Definition, File, Book, bodies, actors, trees}
 use Rattle.format.specs.Fits.{Fits}
 use Rattle.format.proofs.Trees.{breadth-count, count-beside, breadth-beside}
@@ -20,12 +20,13 @@ use Rattle.judgement.specs.Environment.{mainDefinitions, Head, named, other, he
 use Rattle.judgement.specs.Actor.{isServiceImport, serviceImports, isClassKind, isClass, lastTree, allButLast, firstActor, mainActor, classArguments, belowClass, serviceOf, classOf, methodsOf, importedMethods, mergedActor, resolveWith, resolveActor}
 use Rattle.judgement.specs.Check.{check}
 use Rattle.format.specs.Distinct.{Distinct}
+use Rattle.format.specs.Labels.{methodNames}
 use Rattle.judgement.specs.WellFormed.{Leads, arrived, onward}
-use Rattle.judgement.specs.Rust.{methodHashes}
+use Rattle.judgement.specs.Rust.{hashOf, hashesOf}
 use Rattle.format.proofs.Distinct.{pigeonhole}
 use Rattle.judgement.proofs.Lookup.{keep-says}
 use Rattle.judgement.proofs.Chains.{stops, run-end, end-leads, leads-keeps}
-use Rattle.judgement.proofs.Theorems.{check-says}
+use Rattle.judgement.proofs.Theorems.{actor-hashes}
 use Rattle.listing.specs.Offers.{argumentsAndResults}
 use Rattle.judgement.proofs.Classes.{last-beside}
 
@@ -64,10 +65,10 @@ first-count [] = omega arith
 first-count (f ∷ fs) = omega (arith, count-beside (f .actor) (actors fs))
 
 -- hashes that differ are no more than there are names, and one
-hashes-long : (names : List (List ℕ)) (f : Forest Node) → length (methodHashes names f) ≡ breadth f
-unfolding methodHashes breadth
-hashes-long names end = refl
-hashes-long names (tree n kids next) = ap suc (hashes-long names next)
+names-long : (f : Forest Node) → length (methodNames f) ≡ breadth f
+unfolding methodNames breadth
+names-long end = refl
+names-long (tree n kids next) = ap suc (names-long next)
 
 bytes-listed : (names : List (List ℕ)) (n : ℕ) → List·Memᴰ (getD names n []) ([] ∷ names)
 bytes-listed [] n = List·Memᴰ·head refl
@@ -75,15 +76,12 @@ bytes-listed (s ∷ names) zero = List·Memᴰ·tail (List·Memᴰ·head refl)
 bytes-listed (s ∷ names) (suc n) =
     ⊎-elim (λ e. List·Memᴰ·head e) (λ m. List·Memᴰ·tail (List·Memᴰ·tail m)) (List·Memᴰ·cases-cons (bytes-listed names n))
 
-hash-listed : (names : List (List ℕ)) (f : Forest Node) (h : ℕ) → List·Memᴰ h (methodHashes names f) → List·Memᴰ h (map labelNumber ([] ∷ names))
-unfolding methodHashes
-hash-listed names (tree n kids next) h m =
-    ⊎-elim (λ (e : h ≡ labelNumber (getD names (labelValue (n .label)) [])). rw e (Memᴰ·map labelNumber (bytes-listed names (labelValue (n .label)))))
-    (hash-listed names next h) (List·Memᴰ·cases-cons m)
+hash-listed : (names : List (List ℕ)) (ns : List ℕ) (h : ℕ) → List·Memᴰ h (map (hashOf names) ns) → List·Memᴰ h (map labelNumber ([] ∷ names))
+hash-listed names ns h m = let f = Memᴰ·of-map (hashOf names) ns m in Memᴰ·cast (sym (f .2)) (Memᴰ·map labelNumber (bytes-listed names (f .0)))
 
-hashes-few : (names : List (List ℕ)) (f : Forest Node) → Distinct (methodHashes names f) → breadth f ≤ suc (length names)
+hashes-few : (names : List (List ℕ)) (f : Forest Node) → Distinct (hashesOf names f) → breadth f ≤ suc (length names)
 hashes-few names f h =
-    omega (arith, pigeonhole h (map labelNumber ([] ∷ names)) (hash-listed names f), hashes-long names f, length-map ([] ∷ names) labelNumber)
+    omega (arith, pigeonhole h (map labelNumber ([] ∷ names)) (hash-listed names (methodNames f)), names-long f, length-map (methodNames f) (hashOf names), length-map ([] ∷ names) labelNumber)
 
 -- ---- Arguments and results
 
@@ -164,7 +162,7 @@ module _ (b : Book) (fits : Fits b) where
   named-held e (arrived h) = let z : _≡_ {A = ℕ} 0 1 = cc in absurd (omega arith)
   named-held e (onward {d = d} h m q l) = leads-keeps ds Held tree-count l (tree-count d m)
 
-  hashed-few : (t : Forest Node) → Distinct (methodHashes (b .names) (kidsOf t)) → breadth (methodsAt (aliasEnd ds t)) ≤ 4096
+  hashed-few : (t : Forest Node) → Distinct (hashesOf (b .names) (kidsOf t)) → breadth (methodsAt (aliasEnd ds t)) ≤ 4096
   unfolding methodsAt
   hashed-few t once = go (head t) refl
     where
@@ -176,7 +174,7 @@ module _ (b : Book) (fits : Fits b) where
   unfolding resolveActor resolveWith
   methods-few passed =
       ⊎-elim (λ none. rw none (end-methods (belowClass (mainActor b)) (λ u l. leads-keeps ds Held tree-count l below-held)))
-      (hashed-few (belowClass (resolveActor b))) (check-says b fits .0 passed .1 .hashes)
+      (hashed-few (belowClass (resolveActor b))) (actor-hashes b fits passed)
 
   methods-slim : (t : Forest Node) → Held t → Slim (methodsAt (aliasEnd ds t))
   unfolding methodsAt

@@ -33,10 +33,10 @@ use Rattle.judgement.specs.Actor.{isClassKind, isClass, lastTree, allButLast, c
 use Rattle.judgement.specs.Check.{member, check}
 use Rattle.judgement.specs.WellFormed.{definedName, Defined, Leads, arrived, onward, Bound, belowTop}
 use Rattle.judgement.proofs.Chains.{stops, run-end, end-leads}
-use Rattle.judgement.proofs.Heads.{head-refers}
+use Rattle.judgement.proofs.Heads.{head-refers, named-no-class}
 use Rattle.judgement.proofs.Lookup.{member-says}
 use Rattle.judgement.proofs.Books.{main-definitions-fit}
-use Rattle.judgement.proofs.Theorems.{check-says, check-numbers}
+use Rattle.judgement.proofs.Theorems.{check-says, actor-trees, check-numbers}
 use Rattle.listing.specs.Chase.{going, push, arm, chase, meetName, visit, chaseTypes}
 use Rattle.refusals.specs.Handed.{Use}
 use Rattle.listing.specs.Sites.{Site, classSites, funcSites, kindSites, endSites, methodSites, typeOf, sites}
@@ -49,7 +49,7 @@ use Rattle.listing.proofs.Chases.{Listed}
 use Rattle.listing.proofs.Chase.{bound-defined, walk-lists, bound-walk}
 use Rattle.listing.proofs.List.{main-bodies}
 use Rattle.listing.specs.Offers.{Interface, SiteOf, argumentsAndResults}
-use Rattle.listing.proofs.Interface.{named-no-class, passed-once, passed-functions, passed-interface, interface-methods}
+use Rattle.listing.proofs.Interface.{passed-once, passed-functions, passed-interface, interface-methods}
 use Rattle.listing.proofs.Room.{answered, actor-given, after-actor, fit-row, check-short, Most, fit-most, bytes-most, passed-actor, check-stops}
 use Rattle.listing.proofs.Sites.{sites-are, methods-listed, sites-say, sites-length}
 use Rattle.format.proofs.Admission.{asked-row, row-numbers}
@@ -350,7 +350,7 @@ passed-listed b fits passed =
     (λ f h.
     let walk = bound-walk ds once bodies f (h .0) bound (h .1) in
     (walk .0, walk .1, walk .2, walk-lists ds once bodies f (h .0) (walk .2)))
-    (resolveActor b) (top-inherit ds Leafy leafy (resolveActor b) (resolved-leafy b fits), w .actor .bound)
+    (resolveActor b) (top-inherit ds Leafy leafy (resolveActor b) (resolved-leafy b fits), actor-trees b fits passed .bound)
 
 pub passed-walks : (b : Book) → Fits b → check b ≡ Passed → EachSite (WalkLists (mainDefinitions b)) (sites (mainDefinitions b) (resolveActor b))
 passed-walks b fits passed s m = listed-lists (passed-listed b fits passed s m)
@@ -404,7 +404,7 @@ module _ (b : Book) (fits : Fits b) (passed : check b ≡ Passed) (some : resolv
   uses-undefined n h =
       let w = check-says b fits .0 passed .0 in
       let bodies : (d : Definition) → List·Memᴰ d (mainDefinitions b) → Bound (mainDefinitions b) (d .body) = λ d m. w .definitions .trees d m .bound in
-      let bound = sites-inherit (mainDefinitions b) (Bound (mainDefinitions b)) (bound-inherited (mainDefinitions b) bodies) (resolveActor b) (w .actor .bound) in
+      let bound = sites-inherit (mainDefinitions b) (Bound (mainDefinitions b)) (bound-inherited (mainDefinitions b) bodies) (resolveActor b) (actor-trees b fits passed .bound) in
       uses-answered n ∙ ap given (row-none (row n) (λ s m r. h (bound-defined bodies (bound s m) r)))
 
   pub uses-outside : (n : ℕ) → length (b .names) ≤ n → uses b n ≡ given []

@@ -4,23 +4,17 @@ use mathlib.Core.Path.{_≡_}
 use mathlib.Core.List.{List, [], _∷_, _++_}
 use Prim.Native.Nat.{ℕ, zero, suc, _+_, _<_}
 use Rattle.format.specs.Forest.{Forest, end, tree, beside, breadth, firstTree, afterTrees}
-use Rattle.format.specs.Node.{FuncT, ServT, ClassT, FuncMode, Node}
+use Rattle.format.specs.Node.{FuncT, ClassT, FuncMode, Node}
 use Rattle.format.specs.Book.{Definition}
 use Rattle.format.specs.Occurs.{Beside}
 use Rattle.judgement.specs.Environment.{aliasEnd, methodsAt}
 use Rattle.judgement.specs.WellFormed.{Leads}
+use Rattle.judgement.specs.Meaning.{Serves}
 use Rattle.listing.specs.Sites.{Site}
 
 -- ---- Actors
 
--- By aliases a type leads to a service with these methods.
-pub record Serves (ds : List Definition) (t methods : Forest Node) : Type 0 where
-  pub node : Node
-  pub next : Forest Node
-  pub leads : Leads ds t (tree node methods next)
-  pub service : node .kind ≡ ServT
-
--- By aliases it leads to a function: the first `arguments` of `kids` are its arguments, the others its results.
+-- By aliases a type leads to a function: the first `arguments` of `kids` are its arguments, the others its results.
 pub record Function (ds : List Definition) (t : Forest Node) (arguments : ℕ) (kids : Forest Node) : Type 0 where
   pub node : Node
   pub modes : List FuncMode

@@ -36,10 +36,10 @@ use Rattle.book.specs.Reading.{EntryWithin, Admitted}
 use Rattle.book.specs.Tables.{NamesIn, HashesAgree, HashesOf}
 use Rattle.book.proofs.Opened.{names-count, nodes-count, definitions-count, files-count}
 use Rattle.judgement.specs.Environment.{roleAt, keep, mainDefinitions, initDefinitions}
-use Rattle.judgement.specs.Actor.{firstActor, mainActor, initTree}
+use Rattle.judgement.specs.Actor.{firstActor, mainActor, initTree, NoInit}
 use Rattle.judgement.proofs.Lookup.{keep-first, keep-last}
 use Rattle.judgement.proofs.Books.{definition-fits}
-use Rattle.judgement.proofs.Theorems.{NoInit, no-init-definitions, no-init-tree}
+use Rattle.judgement.proofs.Theorems.{no-init-definitions, no-init-tree}
 use Rattle.environment.specs.Tables.{Nodes, Entries, definitionsIn}
 use Rattle.environment.specs.Trees.{AllTrees}
 use Rattle.syntax.specs.Files.{filesIn, FileRoots, FileTable, initAt, SplitAs}

@@ -38,9 +38,10 @@ use Rattle.syntax.specs.Classes.{TopAs}
 use Rattle.syntax.specs.Interfaces.{IsService, methodsIn, noServices, interfaceTree, ActorAs}
 use Rattle.syntax.specs.Resolving.{ServiceAs, MainAs, MainService, Gathered, ServicesAs, resolvedNone, MergedActorAs, ResolvedAs}
 use Rattle.refusals.proofs.Verdicts.{and-on, and-stops, and-assoc}
+use Rattle.judgement.proofs.Meaning.{merged-below}
 use Rattle.syntax.proofs.Lists.{take-none, take-push, push-each, no-long, left-cons, left-none}
 use Rattle.syntax.proofs.Book.{main-actor-is, file-table, files-in}
-use Rattle.syntax.proofs.interface.Laws.{merged-arguments, merged-below, merged-methods}
+use Rattle.syntax.proofs.interface.Laws.{merged-arguments, merged-methods}
 
 methods-append : (ns a b : List ℕ) → methodsIn ns (a ++ b) ≡ beside (methodsIn ns a) (methodsIn ns b)
 unfolding methodsIn beside

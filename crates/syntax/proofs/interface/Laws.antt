@@ -14,7 +14,8 @@ use Rattle.format.specs.Whole.{WholeAt, treeAt, actorAt}
 use Rattle.format.proofs.Stored.{tree-opens, actor-none, actor-some}
 use Rattle.judgement.specs.Environment.{headKind, head, ends, aliasEnd, asService, kidsOf, methodsAt}
 use Rattle.judgement.specs.Actor.{isClassKind, isClass, allButLast, classArguments, belowClass, serviceOf, classOf, mergedOf}
-use Rattle.judgement.proofs.Classes.{last-beside, others-beside}
+use Rattle.judgement.proofs.Classes.{others-beside}
+use Rattle.judgement.proofs.Meaning.{merged-below}
 use Rattle.environment.proofs.FuncEnds.{stays}
 use Rattle.syntax.specs.declared.interface.Interface.{Interface}
 use Rattle.syntax.specs.Interfaces.{interfaceTree, ActorAs, InterfaceAs}
@@ -29,18 +30,10 @@ module _ (main methods : Forest Node) where
       go true f = others-beside f (serviceOf methods) refl
       go false f = refl
 
-  pub merged-below : belowClass (mergedOf main methods) ≡ serviceOf methods
-  unfolding belowClass isClass isClassKind kidsOf breadth
-  merged-below = go (isClass main) (classArguments main)
-    where
-      go : (b : Bool) (f : Forest Node) → belowClass (cond b (classOf f (serviceOf methods)) (serviceOf methods)) ≡ serviceOf methods
-      go true f = last-beside f (serviceOf methods) refl
-      go false f = refl
-
   module _ (ds : List Definition) where
     service-stays : aliasEnd ds (belowClass (mergedOf main methods)) ≡ ends (serviceOf methods)
     unfolding head headKind
-    service-stays = rw merged-below (stays ds (serviceOf methods) refl)
+    service-stays = rw (merged-below main methods) (stays ds (serviceOf methods) refl)
 
     pub merged-methods : methods ≡ methodsAt (aliasEnd ds (belowClass (mergedOf main methods)))
     unfolding methodsAt kidsOf

@@ -28,11 +28,11 @@ use Rattle.book.specs.Reading.{EntryWithin, Admitted}
 use Rattle.refusals.specs.Verdict.{isPassed}
 use Rattle.judgement.specs.Environment.{keep, findType, isMissing, mainDefinitions, initDefinitions, mergeDefinitions, kidsOf}
 use Rattle.judgement.specs.Check.{decsVerdict, mergeVerdict, initVerdict, checkForest, eachName, circleVerdict}
-use Rattle.judgement.specs.Actor.{initTree}
+use Rattle.judgement.specs.Actor.{initTree, NoInit}
 use Rattle.judgement.proofs.Books.{init-definitions-fit}
 use Rattle.judgement.proofs.MergeChains.{merged-no-circle}
 use Rattle.judgement.proofs.Lookup.{keep-last}
-use Rattle.judgement.proofs.Theorems.{NoInit, no-init-tree, init-verdict}
+use Rattle.judgement.proofs.Theorems.{no-init-tree, init-verdict}
 use Rattle.book.specs.Tables.{blankTable, HashesAgree, HashesOf}
 use Rattle.environment.specs.Tables.{Entries, Roots, Binds, AliasEndsAs, foundAt, definitionsIn}
 use Rattle.environment.specs.Merging.{Mergeable, MergedAs}

@@ -31,7 +31,7 @@ use Rattle.analysis.specs.Entries.{Test, hit, HitsIn}
 use Rattle.analysis.proofs.reaching.Rows.{From, reachable-says, near-reachable}
 use Rattle.judgement.proofs.Walks.{is-service}
 use Rattle.environment.proofs.FuncEnds.{stays}
-use Rattle.listing.proofs.Interface.{named-no-class}
+use Rattle.judgement.proofs.Heads.{named-no-class}
 
 -- ---- An actor's own alias followed first: one that is a name stands for a service, which is no class
 module _ (ds : List Definition) where
