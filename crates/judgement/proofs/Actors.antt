@@ -5,7 +5,8 @@
 --     main-say, imported-say      10 and 13, and 3 on the way: the main actor and each import stand for a service
 --     actor-walk, walk-says       the walk of an actor or of init arguments
 --     actor-say                   an actor that is walked and has to be a service
---     merged-stands, merged-fit   the actor that main and its imports are resolved to is a service, and fits
+--     merged-stands, merged-fits  main with other methods is a service, and fits where these do
+--     together-fits               the methods of types that fit do
 use mathlib.Core.Path.{_≡_, refl, sym, ap, subst, _∙_}
 use mathlib.Core.Logic.{_↔_, _⊎_, inl, inr, ⊎-elim}
 use mathlib.Core.Bool.{Bool, true, false, cond, not}
@@ -31,20 +32,20 @@ use Rattle.refusals.specs.declared.Verdict.{Verdict}
 use Rattle.refusals.specs.declared.Verdict.the-variants.{Passed, Refused}
 use Rattle.refusals.specs.Verdict.{andThen, unless}
 use Rattle.refusals.proofs.Verdicts.{refused-passed, passed-refused}
-use Rattle.judgement.specs.Environment.{End, unbound, circle, ends, head, headKind, aliasEnd, isServKind, rootPasses, asService, kidsOf, methodsAt}
-use Rattle.judgement.specs.Actor.{isClassKind, isClass, lastTree, classArguments, belowClass, serviceOf, classOf, methodsOf, importedMethods, mergedActor}
+use Rattle.judgement.specs.Environment.{End, unbound, circle, ends, head, headKind, aliasEnd, isServKind, rootPasses, asService, kidsOf}
+use Rattle.judgement.specs.Actor.{isClassKind, isClass, lastTree, classArguments, belowClass, serviceOf, classOf, mergedOf}
 use Rattle.judgement.specs.Check.{checkForest, isCircle, importsVerdict, serviceVerdict, importedVerdict, hashesVerdict, mainVerdict, actorVerdict}
 use Rattle.judgement.specs.WellFormed.{definedName, arrived, RootIs, StandsFor, Bound, WellFormedTrees, belowTop}
 use Rattle.judgement.specs.Rust.{OneMode, hashOf, hashesOf}
-use Rattle.judgement.specs.Meaning.{MeetsUnbound, LeadsElsewhere}
+use Rattle.judgement.specs.Meaning.{MeetsUnbound, LeadsElsewhere, Together, none, more}
 use Rattle.judgement.specs.Order.{First, FirstRepeat, Sound, Fault, DefinitionsPass, Unserved, elsewhere}
 use Rattle.judgement.specs.Order as order
 use Rattle.judgement.proofs.Chains.{circle-never, unbound-meets, end-leads, leads-end, meets-end, leads-unique, no-circle, circle-says, root-says, service-says, bound-leads, leads-keeps}
-use Rattle.judgement.proofs.Walks.{walk-say, sound-formed}
+use Rattle.judgement.proofs.Walks.{service-is, walk-say, sound-formed}
 use Rattle.judgement.proofs.Says.{Says, says-unless, says-if, says-then, says-as}
 use Rattle.judgement.proofs.Each.{each, says-each, repeats, says-repeats}
-use Rattle.judgement.proofs.Fitting.{Fitting, fitting-class, methods-fit, arguments-fit, service-fits}
-use Rattle.judgement.proofs.Meaning.{foundMethods, MainStands, ImportsStand, some-tree, merged-below}
+use Rattle.judgement.proofs.Fitting.{Fitting, methods-fit, arguments-fit, service-fits}
+use Rattle.judgement.proofs.Meaning.{MainStands, ImportsStand, some-tree, merged-below}
 
 -- ---- 14: methods of the same hash
 hashes-repeats : (names : List (List ℕ)) (seen : List ℕ) (f : Forest Node) → hashesVerdict names seen f ≡ repeats (hashOf names) SameHash seen (methodNames f)
@@ -199,42 +200,25 @@ module _ (ds : List Definition) (pass : DefinitionsPass ds) where
   }
   actor-say names (tree n kids next) x = says-then (actor-walk ds once names (belowTop (tree n kids next)) x) (service-say n kids next)
 
--- ---- The resolved actor, with service imports
-module _ (ds : List Definition) (main : Forest Node) (imports : List File) where
-  abbrev allMethods : Forest Node
-  allMethods = foundMethods ds main imports
+-- ---- The actor of these methods: main's with them
+pub merged-stands : (ds : List Definition) (main methods : Forest Node) → StandsFor isServKind ds (belowClass (mergedOf main methods))
+unfolding head headKind isServKind
+merged-stands ds main methods = rw (merged-below main methods) (record { type = serviceOf methods; leads = arrived refl; root = tt })
 
-  merged-stands : StandsFor isServKind ds (belowClass (mergedActor ds main imports))
-  unfolding mergedActor head headKind isServKind
-  merged-stands = rw (merged-below main allMethods) (record { type = serviceOf allMethods; leads = arrived refl; root = tt })
-
-  merged-fits : (names : ℕ) → Fitting names main → T (forestFits names Method allMethods) → Fitting names (belowTop (mergedActor ds main imports))
-  unfolding mergedActor belowTop isClass isClassKind kidsOf
-  merged-fits names x t = record { place = Inner; fit = go (isClass main) }
+module _ (names : ℕ) where
+  pub merged-fits : (main methods : Forest Node) → Fitting names main → T (forestFits names Method methods) → Fitting names (belowTop (mergedOf main methods))
+  unfolding belowTop isClass isClassKind kidsOf
+  merged-fits main methods x t = record { place = Inner; fit = go (isClass main) }
     where
-      go : (c : Bool) → T (forestFits names Inner (belowTop (cond c (classOf (classArguments main) (serviceOf allMethods)) (serviceOf allMethods))))
-      go true = fits-join names Inner (classArguments main) (serviceOf allMethods) (arguments-fit names main x) (service-fits names allMethods t)
-      go false = service-fits names allMethods t
+      go : (c : Bool) → T (forestFits names Inner (belowTop (cond c (classOf (classArguments main) (serviceOf methods)) (serviceOf methods))))
+      go true = fits-join names Inner (classArguments main) (serviceOf methods) (arguments-fit names main x) (service-fits names methods t)
+      go false = service-fits names methods t
 
-module _ (names : ℕ) (ds : List Definition) (once : Distinct (map definedName ds)) (fits : (d : Definition) → List·Memᴰ d ds → Fitting names (d .body)) where
-  methods-of-fit : (t : Forest Node) → Fitting names t → StandsFor isServKind ds t → T (forestFits names Method (methodsOf ds t))
-  unfolding methodsOf methodsAt
-  methods-of-fit t x s = rw (leads-end ds once (s .leads)) (methods-fit names (s .type) (s .root) (leads-keeps ds (Fitting names) fits (s .leads) x))
-
-  no-methods : T (forestFits names Method (methodsOf ds (belowClass end)))
-  unfolding methodsOf methodsAt belowClass isClass kidsOf head forestFits
-  no-methods = rw (leads-end ds once (arrived {t = end} refl)) tt
-
-  main-fits : (main : Forest Node) → Fitting names main → MainStands ds main →
-      T (forestFits names Method (methodsOf ds (belowClass main)))
-  main-fits main x (inl e) = subst (λ (t : Forest Node). T (forestFits names Method (methodsOf ds (belowClass t)))) (sym e) no-methods
-  main-fits main x (inr s) = methods-of-fit (belowClass main) (fitting-class names main x) s
-
-  imported-fit : (fs : List File) → ((f : File) → List·Memᴰ f fs → Fitting names (f .actor)) → ImportsStand ds fs →
-      T (forestFits names Method (importedMethods ds fs))
-  unfolding importedMethods forestFits
-  imported-fit [] x s = tt
-  imported-fit (f ∷ fs) x s =
-      let m : List·Memᴰ f (f ∷ fs) = List·Memᴰ·head refl in
-      fits-join names Method (methodsOf ds (f .actor)) (importedMethods ds fs) (methods-of-fit (f .actor) (x f m) (s f m))
-      (imported-fit fs (λ g i. x g (List·Memᴰ·tail i)) (λ g i. s g (List·Memᴰ·tail i)))
+  pub together-fits : {ds : List Definition} → ((d : Definition) → List·Memᴰ d ds → Fitting names (d .body)) → {ts : List (Forest Node)} {methods : Forest Node} →
+      Together ds ts methods → ((t : Forest Node) → List·Memᴰ t ts → Fitting names t) → T (forestFits names Method methods)
+  unfolding forestFits kidsOf
+  together-fits bodies none h = tt
+  together-fits {ds} bodies (more {t = t} {methods = methods} {rest = rest} x r) h =
+      let service = tree (x .node) methods (x .next) in
+      let own = methods-fit names service (service-is (x .node .kind) (x .service)) (leads-keeps ds (Fitting names) bodies (x .leads) (h t (List·Memᴰ·head refl))) in
+      fits-join names Method methods rest own (together-fits bodies r (λ u m. h u (List·Memᴰ·tail m)))

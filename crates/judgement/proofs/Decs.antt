@@ -61,7 +61,7 @@ split : {A : Type 0} {a : A} {l : List A} → List·Memᴰ a l → (xs : List A)
 split {A} (List·Memᴰ·head {xs = xs} e) = ([], xs, ap (λ (b : A). b ∷ xs) (sym e))
 split {A} (List·Memᴰ·tail {x = x} m) = let p = split m in (x ∷ p .0, p .1, ap (λ (l : List A). x ∷ l) (p .2))
 
-stands-again : {A : Type 0} {a : A} {l xs : List A} (ys : List A) → l ≡ xs ++ (a ∷ ys) → List·Memᴰ a xs → Repeated a l
+pub stands-again : {A : Type 0} {a : A} {l xs : List A} (ys : List A) → l ≡ xs ++ (a ∷ ys) → List·Memᴰ a xs → Repeated a l
 stands-again {A} {a} ys e m =
     let p = split m in
     let q = ap (λ (l : List A). l ++ (a ∷ ys)) (p .2) ∙ append-assoc (p .0) (a ∷ p .1) (a ∷ ys) in
@@ -100,7 +100,7 @@ Methods ds = (d : Definition) → List·Memᴰ d ds → MethodsAreFunctions ds (
 abbrev SomeMethod : List Definition → Refusal → Type 0
 SomeMethod ds r = (r ≡ NoFunction) × ((n : ℕ) × InBodies ds (HasMethod ds n))
 
-has-no-methods : {ds : List Definition} {n : ℕ} → InBodies ds (HasMethod ds n) → Methods ds → ⊥
+pub has-no-methods : {ds : List Definition} {n : ℕ} → InBodies ds (HasMethod ds n) → Methods ds → ⊥
 has-no-methods x h = let y = x .2 in y .8 (h (x .0) (x .1) (y .0) (y .1) (y .4) (y .5) (y .2) (y .3) (y .6))
 
 module _ (names : ℕ) (ds : List Definition) (fits : FitDefinitions names ds) where

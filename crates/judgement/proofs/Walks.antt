@@ -79,7 +79,7 @@ not-class {κ} h e = false≢true (sym h ∙ ap isClassKind e)
 -- ---- Modes: at most one, and oneway goes without results
 
 -- Where `a` are the arguments of a function, and `kids` its arguments and results.
-abbrev ModesGood : ℕ → List FuncMode → ℕ → Type 0
+abbrev pub ModesGood : ℕ → List FuncMode → ℕ → Type 0
 ModesGood a ms kids = (length ms ≤ 1) × (List·Memᴰ Oneway ms → kids ≤ a)
 
 data ModesBad (a : ℕ) (ms : List FuncMode) (kids : ℕ) : Refusal → Type 0 where
@@ -127,10 +127,10 @@ modes-say a ms kids = record { passed = (modes-passed a ms kids, passed-modes a 
 -- ---- One node
 
 -- What the walk asks of a node of the kind κ with so many children, these left aside.
-record Asked (ds : List Definition) (κ : Kind) (kids : ℕ) : Type 0 where
-  bound : (n : ℕ) → κ ≡ VarT n → Defined ds n
-  noClass : κ ≡ ClassT → ⊥
-  modes : (a : ℕ) (ms : List FuncMode) → κ ≡ FuncT a ms → ModesGood a ms kids
+pub record Asked (ds : List Definition) (κ : Kind) (kids : ℕ) : Type 0 where
+  pub bound : (n : ℕ) → κ ≡ VarT n → Defined ds n
+  pub noClass : κ ≡ ClassT → ⊥
+  pub modes : (a : ℕ) (ms : List FuncMode) → κ ≡ FuncT a ms → ModesGood a ms kids
 
 -- Why it refuses one, where `below` is the verdict on its children.
 data Unasked (ds : List Definition) (κ : Kind) (kids : ℕ) (below : Verdict) : Refusal → Type 0 where
@@ -248,17 +248,17 @@ abbrev pub IsFunction : List Definition → Node → Forest Node → Type 0
 IsFunction ds n kids = StandsFor isFuncKind ds (tree n kids end)
 
 -- The children of a service are functions where methods are tested.
-abbrev Served : List Definition → Bool → Node → Forest Node → Type 0
+abbrev pub Served : List Definition → Bool → Node → Forest Node → Type 0
 Served ds tests n kids = T (tests && isServKind (n .kind)) → EachTree (IsFunction ds) kids
 
-abbrev SoundNode : List Definition → Bool → Node → Forest Node → Type 0
+abbrev pub SoundNode : List Definition → Bool → Node → Forest Node → Type 0
 SoundNode ds tests n kids = Asked ds (n .kind) (breadth kids) × Served ds tests n kids
 
-tested-service : (tests : Bool) (κ : Kind) → T (tests && isServKind κ) ↔ (T tests × (κ ≡ ServT))
+pub tested-service : (tests : Bool) (κ : Kind) → T (tests && isServKind κ) ↔ (T tests × (κ ≡ ServT))
 tested-service true κ = (λ t. (tt, is-service κ t), λ p. service-is κ (p .1))
 tested-service false κ = (λ (z : ⊥). absurd z, λ p. p .0)
 
-sound-nodes : (ds : List Definition) (tests : Bool) (f : Forest Node) → Everywhere (SoundNode ds tests) f ↔ Sound ds tests f
+pub sound-nodes : (ds : List Definition) (tests : Bool) (f : Forest Node) → Everywhere (SoundNode ds tests) f ↔ Sound ds tests f
 sound-nodes ds tests f = (
   λ h. record {
     bound = λ k m. let s = reference-occurs f m in h (s .0) (s .1) (s .2) .0 .bound k (s .3);

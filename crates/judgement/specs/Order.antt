@@ -17,8 +17,8 @@ use Rattle.refusals.specs.declared.Refusal.{Refusal}
 use Rattle.refusals.specs.declared.Refusal.the-variants.{Twice, Unbound, Class, Modes, Oneway as OnewayResults, Circle, NoFunction, MethodNoFunction, NoService, Differs, ImportWithoutActor, ImportNoService, SameHash}
 use Rattle.judgement.specs.Environment.{mainDefinitions, initDefinitions, mergeDefinitions, isFuncKind, isServKind, kidsOf}
 use Rattle.judgement.specs.Actor.{serviceImports, mainActor, initTree, belowClass}
-use Rattle.judgement.specs.WellFormed.{definedName, Defined, StandsFor, Bound, NoClass, OnewayWithoutResults, MethodsAreFunctions, WellFormedDefinitions, belowTop}
-use Rattle.judgement.specs.Rust.{OneMode, OneModeDefinitions, hashOf, Hashed}
+use Rattle.judgement.specs.WellFormed.{definedName, Defined, StandsFor, Bound, NoClass, OnewayWithoutResults, MethodsAreFunctions, WellFormedDefinitions, belowTop, Typed}
+use Rattle.judgement.specs.Rust.{OneMode, OneModeDefinitions, hashOf, Hashed, Rust}
 use Rattle.judgement.specs.Rows.{HasMethod, InBodies, CircleFrom, Disagree}
 use Rattle.judgement.specs.Meaning.{MeetsUnbound, LeadsElsewhere, Together, services, ActorOf}
 
@@ -126,3 +126,7 @@ pub data InitRefuses (b : Book) : Refusal → Type 0 where
   differs : {n : ℕ} → DefinitionsPass (initDefinitions b) → Disagree b n → ((m : ℕ) → m < n → Disagree b m → ⊥) → InitRefuses b (Differs n)
   arguments : {r : Refusal} → DefinitionsPass (initDefinitions b) → ((m : ℕ) → Disagree b m → ⊥) →
       Fault (mergeDefinitions (initDefinitions b) (mainDefinitions b)) true false (kidsOf (initTree (b .files))) r → InitRefuses b r
+
+-- What the init check refuses: what the check does, or the init file of a book that passes it.
+abbrev pub InitCheckRefuses : Book → Refusal → Type 0
+InitCheckRefuses b r = CheckRefuses b r ⊎ ((Typed b × Rust b) × InitRefuses b r)
