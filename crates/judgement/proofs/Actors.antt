@@ -7,7 +7,7 @@
 --     actor-say                   an actor that is walked and has to be a service
 --     merged-stands, merged-fits  main with other methods is a service, and fits where these do
 --     together-fits               the methods of types that fit do
-use mathlib.Core.Path.{_≡_, refl, sym, ap, subst, _∙_}
+use mathlib.Core.Path.{_≡_, refl, sym, subst}
 use mathlib.Core.Logic.{_↔_, _⊎_, inl, inr, ⊎-elim}
 use mathlib.Core.Bool.{Bool, true, false, cond, not}
 use mathlib.Core.List.{List, [], _∷_, map, List·Memᴰ, List·Memᴰ·head, List·Memᴰ·tail, Memᴰ·append-right}
@@ -15,7 +15,7 @@ use Prim.Native.Nat.{ℕ}
 use native.Mathlib.Omega.{arith}
 use lib.Dec.{T}
 use Rattle.format.specs.declared.Place.the-variants.{Method, Inner}
-use Rattle.format.specs.Forest.{Forest, end, tree, beside, breadth}
+use Rattle.format.specs.Forest.{Forest, end, tree}
 use Rattle.format.specs.Node.{Node, labelValue}
 use Rattle.format.specs.Book.{Definition, File}
 use Rattle.format.specs.Fits.{forestFits}
@@ -30,7 +30,7 @@ use Rattle.refusals.specs.declared.Refusal.{Refusal}
 use Rattle.refusals.specs.declared.Refusal.the-variants.{Unbound, NoService, ImportWithoutActor, ImportNoService, SameHash}
 use Rattle.refusals.specs.declared.Verdict.{Verdict}
 use Rattle.refusals.specs.declared.Verdict.the-variants.{Passed, Refused}
-use Rattle.refusals.specs.Verdict.{andThen, unless}
+use Rattle.refusals.specs.Verdict.{unless}
 use Rattle.refusals.proofs.Verdicts.{refused-passed, passed-refused}
 use Rattle.judgement.specs.Environment.{End, unbound, circle, ends, head, headKind, aliasEnd, isServKind, rootPasses, asService, kidsOf}
 use Rattle.judgement.specs.Actor.{isClassKind, isClass, lastTree, classArguments, belowClass, serviceOf, classOf, mergedOf}

@@ -42,12 +42,6 @@ circle-is (unbound n) c = absurd c
 circle-is circle c = refl
 circle-is (ends t) c = absurd c
 
-pub is-circle : (e : End) → (T (not (isCircle e)) → ⊥) → e ≡ circle
-unfolding isCircle
-is-circle (unbound n) h = absurd (h tt)
-is-circle circle h = refl
-is-circle (ends t) h = absurd (h tt)
-
 module _ (ds : List Definition) where
   -- ---- A chain that ends
 

@@ -2,10 +2,10 @@
 -- fits do.
 --     FitDefinitions              each definition has a name that exists and one tree that fits
 --     once-says, once-refused     2: a name that is defined twice
---     decs-say, decs-says         all of it
+--     decs-say                    all of it
 use mathlib.Core.Path.{_≡_, refl, sym, ap, subst, _∙_}
-use mathlib.Core.Logic.{_↔_, _⊎_, inl, inr, ⊎-elim}
-use mathlib.Core.Bool.{Bool, true, false, _&&_, not}
+use mathlib.Core.Logic.{_↔_, _⊎_, inl, inr}
+use mathlib.Core.Bool.{true, false}
 use mathlib.Core.List.{List, [], _∷_, _++_, map, map-append, append-assoc, List·Memᴰ, List·Memᴰ·head, List·Memᴰ·tail, List·Memᴰ·not-nil, Memᴰ·append-right}
 use Prim.Native.Nat.{ℕ, _<_}
 use lib.Dec.{T}
@@ -18,18 +18,16 @@ use Rattle.format.specs.Distinct.{Distinct}
 use Rattle.format.proofs.Logic.{both, join, is-false}
 use Rattle.refusals.specs.declared.Refusal.{Refusal}
 use Rattle.refusals.specs.declared.Refusal.the-variants.{Twice, Circle, NoFunction}
-use Rattle.refusals.specs.declared.Verdict.{Verdict}
 use Rattle.refusals.specs.declared.Verdict.the-variants.{Passed, Refused}
-use Rattle.refusals.specs.Verdict.{andThen, unless}
+use Rattle.refusals.specs.Verdict.{unless}
 use Rattle.refusals.proofs.Verdicts.{passed-refused, not-says}
 use Rattle.judgement.specs.Environment.{Found, missing, body, findType, aliasEnd}
 use Rattle.judgement.specs.Check.{checkForest, onceVerdict, bodiesVerdict, eachName, isCircle, circleVerdict, methodsFit, bodiesFit, decsVerdict}
-use Rattle.judgement.specs.WellFormed.{definedName, MethodsAreFunctions, WellFormedDefinitions}
-use Rattle.judgement.specs.Rust.{OneModeDefinitions}
+use Rattle.judgement.specs.WellFormed.{definedName, MethodsAreFunctions}
 use Rattle.judgement.specs.Rows.{Repeated, NeverEnds, HasMethod, InBodies, CircleFrom}
 use Rattle.judgement.specs.Order.{First, FirstRepeat, Sound, Fault, SoundBodies, DefinitionsRefuse, DefinitionsPass, twice, body as inBody, circle, noFunction}
-use Rattle.judgement.proofs.Lookup.{found-cases, find-body, find-listed, find-named, find-missing, listed-defined}
-use Rattle.judgement.proofs.Chains.{circle-says, leads-no-circle, never-circle, bound-stands}
+use Rattle.judgement.proofs.Lookup.{find-body, find-named, find-missing, listed-defined}
+use Rattle.judgement.proofs.Chains.{circle-says, leads-no-circle, bound-stands}
 use Rattle.judgement.proofs.Walks.{one-fails, walk-say, sound-formed, sound-methods, methods-fit, methods-unfit}
 use Rattle.judgement.proofs.Says.{Says, says-unless, says-if, says-then, says-as}
 use Rattle.judgement.proofs.Each.{each, says-each, all-cons, says-names, repeats, says-repeats}
@@ -219,6 +217,3 @@ module _ (names : ℕ) (ds : List Definition) (fits : FitDefinitions names ds) w
   unfolding decsVerdict
   decs-say =
       says-as (says-then (once-say ds) (λ once. says-then (bodies-say once) (λ s. says-then (circles-say once) (λ c. methods-say once)))) pass-formed refuses-order
-
-pub decs-says : (names : ℕ) (ds : List Definition) → FitDefinitions names ds → (decsVerdict names ds ≡ Passed) ↔ (WellFormedDefinitions ds × OneModeDefinitions ds)
-decs-says names ds fits = decs-say names ds fits .passed

@@ -2,24 +2,21 @@
 -- and that its definitions pass.
 --     Resolved        what both pass, of the resolved actor
 --     resolved-say    both in order: what passes, and the first refusal
-use mathlib.Core.Path.{_≡_, refl, sym, subst, _∙_}
+use mathlib.Core.Path.{_≡_, refl, sym, subst}
 use mathlib.Core.Logic.{_↔_, _⊎_, inl, inr, ⊎-elim, ⊎-map}
 use mathlib.Core.Bool.{true, false}
 use mathlib.Core.List.{List, [], _∷_, map, List·Memᴰ, List·Memᴰ·not-nil}
 use Prim.Native.Nat.{ℕ}
-use lib.Dec.{T}
 use lib.ListN.{length}
-use Rattle.format.specs.declared.Place.the-variants.{Root, Method}
+use Rattle.format.specs.declared.Place.the-variants.{Root}
 use Rattle.format.specs.Forest.{Forest, end}
 use Rattle.format.specs.Node.{Node}
 use Rattle.format.specs.Book.{Definition, File, Book}
-use Rattle.format.specs.Fits.{forestFits, Fits}
+use Rattle.format.specs.Fits.{Fits}
 use Rattle.format.specs.Distinct.{Distinct}
 use Rattle.format.specs.Labels.{methodNames}
-use Rattle.format.proofs.Trees.{fits-join}
 use Rattle.refusals.specs.declared.Refusal.{Refusal}
 use Rattle.refusals.specs.declared.Refusal.the-variants.{NoService, ImportNoService, SameHash}
-use Rattle.refusals.specs.declared.Verdict.{Verdict}
 use Rattle.refusals.specs.declared.Verdict.the-variants.{Passed}
 use Rattle.refusals.specs.Verdict.{andThen}
 use Rattle.refusals.proofs.Verdicts.{passed-refused}

@@ -5,14 +5,14 @@
 --     check-numbers, init-numbers      the rows that there are
 --     check-bytes-row, ..              all of this on bytes, which are broken or a book
 use mathlib.Core.Path.{_≡_, refl, sym, ap, subst, _∙_}
-use mathlib.Core.Logic.{_↔_, _⊎_, inl, inr, ⊎-elim, ⊎-map}
-use mathlib.Core.Bool.{Bool, true, false, _&&_}
+use mathlib.Core.Logic.{_⊎_, inl, inr, ⊎-elim, ⊎-map}
+use mathlib.Core.Bool.{Bool, true, false}
 use mathlib.Core.List.{List, [], _∷_, _++_, map, map-append, List·Memᴰ, List·Memᴰ·head, List·Memᴰ·tail, Memᴰ·append-right, Memᴰ·map}
 use Prim.Native.Nat.{ℕ}
 use native.Mathlib.Omega.{arith}
 use lib.Dec.{T}
 use Rattle.format.specs.Forest.{Forest, end, tree}
-use Rattle.format.specs.Node.{ServT, FuncT, Oneway, Node, labelValue}
+use Rattle.format.specs.Node.{Oneway, Node, labelValue}
 use Rattle.format.specs.Book.{Definition, File, Book}
 use Rattle.format.specs.Fits.{Fits}
 use Rattle.format.specs.Occurs.{Occurs, here, below, after, Beside, first, later}
@@ -26,24 +26,24 @@ use Rattle.refusals.specs.declared.Refusal.{Refusal}
 use Rattle.refusals.specs.declared.Refusal.the-variants.{NoService, ImportWithoutActor, ImportNoService, MethodNoFunction}
 use Rattle.refusals.specs.declared.Verdict.the-variants.{Passed, Refused}
 use Rattle.refusals.specs.Refusal.{numberOf}
-use Rattle.judgement.specs.Environment.{mainDefinitions, initDefinitions, mergeDefinitions, isFuncKind, isServKind, kidsOf}
-use Rattle.judgement.specs.Actor.{serviceImports, mainActor, initTree, belowClass, resolveActor}
+use Rattle.judgement.specs.Environment.{mainDefinitions, isFuncKind, isServKind}
+use Rattle.judgement.specs.Actor.{serviceImports, mainActor, belowClass, resolveActor}
 use Rattle.judgement.specs.Check.{member, check, initCheck, checkBytes, initCheckBytes}
 use Rattle.judgement.specs.WellFormed.{definedName, StandsFor, belowTop}
 use Rattle.judgement.specs.Rust.{hashOf, hashesOf}
 use Rattle.judgement.specs.Meaning.{mainService, actorOf, services}
-use Rattle.judgement.specs.Order.{First, FirstRepeat, Sound, Fault, DefinitionsRefuse, DefinitionsPass, Unserved, Imported, ResolvingRefuses, ActorRefuses, ImportsHaveActors, CheckRefuses, InitRefuses}
+use Rattle.judgement.specs.Order.{First, Sound, Fault, DefinitionsRefuse, DefinitionsPass, Unserved, ImportsHaveActors, CheckRefuses, InitRefuses}
 use Rattle.judgement.specs.Order as order
 use Rattle.judgement.specs.Rows.{Repeated, HasMethod, WalkRow, DefinitionsRow, TreesRow, HashRepeated, ActorRow, CheckRow, checkRows, Disagree, MergeRow, InitRow}
 use Rattle.judgement.specs.Rows as rows
 use Rattle.judgement.proofs.Lookup.{member-says}
 use Rattle.judgement.proofs.Chains.{no-circle}
-use Rattle.judgement.proofs.Walks.{is-service, tested-service, sound-formed}
+use Rattle.judgement.proofs.Walks.{tested-service, sound-formed}
 use Rattle.judgement.proofs.Decs.{stands-again, first-repeated, has-no-methods}
 use Rattle.judgement.proofs.Meaning.{all-services, none-stands, resolved-methods, actor-unique}
 use Rattle.judgement.proofs.Actors.{stands-elsewhere, stands-meets}
 use Rattle.judgement.proofs.Resolve.{Resolved}
-use Rattle.judgement.proofs.Steps.{Steps, check-say, InitSteps, init-check-say}
+use Rattle.judgement.proofs.Steps.{check-say, init-check-say}
 use Rattle.judgement.proofs.Order.{check-refuses, init-refuses}
 
 -- ---- Faults of trees

@@ -3,8 +3,8 @@
 --     says-unless, says-if  of a test that has to hold, and of one that has to fail
 --     says-then             of two in order: what the second says may rest on what the first passes
 --     says-as               the same in other words
-use mathlib.Core.Path.{_≡_, refl, sym, _∙_}
-use mathlib.Core.Logic.{_↔_, _⊎_, inl, inr, ⊎-elim, ⊎-map}
+use mathlib.Core.Path.{_≡_}
+use mathlib.Core.Logic.{_↔_, _⊎_, ⊎-elim, ⊎-map}
 use mathlib.Core.Bool.{Bool, true, false, not}
 use lib.Dec.{T}
 use Rattle.refusals.specs.declared.Refusal.{Refusal}

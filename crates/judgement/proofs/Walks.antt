@@ -1,11 +1,11 @@
 -- The walk over trees and the test of their methods, against the predicates of WellFormed.antt and Order.antt. Assumes that each name is
 -- defined once. The walk does not look below a leaf; so the trees have to fit: then a leaf has no children.
---     walk-say            the walk of a definition's body, of an actor or of init arguments passes sound trees, and refuses the first fault
---     sound-formed         sound trees whose methods are tested are well-formed, and have one mode
+--     walk-say                      the walk of a definition's body, of an actor or of init arguments: sound trees pass, else the first fault
+--     sound-nodes, sound-formed     sound trees node by node; where methods are tested they are well-formed, and have one mode
 --     methods-fit, methods-unfit    the test of methods alone passes, and does not
---     is-service, ..       the kind that the test tells
+--     is-service, ..                the kind that a test tells
 use mathlib.Core.Path.{_≡_, refl, sym, ap, subst, _∙_}
-use mathlib.Core.Logic.{_⊎_, inl, inr, ⊎-elim, _↔_}
+use mathlib.Core.Logic.{_⊎_, inl, inr, _↔_}
 use mathlib.Core.Bool.{Bool, true, false, _&&_, _||_, not, false≢true}
 use mathlib.Core.List.{List, [], _∷_, map, List·Memᴰ, List·Memᴰ·head, List·Memᴰ·not-nil, List·Memᴰ·eq-of-singleton}
 use Prim.Native.Nat.{ℕ, _≤_, _<_}
@@ -19,14 +19,14 @@ use Rattle.format.specs.Node.{Kind, PrimT, VarT, OptT, VecT, RecordT, VariantT,
 use Rattle.format.specs.Book.{Definition}
 use Rattle.format.specs.Fits.{placeBelow, kindFits, kindAllowed, labelFits, nodeFits, forestFits}
 use Rattle.format.specs.Distinct.{Distinct}
-use Rattle.format.specs.Occurs.{Occurs, here, Beside, first, later}
+use Rattle.format.specs.Occurs.{here, Beside, first, later}
 use Rattle.format.proofs.Logic.{both, both₃, join₃}
 use Rattle.format.proofs.Occurs.{Everywhere, Somewhere, EachTree, occurs-end, beside-none, everywhere-tree, in-kids, in-next, each-tree, in-others, somewhere-below, somewhere-after, reference-occurs, occurs-reference}
 use Rattle.refusals.specs.declared.Refusal.{Refusal}
 use Rattle.refusals.specs.declared.Refusal.the-variants.{Unbound, Class, Modes, Oneway as OnewayResults, MethodNoFunction}
 use Rattle.refusals.specs.declared.Verdict.{Verdict}
 use Rattle.refusals.specs.declared.Verdict.the-variants.{Passed, Refused}
-use Rattle.refusals.proofs.Verdicts.{refused-passed, passed-refused, both-pass, pass-both, which-refused, unless-passed, passed-unless, unless-refused, fails-not}
+use Rattle.refusals.proofs.Verdicts.{refused-passed, passed-refused, both-pass, pass-both, which-refused, unless-passed, unless-refused, fails-not}
 use Rattle.judgement.specs.Environment.{Found, missing, body, findType, isFuncKind, isServKind, asFunc}
 use Rattle.judgement.specs.Actor.{isClassKind}
 use Rattle.judgement.specs.Check.{nameVerdict, isOneway, modesVerdict, kindVerdict, methodVerdict, checkForest, methodsFit}
@@ -120,9 +120,6 @@ refused-modes a [] kids (many l) = let z : ⊥ = omega arith in absurd z
 refused-modes a (m ∷ []) kids (many l) = let z : ⊥ = omega arith in absurd z
 refused-modes a (m ∷ (l ∷ ms)) kids (many g) = refl
 refused-modes a ms kids (results e l) = rw (e, lt-ltb a kids l)
-
-modes-say : (a : ℕ) (ms : List FuncMode) (kids : ℕ) → Says (modesVerdict a ms kids) (ModesGood a ms kids) (ModesBad a ms kids)
-modes-say a ms kids = record { passed = (modes-passed a ms kids, passed-modes a ms kids); refused = λ r. (modes-refused a ms kids, refused-modes a ms kids) }
 
 -- ---- One node
 
@@ -398,8 +395,8 @@ module _ (ds : List Definition) (once : Distinct (map definedName ds)) where
       (good-tree (not pre) method n kids next below under)
       (λ r. (refuses-fault (not pre) method n kids next below under r, fault-refuses (not pre) method n kids next below under r))
 
--- ---- Methods alone
-module _ (ds : List Definition) (once : Distinct (map definedName ds)) where
+  -- ---- Methods alone
+
   -- The methods of each service in the trees are functions, and so are the trees themselves if they are methods.
   abbrev Fit : Bool → Forest Node → Type 0
   Fit tested f = Everywhere (Served ds true) f × (T tested → EachTree (IsFunction ds) f)
@@ -414,7 +411,7 @@ module _ (ds : List Definition) (once : Distinct (map definedName ds)) where
   fit-says tested (tree n kids next) =
       let own = not tested || asFunc ds (tree n kids end) in
       let serv = isServKind (n .kind) in
-      let o = own-says ds once tested n kids in
+      let o = own-says tested n kids in
       let w = fit-says serv kids in
       let x = fit-says tested next in (
         λ t. let g = both₃ own (methodsFit ds serv kids) (methodsFit ds tested next) t in
@@ -435,7 +432,7 @@ module _ (ds : List Definition) (once : Distinct (map definedName ds)) where
       let serv = isServKind (n .kind) in
       elim (one-fails (own && methodsFit ds serv kids) (methodsFit ds tested next) h) [
         | inl g ↦ elim (one-fails own (methodsFit ds serv kids) g) [
-          | inl k ↦ let t = if-fails tested (λ (i : T tested → IsFunction ds n kids). k (own-says ds once tested n kids .1 i)) in inr (t .0, (n, kids, first, t .1))
+          | inl k ↦ let t = if-fails tested (λ (i : T tested → IsFunction ds n kids). k (own-says tested n kids .1 i)) in inr (t .0, (n, kids, first, t .1))
           | inr k ↦ elim (unfit-methods serv kids k) [ inl s ↦ inl (somewhere-below s) | inr u ↦ inl (n, kids, here, u) ]
         ]
         | inr g ↦ elim (unfit-methods tested next g) [
