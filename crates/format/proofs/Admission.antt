@@ -1,7 +1,7 @@
 -- Laws of admission. Whatever it comes to refuse, callers use these. Assumes nothing.
 --     admitted-laid, admitted-fits     what is admitted is laid out, and fits
---     not-admitted                     a refusal lies in its row
---     judged-says, judged-row          what is said of a check of every book, on bytes
+--     not-admitted, admission-refuses  a refusal lies in its row, and a row is refused
+--     judged-says, judged-refuses, ..  what is said of a check of every book, on bytes
 --     asked-is                         a question on bytes is that on the book
 --     asked-row, row-numbers           what a question on bytes refuses, in so many places, and the numbers of the rows that there are
 use mathlib.Core.Path.{_≡_, refl, ap, _∙_}
@@ -41,6 +41,10 @@ module _ (bs : List ℕ) where
       go broken w e = (cc, w)
       go (whole b) w e = let z : _≡_ {A = ℕ} 0 1 = cc in absurd (omega arith)
 
+  pub admission-refuses : {r : Refusal} → AdmissionRow bs r → admitted bs ≡ refused r
+  unfolding admitted admittedBy
+  admission-refuses x = rw (x .1, x .0)
+
   -- ---- A check
   module _ (f : Book → Verdict) (P : Book → Type 0) where
     pub judged-says : ((b : Book) → Fits b → (f b ≡ Passed) ↔ P b) → (judged f (admitted bs) ≡ Passed) ↔ BookIn bs P
@@ -51,14 +55,27 @@ module _ (bs : List ℕ) where
         go (refused r) w e = refused-passed e
         go (given b) w e = record { book = b; laidOut = w; holds = says b (admitted-fits w) .0 e }
 
-  pub judged-row : (f : Book → Verdict) (Row : Book → Refusal → Type 0) {r : Refusal} → ((b : Book) → f b ≡ Refused r → Row b r) →
-      judged f (admitted bs) ≡ Refused r → InRow bs Row r
-  unfolding judged
-  judged-row f Row {r} row = go (admitted bs) refl
-    where
-      go : (o : Outcome Book) → admitted bs ≡ o → judged f o ≡ Refused r → InRow bs Row r
-      go (refused q) w e = inl (not-admitted (w ∙ ap refused cc))
-      go (given b) w e = inr record { book = b; laidOut = w; holds = row b e }
+  module _ (f : Book → Verdict) (Row : Book → Refusal → Type 0) {r : Refusal} where
+    pub judged-row : ((b : Book) → Fits b → f b ≡ Refused r → Row b r) → judged f (admitted bs) ≡ Refused r → InRow bs Row r
+    unfolding judged
+    judged-row row = go (admitted bs) refl
+      where
+        go : (o : Outcome Book) → admitted bs ≡ o → judged f o ≡ Refused r → InRow bs Row r
+        go (refused q) w e = inl (not-admitted (w ∙ ap refused cc))
+        go (given b) w e = inr record { book = b; laidOut = w; holds = row b (admitted-fits w) e }
+
+    -- what lies in a row does not pass
+    pub row-judged : ((b : Book) → Fits b → Row b r → f b ≡ Passed → ⊥) → InRow bs Row r → judged f (admitted bs) ≡ Passed → ⊥
+    unfolding judged
+    row-judged row (inl x) e = refused-passed (rw (admission-refuses x) at e)
+    row-judged row (inr x) e = row (x .book) (admitted-fits (x .laidOut)) (x .holds) (rw (x .laidOut) at e)
+
+    pub judged-refuses : ((b : Book) → Fits b → (f b ≡ Refused r) ↔ Row b r) → (judged f (admitted bs) ≡ Refused r) ↔ InRow bs Row r
+    unfolding judged
+    judged-refuses says = (
+      judged-row (λ b fits. says b fits .0),
+      ⊎-elim (λ x. rw (admission-refuses x)) (λ x. rw (x .laidOut) (says (x .book) (admitted-fits (x .laidOut)) .1 (x .holds))),
+    )
 
   -- ---- A question
   pub asked-is : {A : Type 0} (question : Book → Outcome A) {b : Book} → admitted bs ≡ given b → onBytes question bs ≡ question b

@@ -4,7 +4,8 @@
 --     run-distinct, run-short      it crosses no name twice, so at most as many as there are definitions
 --     outcome                      what fuel gives, and how many names are crossed
 --     Means, alias-end             what each end says of the type, for every type
---     leads-end                    where each name is defined once: the end from what is said of the type
+--     leads-end, meets-end, ..     where each name is defined once: the end from what is said of the type
+--     circle-says, no-circle       a chain that never ends; where those of all definitions end there is none
 --     root-says, func-says, ..     a test at the end
 --     bound-stands                 where all names are bound, a chain that runs in no circle ends at a type
 use mathlib.Core.Path.{_≡_, refl, sym, ap, subst, _∙_}
@@ -22,10 +23,12 @@ use Rattle.judgement.specs.Environment.{missing, body, findType, Head, n
 use Rattle.judgement.specs.Check.{isCircle}
 use Rattle.format.specs.Distinct.{Distinct, none, more}
 use Rattle.judgement.specs.WellFormed.{definedName, Defined, Leads, arrived, onward, RootIs, StandsFor, Bound}
-use Rattle.judgement.specs.Rows.{GoesOn, NeverEnds, MeetsUnbound}
+use Rattle.judgement.specs.Rows.{GoesOn, NeverEnds}
+use Rattle.judgement.specs.Meaning.{ComesTo, MeetsUnbound}
+use Rattle.judgement.specs.Meaning as meaning
 use Rattle.format.proofs.Distinct.{pigeonhole}
-use Rattle.judgement.proofs.Lookup.{found-cases, find-body, found-defined, find-missing, find-named}
-use Rattle.judgement.proofs.Heads.{head-refers}
+use Rattle.judgement.proofs.Lookup.{found-cases, find-body, found-defined, find-missing, missing-find, find-named, listed-defined}
+use Rattle.judgement.proofs.Heads.{head-refers, other-named}
 
 -- What an end of the chain says of the type it started from.
 abbrev pub Means : List Definition → Forest Node → End → Type 0
@@ -33,11 +36,11 @@ Means ds t (unbound n) = MeetsUnbound ds n t
 Means ds t circle = NeverEnds ds t
 Means ds t (ends u) = Leads ds t u
 
-pub is-circle : (e : End) → (T (not (isCircle e)) → ⊥) → e ≡ circle
+circle-is : (e : End) → T (isCircle e) → e ≡ circle
 unfolding isCircle
-is-circle (unbound n) h = absurd (h tt)
-is-circle circle h = refl
-is-circle (ends t) h = absurd (h tt)
+circle-is (unbound n) c = absurd c
+circle-is circle c = refl
+circle-is (ends t) c = absurd c
 
 module _ (ds : List Definition) where
   -- ---- A chain that ends
@@ -127,14 +130,14 @@ module _ (ds : List Definition) where
   goes-less t (suc k) g = (g .0, g .1, g .2, g .3, g .4, goes-less (g .1 .body) k (g .5))
 
   means-on : {t u : Forest Node} {n : ℕ} → Step t n u → (e : End) → Means ds u e → Means ds t e
-  means-on s (unbound m) (inl b) = inl b
-  means-on {u = u} {n = n} s (unbound m) (inr b) = let x = find-body ds n u (s .is-type) in inl (x .definition, x .listed, rw (x .of-body) b)
+  means-on {u = u} {n = n} s (unbound m) b =
+      let x = find-body ds n u (s .is-type) in (meaning.onward {n = m} (s .is-name) (x .listed) (x .of-name) (rw (x .of-body) (b .0)), b .1)
   means-on {t} s circle g = λ k. goes-less t k (goes-on s k (g k))
   means-on {u = u} {n = n} s (ends v) l = let x = find-body ds n u (s .is-type) in onward {u = v} (s .is-name) (x .listed) (x .of-name) (rw (x .of-body) l)
 
   pub run-means : {t : Forest Node} {ns : List ℕ} {e : End} → Run t ns e → Means ds t e
   run-means (stops h) = arrived h
-  run-means {t = t} (loses {n = n} b) = inr (head-refers t (b .is-name), find-missing ds n (b .no-type))
+  run-means (loses {n = n} b) = (meaning.here (b .is-name), find-missing ds n (b .no-type))
   run-means (crosses {e = e} s r) = means-on s e (run-means r)
 
   -- ---- Fuel for k names: no more are crossed, and the chain ends or goes on for one more
@@ -215,6 +218,42 @@ module _ (ds : List Definition) where
     pub leads-end : {t u : Forest Node} → Leads ds t u → aliasEnd ds t ≡ ends u
     leads-end l = run-end (leads-run l .1)
 
+    meets-run : {t : Forest Node} {n : ℕ} → ComesTo ds t n → (Defined ds n → ⊥) → (ns : List ℕ) × Run t ns (unbound n)
+    meets-run {n = n} (meaning.here h) u = ([], loses (record { is-name = h; no-type = missing-find ds n u }))
+    meets-run (meaning.onward {m = m} {d = d} h i e c) u =
+        let p = meets-run c u in (m ∷ p .0, crosses {u = d .body} (record { is-name = h; is-type = find-named ds once d m i e }) (p .1))
+
+    pub meets-end : {t : Forest Node} {n : ℕ} → MeetsUnbound ds n t → aliasEnd ds t ≡ unbound n
+    meets-end x = run-end (meets-run (x .0) (x .1) .1)
+
+    -- a chain that ends does not go on beyond
+    run-over : {t : Forest Node} {ns : List ℕ} {e : End} → Run t ns e → GoesOn ds (suc (length ns)) t → ⊥
+    run-over (stops h) g = other-named h (g .2)
+    run-over (loses {n = n} b) g =
+        let q : g .0 ≡ n = cc (b .is-name, g .2) in find-missing ds n (b .no-type) (listed-defined (g .3) (g .4 ∙ q))
+    run-over (crosses {u = u} {n = n} {ns = ns} s r) g =
+        let q : g .0 ≡ n = cc (s .is-name, g .2) in
+        let f = find-named ds once (g .1) n (g .3) (g .4 ∙ q) in
+        let p : g .1 .body ≡ u = cc (f, s .is-type) in
+        run-over r (subst (GoesOn ds (suc (length ns))) p (g .5))
+
+    pub never-circle : (t : Forest Node) → NeverEnds ds t → aliasEnd ds t ≡ circle
+    unfolding aliasEnd chain
+    never-circle t h =
+        ⊎-elim (λ (r : Run t (chain ds t .crossed) (aliasEnd ds t)). absurd (run-over r (h (suc (length (chain ds t .crossed)))))) (λ p. p .0) (outcome (length ds) t .either)
+
+    pub circle-says : (t : Forest Node) → T (isCircle (aliasEnd ds t)) ↔ NeverEnds ds t
+    unfolding isCircle
+    circle-says t = (λ c. circle-never t (circle-is (aliasEnd ds t) c), λ h. rw (never-circle t h) tt)
+
+    -- where the chains of all definitions end, every chain ends
+    pub no-circle : ((d : Definition) → List·Memᴰ d ds → StandsFor (λ k. true) ds (d .body)) → (t : Forest Node) → NeverEnds ds t → ⊥
+    no-circle ends′ t h =
+        let g = h 1 in
+        let s = ends′ (g .1) (g .3) in
+        let r = leads-run (onward {u = s .type} (g .2) (g .3) (g .4) (s .leads)) in
+        run-over (r .1) (h (suc (length (r .0))))
+
     pub leads-no-circle : {t u : Forest Node} → Leads ds t u → T (not (isCircle (aliasEnd ds t)))
     unfolding isCircle
     leads-no-circle l = rw (leads-end l) tt
@@ -248,13 +287,16 @@ module _ (ds : List Definition) where
   leads-keeps P h (onward {d = d} e m q l) p = leads-keeps P h l (h d m)
 
   module _ (bodies : (d : Definition) → List·Memᴰ d ds → Bound ds (d .body)) where
+    comes-bound : {t : Forest Node} {n : ℕ} → ComesTo ds t n → Bound ds t → Defined ds n
+    comes-bound {t} {n} (meaning.here h) b = b n (head-refers t h)
+    comes-bound (meaning.onward {d = d} h m e c) b = comes-bound c (bodies d m)
+
     pub bound-leads : (t : Forest Node) → Bound ds t → isCircle (aliasEnd ds t) ≡ false → (u : Forest Node) × Leads ds t u
     unfolding isCircle
     bound-leads t b = go (aliasEnd ds t) (alias-end t)
       where
         go : (e : End) → Means ds t e → isCircle e ≡ false → (u : Forest Node) × Leads ds t u
-        go (unbound n) (inl x) c = absurd (x .2 .1 (bodies (x .0) (x .1) n (x .2 .0)))
-        go (unbound n) (inr x) c = absurd (x .1 (b n (x .0)))
+        go (unbound n) x c = absurd (x .1 (comes-bound (x .0) b))
         go circle m c = let z : _≡_ {A = ℕ} 0 1 = cc in absurd (omega arith)
         go (ends u) m c = (u, m)
 

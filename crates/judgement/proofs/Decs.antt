@@ -1,44 +1,36 @@
--- The verdict on definitions against well-formed definitions and their rows. What passes: assumes that the definitions fit, as those of a
--- book that fits do. What is refused: assumes nothing.
+-- The verdict on definitions against well-formed definitions, and the first refusal. Assumes that the definitions fit, as those of a book that
+-- fits do.
 --     FitDefinitions              each definition has a name that exists and one tree that fits
---     once-says, once-refused     2: a name that is defined twice
---     decs-says, decs-refused     all of it
+--     once-says, once-say         2: a name that is defined twice
+--     decs-say                    all of it
 use mathlib.Core.Path.{_≡_, refl, sym, ap, subst, _∙_}
-use mathlib.Core.Logic.{_↔_, _⊎_, inl, inr, ⊎-elim}
-use mathlib.Core.Bool.{true, false, not}
+use mathlib.Core.Logic.{_↔_, _⊎_, inl, inr}
+use mathlib.Core.Bool.{true, false}
 use mathlib.Core.List.{List, [], _∷_, _++_, map, map-append, append-assoc, List·Memᴰ, List·Memᴰ·head, List·Memᴰ·tail, List·Memᴰ·not-nil, Memᴰ·append-right}
 use Prim.Native.Nat.{ℕ, _<_}
-use native.Mathlib.Omega.{arith}
 use lib.Dec.{T}
 use Rattle.format.specs.declared.Place.the-variants.{Root}
 use Rattle.format.specs.Forest.{Forest, breadth}
 use Rattle.format.specs.Node.{Node}
 use Rattle.format.specs.Book.{Definition}
 use Rattle.format.specs.Fits.{forestFits}
-use Rattle.format.proofs.Logic.{is-false}
+use Rattle.format.specs.Distinct.{Distinct, FirstRepeat}
+use Rattle.format.proofs.Logic.{both, join, is-false}
 use Rattle.refusals.specs.declared.Refusal.{Refusal}
 use Rattle.refusals.specs.declared.Refusal.the-variants.{Twice, Circle, NoFunction}
-use Rattle.refusals.specs.declared.Verdict.{Verdict}
 use Rattle.refusals.specs.declared.Verdict.the-variants.{Passed, Refused}
-use Rattle.refusals.specs.Verdict.{andThen, unless}
-use Rattle.judgement.specs.Environment.{Found, missing, body, findType, aliasEnd, isFuncKind, asFunc}
+use Rattle.refusals.specs.Verdict.{unless}
+use Rattle.refusals.proofs.Verdicts.{passed-refused, not-says}
+use Rattle.judgement.specs.Environment.{Found, missing, body, findType, aliasEnd}
 use Rattle.judgement.specs.Check.{checkForest, onceVerdict, bodiesVerdict, eachName, isCircle, circleVerdict, methodsFit, bodiesFit, decsVerdict}
-use Rattle.format.specs.Distinct.{Distinct}
-use Rattle.judgement.specs.WellFormed.{definedName, Defined, StandsFor, MethodsAreFunctions, WellFormedTrees, WellFormedDefinitions}
-use Rattle.judgement.specs.Rust.{OneMode, OneModeDefinitions}
-use Rattle.judgement.specs.Rows.{Repeated, NeverEnds, DefinitionsRow, twice, circle, noFunction}
-use Rattle.refusals.proofs.Verdicts.{passed-refused, both-pass, pass-both, which-refused, unless-passed, passed-unless, unless-refused, unless-both, not-says}
-use Rattle.judgement.proofs.Lookup.{found-cases, not-both-found, find-body, found-defined, find-defined, find-listed}
-use Rattle.judgement.proofs.Chains.{is-circle, circle-never, leads-no-circle, func-says, bound-stands}
-use Rattle.judgement.proofs.Walks.{TreesPass, trees-well-formed, body-walk, walk-definitions-row, methods-fit, methods-unfit}
-use Rattle.judgement.proofs.Each.{each, each-says, each-refused, names-passed, passed-names, names-refused, repeats, repeats-says, repeats-refused}
-
--- A name is found exactly if it is defined.
-pub found-says : (ds : List Definition) (n : ℕ) → (findType ds n ≡ missing → ⊥) ↔ Defined ds n
-found-says ds n = (
-  λ h. elim (found-cases (findType ds n)) [ inl e ↦ absurd (h e) | inr f ↦ found-defined ds n (f .0) (f .1) ],
-  λ d e. not-both-found e (find-defined ds n d .1),
-)
+use Rattle.judgement.specs.WellFormed.{definedName, MethodsAreFunctions}
+use Rattle.judgement.specs.Rows.{Repeated, NeverEnds, HasMethod, InBodies, CircleFrom}
+use Rattle.judgement.specs.Order.{First, Sound, Fault, SoundBodies, DefinitionsRefuse, DefinitionsPass, twice, body as inBody, circle, noFunction}
+use Rattle.judgement.proofs.Lookup.{find-body, find-named, find-missing, listed-defined}
+use Rattle.judgement.proofs.Chains.{circle-says, leads-no-circle, bound-stands}
+use Rattle.judgement.proofs.Walks.{one-fails, walk-say, sound-formed, sound-methods, methods-fit, methods-unfit}
+use Rattle.judgement.proofs.Says.{Says, says-unless, says-if, says-then, says-as}
+use Rattle.judgement.proofs.Each.{each, says-each, all-cons, says-names, repeats, says-repeats}
 
 -- Each definition has a name that exists and one tree that fits.
 pub record FitDefinitions (names : ℕ) (ds : List Definition) : Type 0 where
@@ -52,26 +44,32 @@ unfolding onceVerdict repeats
 once-repeats seen [] = refl
 once-repeats seen (d ∷ ds) = rw (once-repeats (d .name ∷ seen) ds)
 
+-- The first definition whose name an earlier one has.
+abbrev pub FirstTwice : List Definition → Refusal → Type 0
+FirstTwice ds r = (d : Definition) × (r ≡ Twice (d .name)) × FirstRepeat definedName ds d
+
+pub once-say : (ds : List Definition) → Says (onceVerdict [] ds) (Distinct (map definedName ds)) (FirstTwice ds)
+once-say ds = rw (once-repeats [] ds) (says-repeats definedName (λ d. Twice (d .name)) ds)
+
 pub once-says : (ds : List Definition) → (onceVerdict [] ds ≡ Passed) ↔ Distinct (map definedName ds)
-once-says ds = rw (once-repeats [] ds) (repeats-says definedName (λ d. Twice (d .name)) ds)
+once-says ds = once-say ds .passed
 
 -- an element of a list that stands in its first part stands again
 split : {A : Type 0} {a : A} {l : List A} → List·Memᴰ a l → (xs : List A) × (ys : List A) × (l ≡ xs ++ (a ∷ ys))
 split {A} (List·Memᴰ·head {xs = xs} e) = ([], xs, ap (λ (b : A). b ∷ xs) (sym e))
 split {A} (List·Memᴰ·tail {x = x} m) = let p = split m in (x ∷ p .0, p .1, ap (λ (l : List A). x ∷ l) (p .2))
 
-stands-again : {A : Type 0} {a : A} {l xs : List A} (ys : List A) → l ≡ xs ++ (a ∷ ys) → List·Memᴰ a xs → Repeated a l
+pub stands-again : {A : Type 0} {a : A} {l xs : List A} (ys : List A) → l ≡ xs ++ (a ∷ ys) → List·Memᴰ a xs → Repeated a l
 stands-again {A} {a} ys e m =
     let p = split m in
     let q = ap (λ (l : List A). l ++ (a ∷ ys)) (p .2) ∙ append-assoc (p .0) (a ∷ p .1) (a ∷ ys) in
     (p .0, p .1 ++ (a ∷ ys), e ∙ q, Memᴰ·append-right (p .1) (List·Memᴰ·head refl))
 
-pub once-refused : (ds : List Definition) {r : Refusal} → onceVerdict [] ds ≡ Refused r → (n : ℕ) × (r ≡ Twice n) × Repeated n (map definedName ds)
-once-refused ds e =
-    let x = repeats-refused definedName (λ d. Twice (d .name)) [] ds (sym (once-repeats [] ds) ∙ e) in
-    let s = x .2 in
-    let p : map definedName ds ≡ map definedName (s .before) ++ (x .0 .name ∷ map definedName (s .following)) = ap (map definedName) (s .parts) ∙ map-append definedName (s .before) (x .0 ∷ s .following) in
-    (x .0 .name, x .1, ⊎-elim (λ m. absurd (List·Memᴰ·not-nil m)) (stands-again (map definedName (s .following)) p) (s .known))
+pub first-repeated : {ds : List Definition} {d : Definition} → FirstRepeat definedName ds d → Repeated (d .name) (map definedName ds)
+first-repeated {ds} {d} x =
+    let p : map definedName ds ≡ map definedName (x .before) ++ (d .name ∷ map definedName (x .following)) =
+    ap (map definedName) (x .parts) ∙ map-append definedName (x .before) (d ∷ x .following) in
+    stands-again (map definedName (x .following)) p (x .again)
 
 -- ---- 3 to 6: the bodies
 bodies-each : (all ds : List Definition) → bodiesVerdict all ds ≡ each (λ d. checkForest true false all (d .body)) ds
@@ -79,118 +77,140 @@ unfolding bodiesVerdict each
 bodies-each all [] = refl
 bodies-each all (d ∷ ds) = rw (bodies-each all ds)
 
--- ---- 7: circles
-circle-refused : (ds : List Definition) (n : ℕ) (f : Found) {r : Refusal} → findType ds n ≡ f → circleVerdict ds n f ≡ Refused r →
-    (r ≡ Circle n) × ((d : Definition) × List·Memᴰ d ds × (d .name ≡ n) × NeverEnds ds (d .body))
-unfolding circleVerdict
-circle-refused ds n missing g e = passed-refused e
-circle-refused ds n (body t) g e =
-    let u = unless-refused (not (isCircle (aliasEnd ds t))) (Circle n) e in
-    let x = find-body ds n t g in
-    (u .1, (x .definition, x .listed, x .of-name, rw (x .of-body) (circle-never ds t (is-circle (aliasEnd ds t) (u .0)))))
+-- The first body with a fault.
+abbrev FirstFault : List Definition → Refusal → Type 0
+FirstFault ds r = First (λ d. Sound ds false (d .body)) (λ d. Fault ds false false (d .body) r) ds
 
-circle-passed : (ds : List Definition) (n : ℕ) (t : Forest Node) → findType ds n ≡ body t → circleVerdict ds n (findType ds n) ≡ Passed →
-    isCircle (aliasEnd ds t) ≡ false
-unfolding circleVerdict
-circle-passed ds n t g e =
-    let c = isCircle (aliasEnd ds t) in
-    is-false c (not-says c .0 (unless-passed (not c) (Circle n) (rw g at e)))
+-- ---- 7: the lowest name whose chain runs in a circle
+abbrev LowestCircle : List Definition → Refusal → Type 0
+LowestCircle ds r = (n : ℕ) × (r ≡ Circle n) × CircleFrom ds n × ((m : ℕ) → m < n → CircleFrom ds m → ⊥)
 
-passed-circle : (ds : List Definition) (n : ℕ) (f : Found) → ((t : Forest Node) → f ≡ body t → T (not (isCircle (aliasEnd ds t)))) →
-    circleVerdict ds n f ≡ Passed
-unfolding circleVerdict
-passed-circle ds n missing h = refl
-passed-circle ds n (body t) h = passed-unless (not (isCircle (aliasEnd ds t))) (Circle n) (h t refl)
+abbrev NoCircle : List Definition → Type 0
+NoCircle ds = (n : ℕ) → CircleFrom ds n → ⊥
 
--- ---- 8: methods
-methods-each : (all ds : List Definition) → unless (bodiesFit all ds) NoFunction ≡ each (λ d. unless (methodsFit all false (d .body)) NoFunction) ds
-unfolding bodiesFit each
-methods-each all [] = refl
-methods-each all (d ∷ ds) =
-    unless-both (methodsFit all false (d .body)) (bodiesFit all ds) NoFunction
-    ∙ ap (andThen (unless (methodsFit all false (d .body)) NoFunction)) (methods-each all ds)
+-- ---- 8: a method that is no function
+abbrev Methods : List Definition → Type 0
+Methods ds = (d : Definition) → List·Memᴰ d ds → MethodsAreFunctions ds (d .body)
 
--- ---- All of it
-module _ (names : ℕ) (ds : List Definition) where
-  abbrev bodyVerdict : Definition → Verdict
-  bodyVerdict d = checkForest true false ds (d .body)
+abbrev SomeMethod : List Definition → Refusal → Type 0
+SomeMethod ds r = (r ≡ NoFunction) × ((n : ℕ) × InBodies ds (HasMethod ds n))
 
-  abbrev nameVerdict : ℕ → Verdict
-  nameVerdict n = circleVerdict ds n (findType ds n)
+pub has-no-methods : {ds : List Definition} {n : ℕ} → InBodies ds (HasMethod ds n) → Methods ds → ⊥
+has-no-methods x h = let y = x .2 in y .8 (h (x .0) (x .1) (y .0) (y .1) (y .4) (y .5) (y .2) (y .3) (y .6))
 
-  abbrev methodsVerdict : Definition → Verdict
-  methodsVerdict d = unless (methodsFit ds false (d .body)) NoFunction
-
-  decs-order : decsVerdict names ds ≡ andThen (onceVerdict [] ds) (andThen (each bodyVerdict ds) (andThen (eachName nameVerdict 0 names) (each methodsVerdict ds)))
-  unfolding decsVerdict
-  decs-order = rw (bodies-each ds ds, methods-each ds ds)
-
-  -- what a definition passes, where each name is defined once
+module _ (names : ℕ) (ds : List Definition) (fits : FitDefinitions names ds) where
+  -- ---- Where each name is defined once
   module _ (once : Distinct (map definedName ds)) where
-    abbrev func : (t : Forest Node) → T (asFunc ds t) ↔ StandsFor isFuncKind ds t
-    func = func-says ds once
+    body-say : (d : Definition) → List·Memᴰ d ds → Says (checkForest true false ds (d .body)) (Sound ds false (d .body)) (Fault ds false false (d .body))
+    body-say d m =
+        says-as (walk-say ds once names Root true false (d .body) (fits .fit d m)) (λ g. g .0, λ s. (s, λ (z : ⊥). absurd z)) (λ r. (λ f. f, λ f. f))
 
-    method-says : (d : Definition) → (methodsVerdict d ≡ Passed) ↔ MethodsAreFunctions ds (d .body)
-    method-says d =
-        let fit = methodsFit ds false (d .body) in
-        let says = methods-fit ds func false (d .body) in
-        (λ e. says .0 (unless-passed fit NoFunction e) .0, λ h. passed-unless fit NoFunction (says .1 (h, λ (x : ⊥). absurd x)))
+    bodies-say : Says (bodiesVerdict ds ds) (SoundBodies ds) (FirstFault ds)
+    bodies-say = rw (bodies-each ds ds) (says-each (λ d. checkForest true false ds (d .body)) ds body-say)
 
-    method-refused : (d : Definition) {r : Refusal} → List·Memᴰ d ds → methodsVerdict d ≡ Refused r → DefinitionsRow ds r
-    method-refused d m e =
-        let u = unless-refused (methodsFit ds false (d .body)) NoFunction e in
-        let x = methods-unfit ds func (d .body) (u .0) in
-        rw (u .1) (noFunction (d, m, x .1))
+    circle-from : (n : ℕ) (t : Forest Node) → findType ds n ≡ body t → NeverEnds ds t ↔ CircleFrom ds n
+    circle-from n t g =
+        let x = find-body ds n t g in (
+          λ h. (x .definition, x .listed, x .of-name, rw (x .of-body) h),
+          λ c. let p : body (c .0 .body) ≡ body t = sym (find-named ds once (c .0) n (c .1) (c .2)) ∙ g in let q : c .0 .body ≡ t = cc in subst (NeverEnds ds) q (c .3),
+        )
 
-  decs-passed : FitDefinitions names ds → decsVerdict names ds ≡ Passed → WellFormedDefinitions ds × OneModeDefinitions ds
-  decs-passed fits e =
-      let p = both-pass (onceVerdict [] ds) _ (sym decs-order ∙ e) in
-      let q = both-pass (each bodyVerdict ds) _ (p .1) in
-      let s = both-pass (eachName nameVerdict 0 names) (each methodsVerdict ds) (q .1) in
-      let once = once-says ds .0 (p .0) in
-      let trees : (d : Definition) → List·Memᴰ d ds → TreesPass ds (d .body) = λ d m.
-      body-walk ds (found-says ds) names Root (d .body) (fits .fit d m) .0 (each-says bodyVerdict ds .0 (q .0) d m) in
-      let formed : (d : Definition) → List·Memᴰ d ds → WellFormedTrees ds (d .body) × OneMode (d .body) = λ d m.
-      trees-well-formed ds (d .body) .0 (trees d m, method-says once d .0 (each-says methodsVerdict ds .0 (s .1) d m)) in
-      let ended : (d : Definition) → List·Memᴰ d ds → isCircle (aliasEnd ds (d .body)) ≡ false = λ d m.
-      circle-passed ds (d .name) (d .body) (find-listed ds once d m)
-      (names-passed nameVerdict 0 names (s .0) (d .name) (omega arith) (omega (arith, fits .exists d m))) in (
-        record {
-          once = once;
-          trees = λ d m. formed d m .0;
-          chains = λ d m. bound-stands ds (λ c k. trees c k .bound) (fits .sole) (d .body) (trees d m .bound) (fits .sole d m) (ended d m);
-        },
-        λ d m. formed d m .1,
-      )
+    circle-say : (n : ℕ) → Says (circleVerdict ds n (findType ds n)) (CircleFrom ds n → ⊥) (λ r. (r ≡ Circle n) × CircleFrom ds n)
+    unfolding circleVerdict
+    circle-say n = go (findType ds n) refl
+      where
+        go : (f : Found) → findType ds n ≡ f → Says (circleVerdict ds n f) (CircleFrom ds n → ⊥) (λ r. (r ≡ Circle n) × CircleFrom ds n)
+        go missing g =
+            let none : CircleFrom ds n → ⊥ = λ c. find-missing ds n g (listed-defined (c .1) (c .2)) in
+            record { passed = (λ e. none, λ h. refl); refused = λ r. (λ e. passed-refused e, λ x. absurd (none (x .1))) }
+        go (body t) g =
+            let i = circle-says ds once t in
+            let j = circle-from n t g in
+            says-if (isCircle (aliasEnd ds t)) (Circle n) (λ c. j .0 (i .0 c), λ c. i .1 (j .1 c))
 
-  passed-decs : FitDefinitions names ds → WellFormedDefinitions ds → OneModeDefinitions ds → decsVerdict names ds ≡ Passed
-  passed-decs fits w o =
-      let once = w .once in
-      let parts : (d : Definition) → List·Memᴰ d ds → TreesPass ds (d .body) × MethodsAreFunctions ds (d .body) = λ d m.
-      trees-well-formed ds (d .body) .1 (w .trees d m, o d m) in
-      let bodies = each-says bodyVerdict ds .1 (λ d m. body-walk ds (found-says ds) names Root (d .body) (fits .fit d m) .1 (parts d m .0)) in
-      let ended : (n : ℕ) (t : Forest Node) → findType ds n ≡ body t → T (not (isCircle (aliasEnd ds t))) = λ n t g.
-      let x = find-body ds n t g in
-      subst (λ u. T (not (isCircle (aliasEnd ds u)))) (x .of-body) (leads-no-circle ds once (w .chains (x .definition) (x .listed) .leads)) in
-      let chains = passed-names nameVerdict 0 names (λ n l u. passed-circle ds n (findType ds n) (ended n)) in
-      let methods = each-says methodsVerdict ds .1 (λ d m. method-says once d .1 (parts d m .1)) in
-      decs-order ∙ pass-both _ _ (once-says ds .1 once) (pass-both _ _ bodies (pass-both _ _ chains methods))
+    circles-say : Says (eachName (λ n. circleVerdict ds n (findType ds n)) 0 names) (NoCircle ds) (LowestCircle ds)
+    circles-say =
+        says-names (λ n. circleVerdict ds n (findType ds n)) Circle (CircleFrom ds) circle-say names (λ n c. subst (λ m. m < names) (c .2) (fits .exists (c .0) (c .1)))
 
-  pub decs-says : FitDefinitions names ds → (decsVerdict names ds ≡ Passed) ↔ (WellFormedDefinitions ds × OneModeDefinitions ds)
-  decs-says fits = (decs-passed fits, λ p. passed-decs fits (p .0) (p .1))
+    bodies-fit : (es : List Definition) → T (bodiesFit ds es) ↔ ((d : Definition) → List·Memᴰ d es → MethodsAreFunctions ds (d .body))
+    unfolding bodiesFit
+    bodies-fit [] = (λ t d m. absurd (List·Memᴰ·not-nil m), λ h. tt)
+    bodies-fit (d ∷ es) =
+        let i = methods-fit ds once (d .body) in
+        let j = bodies-fit es in
+        let k = all-cons d es in (
+          λ t. let p = both (methodsFit ds false (d .body)) (bodiesFit ds es) t in k .0 (i .0 (p .0), j .0 (p .1)),
+          λ h. let p = k .1 h in join (methodsFit ds false (d .body)) (bodiesFit ds es) (i .1 (p .0)) (j .1 (p .1)),
+        )
 
-  pub decs-refused : {r : Refusal} → decsVerdict names ds ≡ Refused r → DefinitionsRow ds r
-  decs-refused e =
-      elim (which-refused (onceVerdict [] ds) _ (sym decs-order ∙ e)) [
-        | inl h ↦ let x = once-refused ds h in rw (x .1) (twice (x .2))
-        | inr h ↦ elim (which-refused (each bodyVerdict ds) _ (h .1)) [
-          | inl g ↦ let x = each-refused bodyVerdict ds g in walk-definitions-row ds (found-says ds) (x .0) (x .1) (x .2)
-          | inr g ↦ elim (which-refused (eachName nameVerdict 0 names) (each methodsVerdict ds) (g .1)) [
-            | inl k ↦
-                let x = names-refused nameVerdict 0 names k in
-                let y = circle-refused ds (x .number) (findType ds (x .number)) refl (x .refused) in
-                rw (y .0) (circle (y .1))
-            | inr k ↦ let x = each-refused methodsVerdict ds (k .1) in method-refused (once-says ds .0 (h .0)) (x .0) (x .1) (x .2)
-          ]
+    bodies-unfit : (es : List Definition) → (T (bodiesFit ds es) → ⊥) → (d : Definition) × List·Memᴰ d es × ((n : ℕ) × HasMethod ds n (d .body))
+    unfolding bodiesFit
+    bodies-unfit [] h = absurd (h tt)
+    bodies-unfit (d ∷ es) h =
+        elim (one-fails (methodsFit ds false (d .body)) (bodiesFit ds es) h) [
+          | inl g ↦ (d, List·Memᴰ·head refl, methods-unfit ds once (d .body) g)
+          | inr g ↦ let x = bodies-unfit es g in (x .0, List·Memᴰ·tail (x .1), x .2)
         ]
-      ]
+
+    methods-say : Says (unless (bodiesFit ds ds) NoFunction) (Methods ds) (SomeMethod ds)
+    methods-say =
+        let i = bodies-fit ds in
+        says-as (says-unless (bodiesFit ds ds) NoFunction i) (λ h. h, λ h. h) (λ r. (
+          λ x. let y = bodies-unfit ds (λ t. x .1 (i .0 t)) in (x .0, (y .2 .0, (y .0, y .1, y .2 .1))),
+          λ x. (x .0, has-no-methods (x .1 .1)),
+        ))
+
+  -- ---- All of it
+  abbrev AllPass : Type 0
+  AllPass = Distinct (map definedName ds) × (SoundBodies ds × (NoCircle ds × Methods ds))
+
+  pass-formed : AllPass ↔ DefinitionsPass ds
+  pass-formed = (there, back)
+    where
+      there : AllPass → DefinitionsPass ds
+      there p =
+          let once = p .0 in
+          let sound = p .1 .0 in
+          let formed : (d : Definition) → List·Memᴰ d ds → _ = λ d m. sound-formed ds (d .body) .0 (sound-methods ds (d .body) .0 (sound d m, p .1 .1 .1 d m)) in
+          let ended : (d : Definition) → List·Memᴰ d ds → isCircle (aliasEnd ds (d .body)) ≡ false = λ d m.
+          is-false (isCircle (aliasEnd ds (d .body))) (λ c. p .1 .1 .0 (d .name) (d, m, refl, circle-says ds once (d .body) .0 c)) in (
+            record {
+              once = once;
+              trees = λ d m. formed d m .0;
+              chains = λ d m. bound-stands ds (λ c k. sound c k .bound) (fits .sole) (d .body) (sound d m .bound) (fits .sole d m) (ended d m);
+            },
+            λ d m. formed d m .1,
+          )
+
+      back : DefinitionsPass ds → AllPass
+      back w =
+          let once = w .0 .once in
+          let parts : (d : Definition) → List·Memᴰ d ds → Sound ds false (d .body) × MethodsAreFunctions ds (d .body) = λ d m.
+          sound-methods ds (d .body) .1 (sound-formed ds (d .body) .1 (w .0 .trees d m, w .1 d m)) in
+          let open′ : NoCircle ds = λ n c. not-says (isCircle (aliasEnd ds (c .0 .body))) .0 (leads-no-circle ds once (w .0 .chains (c .0) (c .1) .leads)) (circle-says ds once (c .0 .body) .1 (c .3)) in
+          (once, (λ d m. parts d m .0, (open′, λ d m. parts d m .1)))
+
+  abbrev Refuses : Refusal → Type 0
+  Refuses r =
+      FirstTwice ds r
+      ⊎ (Distinct (map definedName ds) × (FirstFault ds r ⊎ (SoundBodies ds × (LowestCircle ds r ⊎ (NoCircle ds × SomeMethod ds r)))))
+
+  refuses-order : (r : Refusal) → Refuses r ↔ DefinitionsRefuse ds r
+  refuses-order r = (there, back)
+    where
+      there : Refuses r → DefinitionsRefuse ds r
+      there (inl x) = subst (DefinitionsRefuse ds) (sym (x .1)) (twice (x .2))
+      there (inr (once, inl x)) = inBody once x
+      there (inr (once, inr (sound, inl x))) = subst (DefinitionsRefuse ds) (sym (x .1)) (circle once sound (x .2) (x .3))
+      there (inr (once, inr (sound, inr (none, x)))) = subst (DefinitionsRefuse ds) (sym (x .0)) (noFunction once sound none (x .1 .1))
+
+      back : {s : Refusal} → DefinitionsRefuse ds s → Refuses s
+      back (twice {d = d} x) = inl (d, refl, x)
+      back (inBody once x) = inr (once, inl x)
+      back (circle {n = n} once sound x l) = inr (once, inr (sound, inl (n, refl, x, l)))
+      back (noFunction {n = n} once sound none x) = inr (once, inr (sound, inr (none, (refl, (n, x)))))
+
+  pub decs-say : Says (decsVerdict names ds) (DefinitionsPass ds) (DefinitionsRefuse ds)
+  unfolding decsVerdict
+  decs-say =
+      says-as (says-then (once-say ds) (λ once. says-then (bodies-say once) (λ s. says-then (circles-say once) (λ c. methods-say once)))) pass-formed refuses-order

@@ -2,9 +2,9 @@
 pub mod Lookup
 pub mod Heads
 pub mod Chains
-pub mod Walks
+pub mod Says
 pub mod Each
-pub mod First
+pub mod Walks
 pub mod Decs
 pub mod Classes
 pub mod Methods
@@ -12,8 +12,12 @@ pub mod Meaning
 pub mod Fitting
 pub mod Actors
 pub mod Books
+pub mod Resolve
 pub mod Written
+pub mod Same
 pub mod Merge
 pub mod MergeChains
+pub mod Steps
 pub mod Theorems
-pub mod Same
+pub mod Order
+pub mod Rows

@@ -101,6 +101,13 @@ missing-find ds n h = elim (found-cases (findType ds n)) [ inl e ↦ e | inr f �
 pub missing-says : (ds : List Definition) (n : ℕ) → (findType ds n ≡ missing) ↔ (Defined ds n → ⊥)
 missing-says ds n = (find-missing ds n, missing-find ds n)
 
+-- A name is found exactly if it is defined.
+pub found-says : (ds : List Definition) (n : ℕ) → (findType ds n ≡ missing → ⊥) ↔ Defined ds n
+found-says ds n = (
+  λ h. elim (found-cases (findType ds n)) [ inl e ↦ absurd (h e) | inr f ↦ found-defined ds n (f .0) (f .1) ],
+  λ d e. not-both-found e (find-defined ds n d .1),
+)
+
 -- Where each name is defined once, its definition is the one that is found.
 pub find-listed : (ds : List Definition) → Distinct (map definedName ds) → (d : Definition) → List·Memᴰ d ds → findType ds (d .name) ≡ body (d .body)
 find-listed [] once d m = absurd (List·Memᴰ·not-nil m)

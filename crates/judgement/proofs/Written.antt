@@ -28,11 +28,11 @@ use Rattle.judgement.specs.Meaning.{Serves, Together, none, more, servic
 use Rattle.judgement.specs.Rust.{OneMode, OneModeDefinitions, hashesOf, Hashed, Rust}
 use Rattle.judgement.proofs.Lookup.{listed-defined}
 use Rattle.judgement.proofs.Chains.{leads-keeps}
-use Rattle.judgement.proofs.Walks.{Asked, IsFunction, nodes-pass, trees-well-formed}
+use Rattle.judgement.proofs.Walks.{is-service, service-is, Asked, IsFunction, sound-nodes, sound-formed}
 use Rattle.judgement.proofs.Classes.{beside-last}
 use Rattle.judgement.proofs.Fitting.{Written, no-breadth, written-class, named-leaf}
 use Rattle.judgement.proofs.Meaning.{MainStands, ImportsStand, servicesOf, foundMethods, none-stands, stands-no-class, all-services, services-all, merged-together, none-imported, resolved-written, resolved-merged, resolved-methods}
-use Rattle.judgement.proofs.Actors.{Resolved}
+use Rattle.judgement.proofs.Resolve.{Resolved}
 use Rattle.judgement.proofs.Books.{main-actor-written, imports-written}
 
 -- ---- Well-formed trees of one mode, node by node
@@ -44,10 +44,10 @@ Good ds f = Everywhere (GoodNode ds) f
 
 good-says : (ds : List Definition) (f : Forest Node) → Good ds f ↔ (WellFormedTrees ds f × OneMode f)
 good-says ds f =
-    let t = trees-well-formed ds f in
-    let p = nodes-pass ds f in (
-      λ h. t .0 (p .0 (λ n kids o. h n kids o .0), λ n kids o. h n kids o .1),
-      λ w. let q = t .1 w in λ n kids o. (p .1 (q .0) n kids o, q .1 n kids o),
+    let nodes = sound-nodes ds true f in
+    let formed = sound-formed ds f in (
+      λ h. formed .0 (nodes .0 (λ n kids o. (h n kids o .0, λ t. h n kids o .1 (is-service (n .kind) t)))),
+      λ w. let q = nodes .1 (formed .1 w) in λ n kids o. (q n kids o .0, λ e. q n kids o .1 (service-is (n .kind) e)),
     )
 
 -- Methods that are good functions.
@@ -188,7 +188,7 @@ module _ (b : Book) (fits : Fits b) (formed : WellFormedDefinitions (mainDefinit
       (none-imported imports)
 
   -- ---- What the resolved actor says of what is written
-  pub resolved-typed : Resolved (b .names) ds main imports → Typed b × Rust b
+  pub resolved-typed : Resolved b → Typed b × Rust b
   unfolding resolveActor services
   resolved-typed r =
       let good = resolved-good (r .service) (r .imported) .0 (good-says ds (belowTop (resolveActor b)) .1 (r .actor, r .modes)) in
@@ -218,7 +218,7 @@ module _ (b : Book) (fits : Fits b) (formed : WellFormedDefinitions (mainDefinit
           inr record { methods = foundMethods ds main imports; together = together; distinct = rw (resolved-methods b (formed .once) h together) at d })
           (none-imported imports)
 
-  pub typed-resolved : Typed b → Rust b → Resolved (b .names) ds main imports
+  pub typed-resolved : Typed b → Rust b → Resolved b
   unfolding resolveActor services
   typed-resolved t r =
       let stands : MainStands ds main = ⊎-elim inl (λ w. inr (w .service)) (t .actor) in

@@ -11,15 +11,15 @@ use lib.Dec.{T}
 use Rattle.format.specs.Forest.{Forest, end, tree, breadth}
 use Rattle.format.specs.Node.{VarT, FuncT, ClassT, FuncMode, Oneway, Node, labelValue}
 use Rattle.format.specs.Book.{Definition, File, Book}
-use Rattle.format.specs.Distinct.{Distinct}
+use Rattle.format.specs.Distinct.{Distinct, FirstRepeat}
 use Rattle.format.specs.Labels.{methodNames}
 use Rattle.refusals.specs.declared.Refusal.{Refusal}
 use Rattle.refusals.specs.declared.Refusal.the-variants.{Twice, Unbound, Class, Modes, Oneway as OnewayResults, Circle, NoFunction, MethodNoFunction, NoService, Differs, ImportWithoutActor, ImportNoService, SameHash}
 use Rattle.judgement.specs.Environment.{mainDefinitions, initDefinitions, mergeDefinitions, isFuncKind, isServKind, kidsOf}
 use Rattle.judgement.specs.Actor.{serviceImports, mainActor, initTree, belowClass}
-use Rattle.judgement.specs.WellFormed.{definedName, Defined, StandsFor, Bound, NoClass, OnewayWithoutResults, MethodsAreFunctions, WellFormedDefinitions, belowTop}
-use Rattle.judgement.specs.Rust.{OneMode, OneModeDefinitions, hashOf, Hashed}
-use Rattle.judgement.specs.Rows.{NeverEnds, HasMethod, InBodies, Disagree}
+use Rattle.judgement.specs.WellFormed.{definedName, Defined, StandsFor, Bound, NoClass, OnewayWithoutResults, MethodsAreFunctions, WellFormedDefinitions, belowTop, Typed}
+use Rattle.judgement.specs.Rust.{OneMode, OneModeDefinitions, hashOf, Hashed, Rust}
+use Rattle.judgement.specs.Rows.{HasMethod, InBodies, CircleFrom, Disagree}
 use Rattle.judgement.specs.Meaning.{MeetsUnbound, LeadsElsewhere, Together, services, ActorOf}
 
 -- ---- Firsts in a list
@@ -32,14 +32,6 @@ pub record First {A : Type 0} (Fine Bad : A → Type 0) (l : List A) : Type 0 wh
   pub parts : l ≡ before ++ (it ∷ following)
   pub fine : (a : A) → List·Memᴰ a before → Fine a
   pub bad : Bad it
-
--- The first element whose key an earlier one has.
-pub record FirstRepeat {A : Type 0} (key : A → ℕ) (l : List A) (a : A) : Type 0 where
-  pub before : List A
-  pub following : List A
-  pub parts : l ≡ before ++ (a ∷ following)
-  pub distinct : Distinct (map key before)
-  pub again : List·Memᴰ (key a) (map key before)
 
 -- ---- The walk over types: children first and left to right
 
@@ -73,10 +65,6 @@ Once ds = Distinct (map definedName ds)
 
 abbrev pub SoundBodies : List Definition → Type 0
 SoundBodies ds = (d : Definition) → List·Memᴰ d ds → Sound ds false (d .body)
-
--- A name's definition starts an alias chain that runs into a circle.
-abbrev pub CircleFrom : List Definition → ℕ → Type 0
-CircleFrom ds n = (d : Definition) × List·Memᴰ d ds × (d .name ≡ n) × NeverEnds ds (d .body)
 
 pub data DefinitionsRefuse (ds : List Definition) : Refusal → Type 0 where
   twice : {d : Definition} → FirstRepeat definedName ds d → DefinitionsRefuse ds (Twice (d .name))
@@ -130,3 +118,7 @@ pub data InitRefuses (b : Book) : Refusal → Type 0 where
   differs : {n : ℕ} → DefinitionsPass (initDefinitions b) → Disagree b n → ((m : ℕ) → m < n → Disagree b m → ⊥) → InitRefuses b (Differs n)
   arguments : {r : Refusal} → DefinitionsPass (initDefinitions b) → ((m : ℕ) → Disagree b m → ⊥) →
       Fault (mergeDefinitions (initDefinitions b) (mainDefinitions b)) true false (kidsOf (initTree (b .files))) r → InitRefuses b r
+
+-- What the init check refuses: what the check does, or the init file of a book that passes it.
+abbrev pub InitCheckRefuses : Book → Refusal → Type 0
+InitCheckRefuses b r = CheckRefuses b r ⊎ ((Typed b × Rust b) × InitRefuses b r)

@@ -1,5 +1,5 @@
 -- Document 01's table of refusals, rows 2 to 14: for each the condition of its row, from the table's words. No walk, fuel, mark or order
--- is named here (proofs/Theorems.antt: a refusal lies in its row). Definitions; assumes nothing.
+-- is named here (proofs/Rows.antt: a refusal lies in its row, and a row holds only of what is refused). Definitions; assumes nothing.
 use mathlib.Core.Path.{_≡_}
 use mathlib.Core.Logic.{_⊎_}
 use mathlib.Core.List.{List, [], _∷_, _++_, map, List·Memᴰ}
@@ -13,11 +13,12 @@ use Rattle.format.specs.Book.{Definition, File, Book}
 use Rattle.format.specs.References.{references}
 use Rattle.refusals.specs.declared.Refusal.{Refusal}
 use Rattle.refusals.specs.declared.Refusal.the-variants.{Twice, Unbound, Class, Modes, Oneway as OnewayResults, Circle, NoFunction, MethodNoFunction, NoService, Differs, ImportWithoutActor, ImportNoService, SameHash}
-use Rattle.judgement.specs.Environment.{mainDefinitions, initDefinitions, mergeDefinitions, named, head, isFuncKind, isServKind, kidsOf, sameForest}
-use Rattle.judgement.specs.Actor.{serviceImports, mainActor, belowClass, resolveActor, initTree}
+use Rattle.judgement.specs.Environment.{mainDefinitions, initDefinitions, mergeDefinitions, named, head, isFuncKind, kidsOf, sameForest}
+use Rattle.judgement.specs.Actor.{serviceImports, mainActor, belowClass, initTree}
 use Rattle.format.specs.Occurs.{Occurs, Beside}
 use Rattle.judgement.specs.WellFormed.{definedName, Defined, StandsFor, belowTop}
-use Rattle.judgement.specs.Rust.{methodHashes}
+use Rattle.judgement.specs.Rust.{hashOf}
+use Rattle.judgement.specs.Meaning.{MeetsUnbound, LeadsElsewhere, Together, services, ActorOf}
 use Rattle.format.specs.Labels.{methodNames}
 
 -- ---- Rows that speak of trees and definitions alone
@@ -57,51 +58,51 @@ UsesUnbound ds n f = List·Memᴰ n (references f) × (Defined ds n → ⊥)
 abbrev pub InBodies : List Definition → (Forest Node → Type 0) → Type 0
 InBodies ds P = (d : Definition) × List·Memᴰ d ds × P (d .body)
 
--- ---- The rows of definitions, by the refusal with its name
+-- A name's definition starts an alias chain that never ends.
+abbrev pub CircleFrom : List Definition → ℕ → Type 0
+CircleFrom ds n = (d : Definition) × List·Memᴰ d ds × (d .name ≡ n) × NeverEnds ds (d .body)
+
+-- ---- The rows of trees and definitions, by the refusal with its name
+
+-- 3 to 6, of trees that are walked.
+pub data WalkRow (ds : List Definition) (f : Forest Node) : Refusal → Type 0 where
+  unbound : {n : ℕ} → UsesUnbound ds n f → WalkRow ds f (Unbound n)
+  class : HasClass f → WalkRow ds f Class
+  modes : HasModes f → WalkRow ds f Modes
+  oneway : HasOneway f → WalkRow ds f OnewayResults
+
 pub data DefinitionsRow (ds : List Definition) : Refusal → Type 0 where
   twice : {n : ℕ} → Repeated n (map definedName ds) → DefinitionsRow ds (Twice n)
-  unbound : {n : ℕ} → InBodies ds (UsesUnbound ds n) → DefinitionsRow ds (Unbound n)
-  class : InBodies ds HasClass → DefinitionsRow ds Class
-  modes : InBodies ds HasModes → DefinitionsRow ds Modes
-  oneway : InBodies ds HasOneway → DefinitionsRow ds OnewayResults
-  circle : {n : ℕ} → ((d : Definition) × List·Memᴰ d ds × (d .name ≡ n) × NeverEnds ds (d .body)) → DefinitionsRow ds (Circle n)
+  walked : {r : Refusal} → InBodies ds (λ f. WalkRow ds f r) → DefinitionsRow ds r
+  circle : {n : ℕ} → CircleFrom ds n → DefinitionsRow ds (Circle n)
   noFunction : {n : ℕ} → InBodies ds (HasMethod ds n) → DefinitionsRow ds NoFunction
 
 -- The rows of trees that are walked as an actor or as init arguments.
 pub data TreesRow (ds : List Definition) (f : Forest Node) : Refusal → Type 0 where
-  unbound : {n : ℕ} → UsesUnbound ds n f → TreesRow ds f (Unbound n)
-  class : HasClass f → TreesRow ds f Class
-  modes : HasModes f → TreesRow ds f Modes
-  oneway : HasOneway f → TreesRow ds f OnewayResults
+  walked : {r : Refusal} → WalkRow ds f r → TreesRow ds f r
   methodNoFunction : {n : ℕ} → HasMethod ds n f → TreesRow ds f (MethodNoFunction n)
 
 -- ---- The rows of the actor and its imports
 
--- The chain of an actor as written meets a name without definition.
-abbrev pub MeetsUnbound : List Definition → ℕ → Forest Node → Type 0
-MeetsUnbound ds n t = InBodies ds (UsesUnbound ds n) ⊎ UsesUnbound ds n t
-
--- A method of the resolved actor whose hash an earlier one has.
-abbrev pub HashRepeated : List (List ℕ) → Forest Node → ℕ → Type 0
-HashRepeated names ms name =
-    (i j : ℕ) × (i < j) × (j < length (methodNames ms)) × (lib.ListN.getD (methodNames ms) j 0 ≡ name)
-    × (lib.ListN.getD (methodHashes names ms) i 0 ≡ lib.ListN.getD (methodHashes names ms) j 0)
+-- A method whose hash an earlier one has.
+abbrev pub HashRepeated : List (List ℕ) → List ℕ → ℕ → Type 0
+HashRepeated names methods n =
+    (earlier : List ℕ) × (others : List ℕ) × (methods ≡ earlier ++ (n ∷ others)) × List·Memᴰ (hashOf names n) (map (hashOf names) earlier)
 
 pub data ActorRow (b : Book) : Refusal → Type 0 where
-  unbound : {n : ℕ} →
-      MeetsUnbound (mainDefinitions b) n (mainActor b) ⊎ ((f : File) × List·Memᴰ f (serviceImports (b .files)) × MeetsUnbound (mainDefinitions b) n (f .actor)) →
-      ActorRow b (Unbound n)
-  noService : (mainActor b ≡ end → ⊥) × (StandsFor isServKind (mainDefinitions b) (belowClass (mainActor b)) → ⊥) → ActorRow b NoService
-  importWithoutActor : {n : ℕ} → ((f : File) × List·Memᴰ f (serviceImports (b .files)) × (f .name ≡ n) × (f .actor ≡ end)) → ActorRow b (ImportWithoutActor n)
-  importNoService : {n : ℕ} →
-      ((f : File) × List·Memᴰ f (serviceImports (b .files)) × (f .name ≡ n) × (StandsFor isServKind (mainDefinitions b) (f .actor) → ⊥)) →
-      ActorRow b (ImportNoService n)
-  sameHash : {n : ℕ} → (serviceImports (b .files) ≡ [] → ⊥) × HashRepeated (b .names) (kidsOf (belowClass (resolveActor b))) n → ActorRow b (SameHash n)
+  unbound : {n : ℕ} {t : Forest Node} → List·Memᴰ t (services b) → MeetsUnbound (mainDefinitions b) n t → ActorRow b (Unbound n)
+  noService : (mainActor b ≡ end → ⊥) → LeadsElsewhere (mainDefinitions b) (belowClass (mainActor b)) → ActorRow b NoService
+  importWithoutActor : {f : File} → List·Memᴰ f (serviceImports (b .files)) → f .actor ≡ end → ActorRow b (ImportWithoutActor (f .name))
+  importNoService : {f : File} → List·Memᴰ f (serviceImports (b .files)) → (f .actor ≡ end → ⊥) → LeadsElsewhere (mainDefinitions b) (f .actor) →
+      ActorRow b (ImportNoService (f .name))
+  sameHash : {methods : Forest Node} {n : ℕ} → (serviceImports (b .files) ≡ [] → ⊥) → Together (mainDefinitions b) (services b) methods →
+      HashRepeated (b .names) (methodNames methods) n → ActorRow b (SameHash n)
 
 -- A refusal of the check: of the definitions, of the actor's walk, or of the actor and its imports.
-abbrev pub CheckRow : Book → Refusal → Type 0
-CheckRow b r =
-    DefinitionsRow (mainDefinitions b) r ⊎ (TreesRow (mainDefinitions b) (belowTop (resolveActor b)) r ⊎ ActorRow b r)
+pub data CheckRow (b : Book) : Refusal → Type 0 where
+  definitions : {r : Refusal} → DefinitionsRow (mainDefinitions b) r → CheckRow b r
+  walk : {t : Forest Node} {r : Refusal} → ActorOf b t → TreesRow (mainDefinitions b) (belowTop t) r → CheckRow b r
+  actor : {r : Refusal} → ActorRow b r → CheckRow b r
 
 -- The numbers that there are.
 abbrev pub checkRows : List ℕ

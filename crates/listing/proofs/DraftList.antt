@@ -19,7 +19,7 @@ use Rattle.format.specs.Fits.{maxDefinitions, Fits}
 use Rattle.format.specs.References.{references}
 use Rattle.format.specs.Rules.{noTrees}
 use Rattle.refusals.specs.declared.Refusal.{Refusal}
-use Rattle.refusals.specs.declared.Refusal.the-variants.{Unbound, NoActor, Short}
+use Rattle.refusals.specs.declared.Refusal.the-variants.{Twice, Unbound, NoActor, Short}
 use Rattle.refusals.specs.declared.Verdict.{Verdict}
 use Rattle.refusals.specs.declared.Verdict.the-variants.{Passed, Refused}
 use Rattle.refusals.specs.Verdict.{andThen}
@@ -28,8 +28,8 @@ use Rattle.judgement.specs.Check.{onceVerdict}
 use Rattle.format.specs.Distinct.{Distinct}
 use Rattle.judgement.specs.WellFormed.{definedName}
 use Rattle.refusals.proofs.Verdicts.{both-pass, pass-both, which-refused}
-use Rattle.judgement.proofs.Decs.{once-says, once-refused}
-use Rattle.judgement.proofs.First.{once-first, repeated-distinct}
+use Rattle.judgement.proofs.Decs.{once-says, once-say, first-repeated}
+use Rattle.judgement.proofs.Rows.{repeated-distinct}
 use Rattle.listing.specs.Chase.{Walk, going, unbound, chaseTypes, walked}
 use Rattle.refusals.specs.Outcome.{refused, given, after, fit}
 use Rattle.listing.specs.Room.{needsActor, EachOnce, ShortRow, Most}
@@ -111,7 +111,7 @@ module _ (b : Book) (fits : Fits b) where
             | inl h ↦ elim (which-refused (needsActor (mainActor b)) (onceVerdict [] draft) h) [
               | inl k ↦ let x = actor-refused (mainActor b) k in subst (DraftRefuses b) (x .1) (lacksActor (x .0))
               | inr k ↦
-                  let x = once-first draft .0 (k .1) in
+                  let x = once-say draft .refused r .0 (k .1) in
                   subst (DraftRefuses b) (sym (x .1)) (definesAgain (passed-actor (mainActor b) (k .0)) (x .2))
             ]
             | inr h ↦
@@ -125,8 +125,8 @@ module _ (b : Book) (fits : Fits b) where
 
       back : {s : Refusal} → DraftRefuses b s → draftList b ≡ refused s
       back (lacksActor e) = draft-actor e
-      back (definesAgain {n = n} some x) =
-          after-stops draft-verdict _ (rw (actor-passed (mainActor b) some) (once-first draft .1 (n, refl, x)))
+      back (definesAgain {d = d} some x) =
+          after-stops draft-verdict _ (rw (actor-passed (mainActor b) some) (once-say draft .refused (Twice (d .name)) .1 (d, refl, x)))
       back (missesName {n = n} some once x) = draft-stops some once n .1 x
 
   -- ---- The rows
@@ -143,9 +143,7 @@ module _ (b : Book) (fits : Fits b) where
   -- What is refused lies in its row.
   pub refuses-in-row : (places : ℕ) {r : Refusal} → DraftRefuses b r → DraftRow b places r
   refuses-in-row places (lacksActor e) = noActor e
-  refuses-in-row places (definesAgain {n = n} some x) =
-      let y = once-refused draft (once-first draft .1 (n, refl, x)) in
-      subst (DraftRow b places) (sym (y .1)) (twice (y .2))
+  refuses-in-row places (definesAgain some x) = twice (first-repeated x)
   refuses-in-row places (missesName some once x) = rows.unbound (misses-lost draft (mainActor b) x (λ m i. direct i))
 
   pub draft-in-row : (places : ℕ) {r : Refusal} → fit places (draftList b) ≡ refused r → DraftRow b places r

@@ -34,7 +34,8 @@ use Rattle.format.proofs.Admission.{asked-row, row-numbers}
 use Rattle.refusals.specs.declared.Refusal.{Refusal}
 use Rattle.refusals.specs.Refusal.{numberOf}
 use Rattle.judgement.specs.Check.{check}
-use Rattle.judgement.proofs.Theorems.{check-says, check-row, check-numbers}
+use Rattle.judgement.proofs.Theorems.{check-says}
+use Rattle.judgement.proofs.Rows.{check-row, check-numbers}
 use Rattle.format.specs.Admission.{onBytes, admissionRows, InRow, Source}
 use Rattle.refusals.specs.Outcome.{Outcome, refused, given, fit}
 use Rattle.listing.specs.Room.{EachOnce, ShortRow, AfterCheck, Most}
@@ -479,7 +480,7 @@ module _ (b : Book) (fits : Fits b) (places : ℕ) where
   emptiness-in-row = fit-row places (emptiness b) _ (EmptinessRow b places) own result (λ k x. short x)
     where
       own : (r : Refusal) → emptiness b ≡ refused r → EmptinessRow b places r
-      own r e = elim (after-refused (check b) _ e) [ inl h ↦ checked (check-row b h) | inr h ↦ given-refused (sym (h .1)) ]
+      own r e = elim (after-refused (check b) _ e) [ inl h ↦ checked (check-row b fits h) | inr h ↦ given-refused (sym (h .1)) ]
 
       result : (l : List ℕ) → emptiness b ≡ given l → EachOnce (BecomesEmpty (mainDefinitions b)) l
       result l e =

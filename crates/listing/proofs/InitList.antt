@@ -25,7 +25,8 @@ use Rattle.judgement.specs.Actor.{initTree, NoInit}
 use Rattle.format.specs.Distinct.{Distinct}
 use Rattle.judgement.specs.WellFormed.{definedName, Bound, Typed, TypedInit}
 use Rattle.judgement.proofs.Lookup.{merge-listed, merge-says, merge-distinct}
-use Rattle.judgement.proofs.Theorems.{init-check-says, init-check-row, init-numbers, no-init-tree, without-init}
+use Rattle.judgement.proofs.Theorems.{init-check-says, no-init-tree, without-init}
+use Rattle.judgement.proofs.Rows.{init-check-row, init-numbers}
 use Rattle.listing.specs.Chase.{chaseTypes, walked, chase}
 use Rattle.refusals.specs.Outcome.{refused, given, after, fit}
 use Rattle.listing.specs.InitList.{initList, InitAnswers, InitListRow, initListRows, checked, short}
@@ -110,7 +111,7 @@ module _ (b : Book) (fits : Fits b) where
       own : (r : Refusal) → initList b ≡ refused r → InitListRow b places r
       own r e =
           elim (after-refused (initCheck b) _ e) [
-            | inl h ↦ checked (init-check-row b h)
+            | inl h ↦ checked (init-check-row b fits h)
             | inr h ↦ given-refused (sym e ∙ init-answered (h .0) .answer)
           ]
 

@@ -29,7 +29,8 @@ use Rattle.judgement.specs.Environment.{mainDefinitions, kidsOf}
 use Rattle.judgement.specs.Actor.{isClassKind, isClass, firstActor, mainActor, serviceImports, classOf, serviceOf, mergedActor, resolveWith, resolveActor}
 use Rattle.judgement.specs.Check.{check}
 use Rattle.judgement.specs.WellFormed.{Bound, belowTop}
-use Rattle.judgement.proofs.Theorems.{check-says, actor-trees, check-numbers}
+use Rattle.judgement.proofs.Theorems.{check-says, actor-trees}
+use Rattle.judgement.proofs.Rows.{check-numbers}
 use Rattle.listing.specs.Chase.{chaseTypes, walked}
 use Rattle.refusals.specs.Outcome.{refused, given, after, fit}
 use Rattle.listing.specs.Room.{needsActor, ShortRow, EachOnce, AfterCheck, Most}
@@ -132,7 +133,7 @@ module _ (b : Book) (fits : Fits b) where
   list-in-row places = fit-row places (list b) _ (ListRow b places) own (λ l e. listed-once (list-says l .0 e .2 .1)) (λ k x. short x)
     where
       own : (r : Refusal) → list b ≡ refused r → ListRow b places r
-      own r e = after-actor b _ (ListRow b places) (λ r. checked) noActor (λ passed some. given-refused (sym e ∙ list-answered passed some .answer)) e
+      own r e = after-actor b fits _ (ListRow b places) (λ r. checked) noActor (λ passed some. given-refused (sym e ∙ list-answered passed some .answer)) e
 
 -- The rows that there are.
 pub list-numbers : {b : Book} {places : ℕ} {r : Refusal} → ListRow b places r → List·Memᴰ (numberOf r) listRows

@@ -27,7 +27,8 @@ use Rattle.judgement.specs.WellFormed.{Defined, WellFormedDefinitions, definedN
 use Rattle.judgement.specs.WellFormed as formed
 use Rattle.format.proofs.Distinct.{pigeonhole, ascends-distinct}
 use Rattle.judgement.proofs.Books.{main-definitions-fit}
-use Rattle.judgement.proofs.Theorems.{check-says, check-numbers}
+use Rattle.judgement.proofs.Theorems.{check-says}
+use Rattle.judgement.proofs.Rows.{check-numbers}
 use Rattle.listing.specs.Recursive.{Marks, marking, unbound, listed, inferRec, sorted}
 use Rattle.refusals.specs.Outcome.{refused, given, after, fit}
 use Rattle.listing.specs.Marks.{marked, marksOver, AtPlace, MarkedBy, MarksOver, AllDefined, FirstUnbound, MarksRow, marksRows, checked, short}
@@ -279,7 +280,7 @@ module _ (b : Book) (fits : Fits b) (l : List ℕ) (places : ℕ) where
     where
       own : (r : Refusal) → marksOver b l ≡ refused r → MarksRow b l places r
       own r e =
-          after-check b _ (MarksRow b l places) (λ r. checked) (λ passed.
+          after-check b fits _ (MarksRow b l places) (λ r. checked) (λ passed.
           elim (defined-or-first (mainDefinitions b) l) [
             | inl h ↦ given-refused (sym e ∙ marks-given b fits passed l h .1)
             | inr h ↦

@@ -47,7 +47,7 @@ use Rattle.listing.proofs.Room.{answered, actor-given, after-actor, fit
 use Rattle.format.proofs.Logic.{same-test}
 use Rattle.format.proofs.Admission.{asked-row, row-numbers}
 use Rattle.refusals.specs.Refusal.{numberOf}
-use Rattle.judgement.proofs.Theorems.{check-numbers}
+use Rattle.judgement.proofs.Rows.{check-numbers}
 use Rattle.format.specs.Admission.{onBytes, admissionRows, InRow, Source}
 use Rattle.refusals.proofs.Outcomes.{given-refused, same-refusal, after-given, same-given}
 use Rattle.listing.proofs.Demand3.{asked}
@@ -426,7 +426,7 @@ module _ (b : Book) (fits : Fits b) (asked : List ℕ) (places : ℕ) where
     where
       own : (r : Refusal) → project b asked ≡ refused r → ProjectRow b asked places r
       own r e =
-          after-actor b _ (ProjectRow b asked places) (λ r. checked) noActor (λ passed some.
+          after-actor b fits _ (ProjectRow b asked places) (λ r. checked) noActor (λ passed some.
           let x = passed-interface b passed some in
           elim (enough-or-absent (methodNames (x .0)) asked) [
             | inl h ↦ given-refused (sym e ∙ project-says b fits passed some (x .1) asked .1 h .1)

@@ -25,7 +25,7 @@ use Rattle.judgement.specs.Actor.{resolveActor}
 use Rattle.judgement.specs.Check.{check, member}
 use Rattle.judgement.specs.Rows.{CheckRow, InitRow, checkRows}
 use Rattle.refusals.proofs.Verdicts.{both-pass, pass-both, passed-refused, which-refused}
-use Rattle.judgement.proofs.Theorems.{check-row, check-numbers, init-numbers}
+use Rattle.judgement.proofs.Rows.{check-row, check-numbers, init-numbers}
 use Rattle.refusals.specs.Outcome.{Outcome, refused, given, after, fit, asked}
 use Rattle.listing.specs.Room.{needsActor, ShortRow, NoActorRow, Most}
 use borrow.Author.Tests.{leb-false}
@@ -76,10 +76,10 @@ actor-given b o e =
     (p .0, passed-actor (resolveActor b) (p .1))
 
 -- ---- A refusal lies in its row
-module _ (b : Book) {A : Type 0} (o : Outcome A) (Row : Refusal → Type 0) (checked : (r : Refusal) → CheckRow b r → Row r) {r : Refusal} where
+module _ (b : Book) (fits : Fits b) {A : Type 0} (o : Outcome A) (Row : Refusal → Type 0) (checked : (r : Refusal) → CheckRow b r → Row r) {r : Refusal} where
   -- a question that follows the check
   pub after-check : (check b ≡ Passed → Row r) → after (check b) o ≡ refused r → Row r
-  after-check on e = elim (after-refused (check b) o e) [ inl h ↦ checked r (check-row b h) | inr h ↦ on (h .0) ]
+  after-check on e = elim (after-refused (check b) o e) [ inl h ↦ checked r (check-row b fits h) | inr h ↦ on (h .0) ]
 
   -- and one that needs an actor
   pub after-actor : (NoActorRow b → Row NoActor) → (check b ≡ Passed → (resolveActor b ≡ end → ⊥) → Row r) →
@@ -87,7 +87,7 @@ module _ (b : Book) {A : Type 0} (o : Outcome A) (Row : Refusal → Type 0) (che
   after-actor none on e =
       elim (after-refused (andThen (check b) (needsActor (resolveActor b))) o e) [
         | inl h ↦ elim (which-refused (check b) (needsActor (resolveActor b)) h) [
-          | inl k ↦ checked r (check-row b k)
+          | inl k ↦ checked r (check-row b fits k)
           | inr k ↦ let x = actor-refused (resolveActor b) (k .1) in subst Row (x .1) (none (k .0, x .0))
         ]
         | inr h ↦ let p = both-pass (check b) (needsActor (resolveActor b)) (h .0) in on (p .0) (passed-actor (resolveActor b) (p .1))

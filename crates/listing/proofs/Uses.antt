@@ -37,7 +37,8 @@ use Rattle.judgement.proofs.Heads.{head-refers, named-no-class}
 use Rattle.judgement.proofs.Methods.{methods-keep}
 use Rattle.judgement.proofs.Lookup.{member-says}
 use Rattle.judgement.proofs.Books.{main-definitions-fit}
-use Rattle.judgement.proofs.Theorems.{check-says, actor-trees, check-numbers}
+use Rattle.judgement.proofs.Theorems.{check-says, actor-trees}
+use Rattle.judgement.proofs.Rows.{check-numbers}
 use Rattle.listing.specs.Chase.{going, push, arm, chase, meetName, visit, chaseTypes}
 use Rattle.refusals.specs.Handed.{Use}
 use Rattle.listing.specs.Sites.{Site, classSites, funcSites, kindSites, endSites, methodSites, typeOf, sites}
@@ -425,7 +426,7 @@ module _ (b : Book) (fits : Fits b) (n places : ℕ) where
   uses-in-row = fit-row places (uses b n) (UsesOf b n) (UsesRow b n places) own result (λ k x. short x)
     where
       own : (r : Refusal) → uses b n ≡ refused r → UsesRow b n places r
-      own r e = after-actor b _ (UsesRow b n places) (λ r. checked) noActor (λ passed some. given-refused (sym e ∙ uses-answered b fits passed some n)) e
+      own r e = after-actor b fits _ (UsesRow b n places) (λ r. checked) noActor (λ passed some. given-refused (sym e ∙ uses-answered b fits passed some n)) e
 
       result : (l : List Use) → uses b n ≡ given l → UsesOf b n l
       result l e =

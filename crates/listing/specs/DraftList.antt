@@ -33,7 +33,7 @@ draftList b =
 -- the first name without definition that is met in the walk. Each says that those before it have nothing to refuse.
 pub data DraftRefuses (b : Book) : Refusal → Type 0 where
   lacksActor : mainActor b ≡ end → DraftRefuses b NoActor
-  definesAgain : {n : ℕ} → (mainActor b ≡ end → ⊥) → FirstRepeat n (map definedName (draftDefinitions b)) → DraftRefuses b (Twice n)
+  definesAgain : {d : Definition} → (mainActor b ≡ end → ⊥) → FirstRepeat definedName (draftDefinitions b) d → DraftRefuses b (Twice (d .name))
   missesName : {n : ℕ} → (mainActor b ≡ end → ⊥) → Distinct (map definedName (draftDefinitions b)) →
       Misses (draftDefinitions b) (references (mainActor b)) [] [] n → DraftRefuses b (Unbound n)
 
