@@ -1,5 +1,5 @@
--- The verdict on the merge of an init file's definitions with main's. Assumes that each of the two defines a name once, and that the names
--- exist.
+-- The verdict on the merge of an init file's definitions with main's. Assumes that the book fits, that each of the two defines a name once,
+-- and that the names exist.
 --     merge-say     it passes, or 11: the lowest name that both define and not as the same
 --     agree-says    no name of the kind: what both define is the same
 use mathlib.Core.Path.{_≡_, refl, sym, subst, subst₂, _∙_}
@@ -13,6 +13,7 @@ use Rattle.format.specs.declared.Place.the-variants.{Root}
 use Rattle.format.specs.Forest.{Forest}
 use Rattle.format.specs.Node.{Node}
 use Rattle.format.specs.Book.{Definition, Book}
+use Rattle.format.specs.Fits.{Fits}
 use Rattle.refusals.specs.declared.Refusal.the-variants.{Differs}
 use Rattle.refusals.specs.declared.Verdict.{Verdict}
 use Rattle.refusals.specs.declared.Verdict.the-variants.{Passed}
@@ -20,9 +21,11 @@ use Rattle.judgement.specs.Environment.{mainDefinitions, initDefinitions
 use Rattle.judgement.specs.Check.{sameVerdict, mergeVerdict}
 use Rattle.format.specs.Distinct.{Distinct}
 use Rattle.judgement.specs.WellFormed.{definedName}
+use Rattle.judgement.specs.Same.{Same}
 use Rattle.judgement.specs.Rows.{Disagree}
 use Rattle.refusals.proofs.Verdicts.{passed-refused}
-use Rattle.judgement.proofs.Lookup.{find-body, find-named, find-missing, listed-defined}
+use Rattle.judgement.proofs.Lookup.{find-body, find-named, find-missing, listed-defined, keep-says}
+use Rattle.judgement.proofs.Same.{definitions-same}
 use Rattle.judgement.proofs.Says.{Says, says-unless, says-as}
 use Rattle.judgement.proofs.Each.{says-names}
 
@@ -31,17 +34,22 @@ holds : (t : Bool) → ((T t → ⊥) → ⊥) → T t
 holds true h = tt
 holds false h = h (λ z. z)
 
-module _ (b : Book) where
-  abbrev Same : Definition → Definition → Type 0
-  Same d e = T (sameForest (b .names) Root (d .body) (e .body))
+module _ (b : Book) (fits : Fits b) where
+  -- the test on two definitions
+  same-definitions : (d e : Definition) → List·Memᴰ d (initDefinitions b) → List·Memᴰ e (mainDefinitions b) →
+      T (sameForest (b .names) Root (d .body) (e .body)) ↔ Same (b .names) Root (d .body) (e .body)
+  unfolding initDefinitions mainDefinitions
+  same-definitions d e p q = definitions-same b fits d e (keep-says _ (b .definitions) d .0 p .0) (keep-says _ (b .definitions) e .0 q .0)
 
   -- What both files define is the same.
   abbrev pub Agree : Type 0
-  Agree = (d e : Definition) → List·Memᴰ d (initDefinitions b) → List·Memᴰ e (mainDefinitions b) → d .name ≡ e .name → Same d e
+  Agree = (d e : Definition) → List·Memᴰ d (initDefinitions b) → List·Memᴰ e (mainDefinitions b) → d .name ≡ e .name → Same (b .names) Root (d .body) (e .body)
 
   pub agree-says : ((n : ℕ) → Disagree b n → ⊥) ↔ Agree
   agree-says = (
-    λ h d e p q s. holds (sameForest (b .names) Root (d .body) (e .body)) (λ k. h (d .name) (d, e, p, q, refl, sym s, k)),
+    λ h d e p q s.
+        let i = same-definitions d e p q in
+        i .0 (holds (sameForest (b .names) Root (d .body) (e .body)) (λ k. h (d .name) (d, e, p, q, refl, sym s, λ x. k (i .1 x)))),
     λ h n z. z .6 (h (z .0) (z .1) (z .2) (z .3) (z .4 ∙ sym (z .5))),
   )
 
@@ -63,7 +71,7 @@ module _ (b : Book) where
             y .listed,
             x .of-name,
             y .of-name,
-            λ k. h (subst₂ (λ (v w : Forest Node). T (sameForest (b .names) Root v w)) (x .of-body) (y .of-body) k),
+            λ k. h (subst₂ (λ (v w : Forest Node). T (sameForest (b .names) Root v w)) (x .of-body) (y .of-body) (same-definitions (x .definition) (y .definition) (x .listed) (y .listed) .1 k)),
           )
 
       back : Disagree b n → T (sameForest (b .names) Root t u) → ⊥
@@ -72,7 +80,7 @@ module _ (b : Book) where
           let f : body (z .1 .body) ≡ body u = sym (find-named (mainDefinitions b) main (z .1) n (z .3) (z .5)) ∙ q in
           let e′ : t ≡ z .0 .body = cc in
           let f′ : u ≡ z .1 .body = cc in
-          z .6 (subst₂ (λ (v w : Forest Node). T (sameForest (b .names) Root v w)) e′ f′ k)
+          z .6 (same-definitions (z .0) (z .1) (z .2) (z .3) .0 (subst₂ (λ (v w : Forest Node). T (sameForest (b .names) Root v w)) e′ f′ k))
 
   module _ (init : Distinct (map definedName (initDefinitions b))) (main : Distinct (map definedName (mainDefinitions b))) where
     same-say : (n : ℕ) → Says (verdictOn n) (Disagree b n → ⊥) (λ r. (r ≡ Differs n) × Disagree b n)

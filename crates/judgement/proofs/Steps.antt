@@ -129,7 +129,7 @@ module _ (b : Book) where
       let once = main .0 .once in
       let walk : DefinitionsPass (initDefinitions b) → Says _ (Sound both-files true arguments) (Fault both-files true false arguments) = λ p.
       actor-walk both-files (merge-distinct (initDefinitions b) (mainDefinitions b) (p .0 .once) once) names arguments (fitting-kids names (initTree (b .files)) (init-tree-fits b fits)) in
-      says-as (says-then (decs-say names (initDefinitions b) fit) (λ p. says-then (merge-say b (p .0 .once) once (fit .exists)) (λ a. walk p))) (λ h. h, λ h. h) inits-order
+      says-as (says-then (decs-say names (initDefinitions b) fit) (λ p. says-then (merge-say b fits (p .0 .once) once (fit .exists)) (λ a. walk p))) (λ h. h, λ h. h) inits-order
 
   pub init-check-say : Fits b → Says (initCheck b) (Steps b × InitSteps) (λ r. CheckRefuses b r ⊎ (Steps b × InitRefuses b r))
   unfolding initCheck

@@ -70,10 +70,10 @@ module _ (b : Book) (fits : Fits b) (passed : check b ≡ Passed) where
       (actor-unique b once, λ e. subst (ActorOf b) (sym e) (actor-of b once (walked .service) (walked .imported)))
 
 -- ---- The init check
-init-typed : (b : Book) → InitSteps b ↔ (TypedInit b × RustInit b)
-init-typed b =
+init-typed : (b : Book) → Fits b → InitSteps b ↔ (TypedInit b × RustInit b)
+init-typed b fits =
     let formed = sound-formed (mergeDefinitions (initDefinitions b) (mainDefinitions b)) (kidsOf (initTree (b .files))) in
-    let agree = agree-says b in (
+    let agree = agree-says b fits in (
       λ s. let w = formed .0 (s .1 .1) in (record { definitions = s .0 .0; arguments = w .0 }, record { modes = s .0 .1; argumentModes = w .1; merged = agree .0 (s .1 .0) }),
       λ h. ((h .0 .definitions, h .1 .modes), (agree .1 (h .1 .merged), formed .1 (h .0 .arguments, h .1 .argumentModes))),
     )
@@ -82,7 +82,7 @@ pub init-check-says : (b : Book) → Fits b → (initCheck b ≡ Passed) ↔ ((T
 init-check-says b fits =
     let p = init-check-say b fits .passed in
     let s = steps-typed b fits in
-    let i = init-typed b in
+    let i = init-typed b fits in
     (λ e. let x = p .0 e in (s .0 (x .0), i .0 (x .1)), λ h. p .1 (s .1 (h .0), i .1 (h .1)))
 
 -- ---- Without an init file

@@ -5,7 +5,6 @@ use mathlib.Core.Logic.{_⊎_}
 use mathlib.Core.List.{List, [], _∷_, _++_, map, List·Memᴰ}
 use Prim.Native.Nat.{ℕ, zero, suc, _<_}
 use lib.ListN.{length}
-use lib.Dec.{T}
 use Rattle.format.specs.declared.Place.the-variants.{Root}
 use Rattle.format.specs.Forest.{Forest, end, tree, breadth}
 use Rattle.format.specs.Node.{FuncT, ServT, ClassT, FuncMode, Oneway, Node, labelValue}
@@ -13,11 +12,12 @@ use Rattle.format.specs.Book.{Definition, File, Book}
 use Rattle.format.specs.References.{references}
 use Rattle.refusals.specs.declared.Refusal.{Refusal}
 use Rattle.refusals.specs.declared.Refusal.the-variants.{Twice, Unbound, Class, Modes, Oneway as OnewayResults, Circle, NoFunction, MethodNoFunction, NoService, Differs, ImportWithoutActor, ImportNoService, SameHash}
-use Rattle.judgement.specs.Environment.{mainDefinitions, initDefinitions, mergeDefinitions, named, head, isFuncKind, kidsOf, sameForest}
+use Rattle.judgement.specs.Environment.{mainDefinitions, initDefinitions, mergeDefinitions, named, head, isFuncKind, kidsOf}
 use Rattle.judgement.specs.Actor.{serviceImports, mainActor, belowClass, initTree}
 use Rattle.format.specs.Occurs.{Occurs, Beside}
 use Rattle.judgement.specs.WellFormed.{definedName, Defined, StandsFor, belowTop}
 use Rattle.judgement.specs.Rust.{hashOf}
+use Rattle.judgement.specs.Same.{Same}
 use Rattle.judgement.specs.Meaning.{MeetsUnbound, LeadsElsewhere, Together, services, ActorOf}
 use Rattle.format.specs.Labels.{methodNames}
 
@@ -114,7 +114,7 @@ checkRows = 2 ∷ 3 ∷ 4 ∷ 5 ∷ 6 ∷ 7 ∷ 8 ∷ 9 ∷ 10 ∷ 12 ∷ 13 ∷
 abbrev pub Disagree : Book → ℕ → Type 0
 Disagree b n =
     (d e : Definition) × List·Memᴰ d (initDefinitions b) × List·Memᴰ e (mainDefinitions b) × (d .name ≡ n) × (e .name ≡ n)
-    × (T (sameForest (b .names) Root (d .body) (e .body)) → ⊥)
+    × (Same (b .names) Root (d .body) (e .body) → ⊥)
 
 -- The lowest name of which that holds.
 pub data MergeRow (b : Book) : Refusal → Type 0 where

@@ -13,9 +13,10 @@ use Rattle.format.specs.Book.{Definition, File, Book}
 use Rattle.format.specs.Occurs.{Occurs}
 use Rattle.format.specs.Distinct.{Distinct}
 use Rattle.format.specs.Labels.{methodNames}
-use Rattle.judgement.specs.Environment.{mainDefinitions, initDefinitions, kidsOf, sameForest}
+use Rattle.judgement.specs.Environment.{mainDefinitions, initDefinitions, kidsOf}
 use Rattle.judgement.specs.Actor.{serviceImports, mainActor, initTree, isClass}
 use Rattle.judgement.specs.WellFormed.{belowTop}
+use Rattle.judgement.specs.Same.{Same}
 use Rattle.judgement.specs.Meaning.{Together, services}
 
 -- At most one mode.
@@ -56,4 +57,4 @@ pub record Rust (b : Book) : Type 0 where
 pub record RustInit (b : Book) : Type 0 where
   pub modes : OneModeDefinitions (initDefinitions b)
   pub argumentModes : OneMode (kidsOf (initTree (b .files)))
-  pub merged : (d e : Definition) → List·Memᴰ d (initDefinitions b) → List·Memᴰ e (mainDefinitions b) → d .name ≡ e .name → T (sameForest (b .names) Root (d .body) (e .body))
+  pub merged : (d e : Definition) → List·Memᴰ d (initDefinitions b) → List·Memᴰ e (mainDefinitions b) → d .name ≡ e .name → Same (b .names) Root (d .body) (e .body)
