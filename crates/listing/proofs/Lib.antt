@@ -17,5 +17,6 @@ pub mod Marks
 pub mod Uses
 pub mod DefUse
 pub mod Project
+pub mod Rows
 pub mod Examples
 pub mod Demand3
