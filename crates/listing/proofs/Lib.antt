@@ -18,5 +18,6 @@ pub mod Marks
 pub mod Uses
 pub mod DefUse
 pub mod Project
+pub mod Rows
 pub mod Examples
 pub mod Demand3

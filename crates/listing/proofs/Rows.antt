@@ -1,0 +1,124 @@
+-- The other side of the questions' rows: what lies in a row is not answered. Assumes that the book fits; one that was read from bytes does.
+--     short-refuses                            16, of any question
+--     list-refuses, init-list-refuses, ..      a row of the question, and no list is given
+--     bytes-unanswered                         the same on bytes, of any question
+use mathlib.Core.Path.{_≡_, refl, sym, _∙_}
+use mathlib.Core.Logic.{_⊎_, inl, inr}
+use mathlib.Core.Bool.{false}
+use mathlib.Core.List.{List}
+use Prim.Native.Nat.{ℕ, _<_}
+use native.Mathlib.Omega.{arith}
+use lib.Dec.{leb}
+use lib.ListN.{length}
+use borrow.Author.Tests.{lt-leb}
+use Rattle.format.specs.Forest.{Forest, end, tree}
+use Rattle.format.specs.Node.{Node}
+use Rattle.format.specs.Book.{Book}
+use Rattle.format.specs.Fits.{Fits}
+use Rattle.format.specs.Admission.{InRow, Source, onBytes}
+use Rattle.format.proofs.Admission.{admitted-fits, admission-refuses, asked-is}
+use Rattle.refusals.specs.declared.Refusal.{Refusal}
+use Rattle.refusals.specs.declared.Refusal.the-variants.{Short}
+use Rattle.refusals.specs.declared.Verdict.{Verdict}
+use Rattle.refusals.specs.declared.Verdict.the-variants.{Passed, Refused}
+use Rattle.refusals.specs.Outcome.{Outcome, refused, given, asked, fit}
+use Rattle.refusals.proofs.Outcomes.{given-refused, fit-given}
+use Rattle.judgement.specs.Actor.{resolveActor}
+use Rattle.judgement.specs.Check.{check}
+use Rattle.judgement.specs.Rows.{CheckRow}
+use Rattle.judgement.proofs.Rows.{row-refuses, init-row-refuses}
+use Rattle.listing.specs.Room.{ShortRow, AfterCheck}
+use Rattle.listing.specs.List.{list, ListRow}
+use Rattle.listing.specs.InitList.{initList, InitListRow}
+use Rattle.listing.specs.Marks.{marksOver, MarksRow}
+use Rattle.listing.specs.Uses.{uses, UsesRow}
+use Rattle.listing.specs.Project.{project, ProjectRow}
+use Rattle.listing.specs.Empty.{emptiness, EmptinessRow}
+use Rattle.listing.specs.List as listed
+use Rattle.listing.specs.InitList as inits
+use Rattle.listing.specs.Marks as marks
+use Rattle.listing.specs.Uses as used
+use Rattle.listing.specs.Project as projected
+use Rattle.listing.specs.Empty as empty
+use Rattle.listing.proofs.Room.{actor-lacks}
+use Rattle.listing.proofs.List.{list-after}
+use Rattle.listing.proofs.InitList.{init-says}
+use Rattle.listing.proofs.Marks.{marks-unbound, marks-after}
+use Rattle.listing.proofs.Uses.{uses-after}
+use Rattle.listing.proofs.Project.{project-absent, project-after}
+use Rattle.listing.proofs.Empty.{emptiness-after}
+
+-- No list is given in so many places.
+abbrev pub Unanswered : {A : Type 0} → ℕ → Outcome (List A) → Type 0
+Unanswered {A} places o = (l : List A) → fit places o ≡ given l → ⊥
+
+module _ {A : Type 0} (places : ℕ) where
+  pub short-refuses : (o : Outcome (List A)) {Result : List A → Type 0} {k : ℕ} → ShortRow places o Result k → fit places o ≡ refused (Short k)
+  unfolding fit
+  short-refuses o x =
+      let h : leb (length (x .entries)) places ≡ false = lt-leb (length (x .entries)) places (omega (arith, x .short, x .needed)) in
+      rw (x .is-given, h, x .needed)
+
+  -- what is refused, whatever the places
+  refused-unanswered : (o : Outcome (List A)) {r : Refusal} → o ≡ refused r → Unanswered places o
+  refused-unanswered o e l g = given-refused (sym e ∙ fit-given places o g)
+
+  short-unanswered : (o : Outcome (List A)) {Result : List A → Type 0} {k : ℕ} → ShortRow places o Result k → Unanswered places o
+  short-unanswered o x l g = given-refused (sym (short-refuses o x) ∙ g)
+
+  -- a row of the check
+  checked-unanswered : (question : Book → Outcome (List A)) → AfterCheck question → (b : Book) → Fits b → {r : Refusal} → CheckRow b r → Unanswered places (question b)
+  checked-unanswered question stops b fits x = go (check b) refl
+    where
+      go : (v : Verdict) → check b ≡ v → Unanswered places (question b)
+      go Passed e = absurd (row-refuses b fits x e)
+      go (Refused s) e = refused-unanswered (question b) (stops b s e)
+
+  -- on bytes: a row of admission, or of the book
+  pub bytes-unanswered : (question : Book → Outcome (List A)) (Row : Book → Refusal → Type 0) {r : Refusal} →
+      ((b : Book) → Fits b → Row b r → Unanswered places (question b)) → (bs : Source) → InRow bs Row r → Unanswered places (onBytes question bs)
+  unfolding asked
+  bytes-unanswered question Row {r} row bs (inl x) = refused-unanswered (onBytes question bs) {r = r} (rw (admission-refuses bs x))
+  bytes-unanswered question Row {r} row bs (inr x) = rw (asked-is bs question (x .laidOut)) (row (x .book) (admitted-fits bs (x .laidOut)) (x .holds))
+
+none-or-some : (t : Forest Node) → (t ≡ end) ⊎ (t ≡ end → ⊥)
+none-or-some end = inl refl
+none-or-some (tree n kids next) = inr (λ e. let z : _≡_ {A = ℕ} 0 1 = cc in omega arith)
+
+-- ---- Each question
+module _ (b : Book) (fits : Fits b) (places : ℕ) where
+  pub list-refuses : {r : Refusal} → ListRow b places r → Unanswered places (list b)
+  unfolding list
+  list-refuses (listed.checked x) = checked-unanswered places list list-after b fits x
+  list-refuses (listed.noActor x) = refused-unanswered places (list b) (actor-lacks b _ (x .0) (x .1))
+  list-refuses (listed.short x) = short-unanswered places (list b) x
+
+  pub init-list-refuses : {r : Refusal} → InitListRow b places r → Unanswered places (initList b)
+  init-list-refuses (inits.checked x) = λ l g. init-row-refuses b fits x (init-says b fits l .0 (fit-given places (initList b) g) .0)
+  init-list-refuses (inits.short x) = short-unanswered places (initList b) x
+
+  pub emptiness-refuses : {r : Refusal} → EmptinessRow b places r → Unanswered places (emptiness b)
+  emptiness-refuses (empty.checked x) = checked-unanswered places emptiness emptiness-after b fits x
+  emptiness-refuses (empty.short x) = short-unanswered places (emptiness b) x
+
+  pub marks-refuses : (names : List ℕ) {r : Refusal} → MarksRow b names places r → Unanswered places (marksOver b names)
+  marks-refuses names (marks.checked x) = checked-unanswered places (λ c. marksOver c names) (marks-after names) b fits x
+  marks-refuses names (marks.unbound {n = n} x) = refused-unanswered places (marksOver b names) (marks-unbound b fits (x .0) names n .1 (x .1))
+  marks-refuses names (marks.short x) = short-unanswered places (marksOver b names) x
+
+  pub uses-refuses : (n : ℕ) {r : Refusal} → UsesRow b n places r → Unanswered places (uses b n)
+  unfolding uses
+  uses-refuses n (used.checked x) = checked-unanswered places (λ c. uses c n) (uses-after n) b fits x
+  uses-refuses n (used.noActor x) = refused-unanswered places (uses b n) (actor-lacks b _ (x .0) (x .1))
+  uses-refuses n (used.short x) = short-unanswered places (uses b n) x
+
+  pub project-refuses : (names : List ℕ) {r : Refusal} → ProjectRow b names places r → Unanswered places (project b names)
+  unfolding project
+  project-refuses names (projected.checked x) = checked-unanswered places (λ c. project c names) (project-after names) b fits x
+  project-refuses names (projected.noActor x) = refused-unanswered places (project b names) (actor-lacks b _ (x .0) (x .1))
+  project-refuses names (projected.absent x) =
+      elim (none-or-some (resolveActor b)) [
+        | inl e ↦ refused-unanswered places (project b names) (actor-lacks b _ (x .0) e)
+        | inr some ↦ refused-unanswered places (project b names) (project-absent b fits (x .0) some (x .3) names (x .4))
+      ]
+  project-refuses names (projected.short x) = short-unanswered places (project b names) x
