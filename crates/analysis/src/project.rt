@@ -10,7 +10,7 @@ ghost use Rattle.environment.specs.Trees.{Methods};
 ghost use Rattle.syntax.specs.Interfaces.{methodsIn};
 ghost use Rattle.listing.specs.Project.{projectFrom, projected};
 ghost use Rattle.refusals.specs.Handed.{HandedAs};
-ghost use Rattle.analysis.specs.Projecting.{Asking, countOne, lowerFar, LowestAs, placeAt, Room, MethodTaken, MethodsTaken, Services, AllProjected};
+ghost use Rattle.analysis.specs.Projecting.{Asking, AskedBy, countOne, lowerFar, LowestAs, placeAt, Room, MethodTaken, MethodsTaken, Services, AllProjected};
 use book::read::Node;
 use refusals::Answer;
 use refusals::Refusal;
@@ -79,7 +79,7 @@ fn count_asked(list: &[u16]) -> Asked
 
 // The lowest number still asked for, or NONE.
 fn lowest_left(left: &[usize], far: u32) -> u32
-    requires { ⌜ length (now left) ≡ 1024 ⌝ }
+    requires { ⌜ (length (now left) ≡ 1024) × ((l : List ℕ) × Asking (now left) far l) ⌝ }
     ensures { λ r. ⌜ LowestAs (now (left .entry)) far r ⌝ }
 {
     let mut n = 0;
@@ -163,7 +163,7 @@ fn project_methods(
     places: usize,
     out: &mut [u16],
 ) -> usize
-    requires { ⌜ Services (now rows) (now services) count × (length (now left) ≡ 1024) × (places ≤ length (now out)) ⌝ }
+    requires { ⌜ Services (now rows) (now services) count × (length (now left) ≡ 1024) × AskedBy (now left) × (places ≤ length (now out)) ⌝ }
     ensures { λ r. ⌜ AllProjected places (methodsIn (now (rows .entry)) (take count (now (services .entry))))
         (now (left .entry)) (now (out .entry)) (now (left .exit)) (now (out .exit)) r ⌝ }
 {
