@@ -16,6 +16,7 @@ ghost use Rattle.analysis.specs.Entries.{usesBy, put, Puts, AtMost, hit,
 use book::kinds::Kind;
 use book::read::Node;
 use environment::Table;
+use syntax::interface::ByFile;
 
 // An entry's method where it is an argument of the actor's class.
 const CLASS: u16 = 65535;
@@ -125,7 +126,7 @@ fn put_func(
 {
     let t = Node::at(rows, f);
     let until = f + t.size;
-    let arguments = (t.value % 65536) as usize;
+    let arguments = (t.value % Node::HALF) as usize;
     let results = skip(rows, f + 1, until, arguments);
     let at = put_trees(rows, near, f + 1, results, method, 0, k, places, out);
     put_trees(rows, near, results, until, method, 1, at, places, out)
@@ -208,7 +209,7 @@ pub fn put_uses(
     near: &[u16],
     from: usize,
     until: usize,
-    services: [u16; 16],
+    services: ByFile,
     count: usize,
     places: usize,
     out: &mut [u16],

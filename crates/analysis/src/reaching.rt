@@ -9,18 +9,19 @@ ghost use Rattle.environment.specs.Tables.{definitionsIn};
 ghost use Rattle.book.specs.Tables.{zeroTable, noFlags};
 ghost use Rattle.analysis.specs.Reaching.{BookRows, ReachAs, FirstHit, NearAs, Defining, OwnersAs, noRows, noPlaces, LinksAs, KeptFrom, KeptElse, Linked, NearestAs};
 use book::kinds::Kind;
+use book::kinds::Limits;
 use book::read::Entry;
 use book::read::Node;
 use book::tables::Flags;
 
 // For each row the first row from it on that tells; the number of rows where there is none.
-pub type Near = [u16; 4097];
+pub type Near = [u16; Limits::NODES + 1];
 
 // A table that has nothing.
 pub fn no_places() -> Near
     ensures { λ r. ⌜ r ≡ noPlaces ⌝ }
 {
-    [0u16; 4097]
+    [0; Limits::NODES + 1]
 }
 
 // Row i if it is a name with its flag set, else `last`, which is the first such row after it.
@@ -55,12 +56,12 @@ fn nearest(rows: &[u8], nodes: usize, flags: &[u8], near: &mut [u16])
 }
 
 // A number for each row.
-type ByRow = [u16; 4096];
+type ByRow = [u16; Limits::NODES];
 
 fn no_rows() -> ByRow
     ensures { λ r. ⌜ r ≡ noRows ⌝ }
 {
-    [0u16; 4096]
+    [0; Limits::NODES]
 }
 
 // Writes for each row one more than the name whose definition it lies in, in a table that has nothing; 0 where it lies in none.
