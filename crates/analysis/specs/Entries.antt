@@ -1,8 +1,8 @@
 -- The entries of uses, as the code counts and writes them, and what its functions ask. Definitions; assumes nothing.
 --     usesBy              the entries of the sites that pass a test
 --     putAll, Puts        entries in a lent slice
---     HitsIn              a test of types, by the numbers that the code has for nodes
---     Known, Offered      what is known of a book, and what is asked of an interface
+--     HitsIn, Tested      a test of types, by the numbers that the code has for nodes
+--     EndTested, Served, Offered   what is asked of a chain's end, of a service and of an interface
 use mathlib.Core.Path.{_≡_}
 use mathlib.Core.Bool.{Bool, cond}
 use mathlib.Core.List.{List, [], _∷_, map}
@@ -14,8 +14,9 @@ use Rattle.format.specs.Forest.{Forest, breadth}
 use Rattle.format.specs.Node.{Node}
 use Rattle.format.specs.Book.{Definition}
 use Rattle.format.specs.Layout.{rowAt, siblings}
-use Rattle.format.specs.Whole.{Whole, treeAt}
-use Rattle.environment.specs.Tables.{Nodes, EndNodes, Chains}
+use Rattle.format.specs.Whole.{Whole, WholeAt, treeAt}
+use Rattle.judgement.specs.Environment.{End}
+use Rattle.environment.specs.Tables.{Nodes, EndNodes, EndAt, Chains, Ended}
 use Rattle.refusals.specs.Handed.{Use, numbers}
 use Rattle.listing.specs.Sites.{Site}
 use Rattle.listing.specs.Uses.{kept, entryOf}
@@ -60,6 +61,11 @@ hit near i e = ltb (getD near i 0) e
 pub record HitsIn (used : Test) (ns near : List ℕ) (from until : ℕ) : Type 0 where
   pub agrees : (i : ℕ) → from ≤ i → i < until → used (treeAt ns i) ≡ hit near i (i + rowAt ns i .size)
 
+-- The numbers are those of some test.
+pub record Tested (ns near : List ℕ) (from until : ℕ) : Type 0 where
+  pub used : Test
+  pub hits : HitsIn used ns near from until
+
 -- ---- Trees beside each other
 
 -- Node `at` stands after the first `count` trees from node `from` up to node `until`; after all of them where they are fewer.
@@ -71,13 +77,28 @@ pub record SkipsTo (ns : List ℕ) (from until count at : ℕ) : Type 0 where
 
 -- ---- Methods
 
+-- A chain ends at node e, or nowhere: what its end is, and a test of what stands there.
+pub record EndTested (ns near : List ℕ) (e : ℕ) : Type 0 where
+  pub whole : (e ≡ 65535 → ⊥) → WholeAt ns e
+  pub reached : End
+  pub is : EndAt ns e reached
+  pub used : Test
+  pub hits : (e ≡ 65535 → ⊥) → HitsIn used ns near e (e + rowAt ns e .size)
+
 -- What is known of a book: its table of alias ends is that of the definitions, and the test says what the numbers say.
 pub record Known (ns ends′ near : List ℕ) (names nodes : ℕ) (ds : List Definition) (used : Test) : Type 0 where
   pub chains : Chains ns ends′ names ds
   pub hits : HitsIn used ns near 0 nodes
 
--- An interface in a book: a class's arguments, which are the trees from node `from` up to node `until`, and services.
-pub record Offered (ns ends′ : List ℕ) (from until : ℕ) (services : List ℕ) (count : ℕ) : Type 0 where
+-- A service in a book of some definitions.
+pub record Served (ns ends′ near : List ℕ) (service : ℕ) : Type 0 where
+  pub ended : Ended ns ends′ service
+  pub definitions : List Definition
+  pub used : Test
+  pub known : Known ns ends′ near (ended .names) (ended .count) definitions used
+
+-- An interface in a book of some definitions: a class's arguments, which are the trees from node `from` up to node `until`, and services.
+pub record Offered (ns ends′ near : List ℕ) (from until : ℕ) (services : List ℕ) (count : ℕ) : Type 0 where
   pub names : ℕ
   pub nodes : ℕ
   pub book : Nodes ns names nodes
@@ -86,3 +107,6 @@ pub record Offered (ns ends′ : List ℕ) (from until : ℕ) (services : List �
   pub inside : until ≤ nodes
   pub few : count ≤ 16
   pub service : (k : ℕ) → k < count → getD services k 0 < nodes
+  pub definitions : List Definition
+  pub used : Test
+  pub known : Known ns ends′ near names nodes definitions used

@@ -4,7 +4,10 @@ use mathlib.Core.Bool.{true, false}
 use mathlib.Core.List.{List}
 use Prim.Native.Nat.{ℕ}
 use lib.ListN.{length}
-use Rattle.listing.specs.Recursive.{marking, unbound}
+use Rattle.format.specs.Book.{Definition}
+use Rattle.environment.specs.Tables.{Binds}
+use Rattle.book.specs.Tables.{noFlags}
+use Rattle.listing.specs.Recursive.{marking, unbound, inferFrom}
 use Rattle.listing.specs.Recursive as listing
 use Rattle.analysis.specs.declared.recursive.Marks.{Marks}
 use Rattle.analysis.specs.Book.{Agrees}
@@ -25,3 +28,19 @@ pub record StoppedAt (n : ℕ) (r : Marks) : Type 0 where
 abbrev pub MarksHold : listing.Marks → Marks → Type 0
 MarksHold (marking seen set) r = Flagged seen set r
 MarksHold (unbound n) r = StoppedAt n r
+
+-- No name is seen, and none marked.
+unfoldable pub nothingMarked : Marks
+nothingMarked = record { seen = noFlags; marked = noFlags; stopped = false; bad = 0 }
+
+-- Marks that nothing has stopped, and definitions that the table of roots is of.
+pub record Begun (ns roots : List ℕ) (m : Marks) : Type 0 where
+  pub definitions : List Definition
+  pub binds : Binds ns roots definitions
+  pub seen-by : List ℕ
+  pub marked-by : List ℕ
+  pub holds : Flagged seen-by marked-by m
+
+-- From m the names of a list lead to r.
+pub record InferredAs (ns roots list : List ℕ) (m r : Marks) : Type 0 where
+  pub holds : (x : Begun ns roots m) → MarksHold (inferFrom (x .definitions) list (marking (x .seen-by) (x .marked-by))) r

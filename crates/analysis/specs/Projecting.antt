@@ -24,6 +24,12 @@ pub record Asking (left : List ℕ) (far : ℕ) (l : List ℕ) : Type 0 where
   pub least : (n : ℕ) → 1024 ≤ n → 0 < times n l → far ≤ n
   pub small : (n : ℕ) → 0 < times n l → n < 65536
 
+-- The counts are those of some list of asked numbers.
+pub record AskedBy (left : List ℕ) : Type 0 where
+  pub far : ℕ
+  pub list : List ℕ
+  pub asking : Asking left far list
+
 -- One more number asked for.
 unfoldable pub countOne : ℕ → List ℕ → List ℕ
 countOne n left = cond (ltb n 1024) (set left n (getD left n 0 + 1)) left
@@ -79,6 +85,7 @@ pub record Room (places nodes : ℕ) (w : Underway) : Type 0 where
   pub few : w .at + nodes ≤ 65536
   pub fewer : w .taken ≤ w .at
   pub names : length (w .left) ≡ 1024
+  pub asked : AskedBy (w .left)
   pub held : places ≤ length (w .out)
 
 -- The method at a position, with name n.

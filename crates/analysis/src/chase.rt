@@ -8,15 +8,20 @@ ghost use Rattle.syntax.specs.Interfaces.{interfaceTree};
 ghost use Rattle.analysis.specs.Book.{Readable};
 ghost use Rattle.analysis.specs.Walking.{Started, ChasedAs, isNew, Scanned, NextNew, Counted, noList, nothingMet, WalkedAs, RootIn, InterfaceIn};
 use book::kinds::Kind;
+use book::kinds::Limits;
 use book::read::Entry;
 use book::read::Node;
+use book::tables::Flags;
 use environment::Table;
 use syntax::interface::Interface;
 
+// A number for each of the 512 definitions.
+pub type ByDefinition = [u16; Limits::DEFINITIONS];
+
 // How far a walk has come: a mark for each name seen, the names listed so far, and the name without definition that stopped it.
 pub struct Walk {
-    pub seen: [u8; 1024],
-    pub list: [u16; 512],
+    pub seen: Flags,
+    pub list: ByDefinition,
     pub len: usize,
     pub stopped: bool,
     pub bad: u16,
@@ -49,13 +54,10 @@ fn next_new(rows: &[u8], seen: &[u8], from: usize, until: usize) -> usize
     until
 }
 
-// A number for each name that is being gone into.
-type Stack = [u16; 512];
-
-fn no_stack() -> Stack
+fn no_stack() -> ByDefinition
     ensures { λ r. ⌜ r ≡ noList ⌝ }
 {
-    [0u16; 512]
+    [0; Limits::DEFINITIONS]
 }
 
 // The names of the nodes from `from` up to `until`, from left to right. Nothing recurses, so that marks and list are copied once and not for
@@ -123,8 +125,8 @@ fn fresh() -> Walk
     ensures { λ r. ⌜ r ≡ nothingMet ⌝ }
 {
     Walk {
-        seen: [0u8; 1024],
-        list: [0u16; 512],
+        seen: [0; Limits::NAMES],
+        list: [0; Limits::DEFINITIONS],
         len: 0,
         stopped: false,
         bad: 0,

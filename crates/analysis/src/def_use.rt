@@ -3,22 +3,20 @@
 // numbers `near`, by which the trees from node i up to node e use the name exactly if near[i] < e.
 ghost use mathlib.Core.Path.{_≡_};
 ghost use mathlib.Core.Bool.{cond};
-ghost use mathlib.Core.List.{List, [], _∷_, _++_};
+ghost use mathlib.Core.List.{[], _∷_, _++_};
 ghost use Prim.Native.Nat.{_+_, _-_, _*_, _%_, _≤_, _<_};
 ghost use lib.ListN.{length, take};
 ghost use Rattle.format.specs.Forest.{breadth};
-ghost use Rattle.format.specs.Book.{Definition};
 ghost use Rattle.format.specs.Layout.{rowAt, siblings};
 ghost use Rattle.format.specs.Whole.{Whole, WholeAt};
-ghost use Rattle.judgement.specs.Environment.{End};
-ghost use Rattle.environment.specs.Tables.{EndAt, Ended};
 ghost use Rattle.syntax.specs.Interfaces.{methodsIn};
 ghost use Rattle.listing.specs.Sites.{classSites, funcSites, endSites, methodSites};
 ghost use Rattle.listing.specs.Offers.{indexed};
-ghost use Rattle.analysis.specs.Entries.{Test, usesBy, put, Puts, AtMost, hit, HitsIn, SkipsTo, Known, Offered};
+ghost use Rattle.analysis.specs.Entries.{usesBy, put, Puts, AtMost, hit, Tested, SkipsTo, EndTested, Served, Offered};
 use book::kinds::Kind;
 use book::read::Node;
 use environment::Table;
+use syntax::interface::ByFile;
 
 // An entry's method where it is an argument of the actor's class.
 const CLASS: u16 = 65535;
@@ -72,10 +70,11 @@ fn put_trees(
     places: usize,
     out: &mut [u16],
 ) -> usize
-    requires { ⌜ Whole (now rows) from until × (length (now near) ≡ 4097) × (3 * places ≤ length (now out)) × (k + (until - from) ≤ 4294967295) ⌝ }
+    requires { ⌜ Whole (now rows) from until × Tested (now rows) (now near) from until × (length (now near) ≡ 4097)
+        × (3 * places ≤ length (now out)) × (k + (until - from) ≤ 4294967295) ⌝ }
     ensures most { λ r. ⌜ AtMost (until - from) k (now (out .entry)) (now (out .exit)) r ⌝ }
-    ensures puts { λ r. ⌜ ((used : Test) → HitsIn used (now (rows .entry)) (now (near .entry)) from until →
-        Puts places k (usesBy used (indexed method result 0 (siblings (now (rows .entry)) from until))) (now (out .entry)) (now (out .exit)) r) ⌝ }
+    ensures puts { λ r. ⌜ ((x : Tested (now (rows .entry)) (now (near .entry)) from until) →
+        Puts places k (usesBy (x .used) (indexed method result 0 (siblings (now (rows .entry)) from until))) (now (out .entry)) (now (out .exit)) r) ⌝ }
 {
     let mut i = from;
     let mut index: u16 = 0;
@@ -118,15 +117,16 @@ fn put_func(
     places: usize,
     out: &mut [u16],
 ) -> usize
-    requires { ⌜ WholeAt (now rows) f × (length (now near) ≡ 4097) × (3 * places ≤ length (now out)) × (k + 4096 ≤ 4294967295) ⌝ }
+    requires { ⌜ WholeAt (now rows) f × Tested (now rows) (now near) f (f + rowAt (now rows) f .size) × (length (now near) ≡ 4097)
+        × (3 * places ≤ length (now out)) × (k + 4096 ≤ 4294967295) ⌝ }
     ensures most { λ r. ⌜ AtMost 4096 k (now (out .entry)) (now (out .exit)) r ⌝ }
-    ensures puts { λ r. ⌜ ((used : Test) → HitsIn used (now (rows .entry)) (now (near .entry)) f (f + rowAt (now (rows .entry)) f .size) →
-        Puts places k (usesBy used (funcSites method (rowAt (now (rows .entry)) f .value % 65536) 0 (siblings (now (rows .entry)) (f + 1) (f + rowAt (now (rows .entry)) f .size))))
+    ensures puts { λ r. ⌜ ((x : Tested (now (rows .entry)) (now (near .entry)) f (f + rowAt (now (rows .entry)) f .size)) →
+        Puts places k (usesBy (x .used) (funcSites method (rowAt (now (rows .entry)) f .value % 65536) 0 (siblings (now (rows .entry)) (f + 1) (f + rowAt (now (rows .entry)) f .size))))
         (now (out .entry)) (now (out .exit)) r) ⌝ }
 {
     let t = Node::at(rows, f);
     let until = f + t.size;
-    let arguments = (t.value % 65536) as usize;
+    let arguments = (t.value % Node::HALF) as usize;
     let results = skip(rows, f + 1, until, arguments);
     let at = put_trees(rows, near, f + 1, results, method, 0, k, places, out);
     put_trees(rows, near, results, until, method, 1, at, places, out)
@@ -142,11 +142,10 @@ fn put_end(
     places: usize,
     out: &mut [u16],
 ) -> usize
-    requires { ⌜ ((e ≡ 65535 → ⊥) → WholeAt (now rows) e) × (length (now near) ≡ 4097) × (3 * places ≤ length (now out)) × (k + 4096 ≤ 4294967295) ⌝ }
+    requires { ⌜ EndTested (now rows) (now near) e × (length (now near) ≡ 4097) × (3 * places ≤ length (now out)) × (k + 4096 ≤ 4294967295) ⌝ }
     ensures most { λ r. ⌜ AtMost 4096 k (now (out .entry)) (now (out .exit)) r ⌝ }
-    ensures puts { λ r. ⌜ ((x : End) → EndAt (now (rows .entry)) e x → (used : Test) →
-        ((e ≡ 65535 → ⊥) → HitsIn used (now (rows .entry)) (now (near .entry)) e (e + rowAt (now (rows .entry)) e .size)) →
-        Puts places k (usesBy used (endSites method x)) (now (out .entry)) (now (out .exit)) r) ⌝ }
+    ensures puts { λ r. ⌜ ((x : EndTested (now (rows .entry)) (now (near .entry)) e) →
+        Puts places k (usesBy (x .used) (endSites method (x .reached))) (now (out .entry)) (now (out .exit)) r) ⌝ }
 {
     if e == Table::NONE {
         return k;
@@ -176,13 +175,12 @@ fn put_methods(
     places: usize,
     out: &mut [u16],
 ) -> Counted
-    requires { ⌜ Ended (now rows) (now ends) service × (length (now near) ≡ 4097)
+    requires { ⌜ Served (now rows) (now ends) (now near) service × (length (now near) ≡ 4097)
         × (3 * places ≤ length (now out)) × (first ≤ 61440) × (k + 16777216 ≤ 4294967295) ⌝ }
     ensures position { λ r. ⌜ r .methods ≡ first + breadth (siblings (now (rows .entry)) (service + 1) (service + rowAt (now (rows .entry)) service .size)) ⌝ }
     ensures most { λ r. ⌜ AtMost 16777216 k (now (out .entry)) (now (out .exit)) (r .entries) ⌝ }
-    ensures puts { λ r. ⌜ ((x : Ended (now (rows .entry)) (now (ends .entry)) service) (ds : List Definition) (used : Test) →
-        Known (now (rows .entry)) (now (ends .entry)) (now (near .entry)) (x .names) (x .count) ds used →
-        Puts places k (usesBy used (methodSites ds first (siblings (now (rows .entry)) (service + 1) (service + rowAt (now (rows .entry)) service .size))))
+    ensures puts { λ r. ⌜ ((x : Served (now (rows .entry)) (now (ends .entry)) (now (near .entry)) service) →
+        Puts places k (usesBy (x .used) (methodSites (x .definitions) first (siblings (now (rows .entry)) (service + 1) (service + rowAt (now (rows .entry)) service .size))))
         (now (out .entry)) (now (out .exit)) (r .entries)) ⌝ }
 {
     let t = Node::at(rows, service);
@@ -211,18 +209,17 @@ pub fn put_uses(
     near: &[u16],
     from: usize,
     until: usize,
-    services: [u16; 16],
+    services: ByFile,
     count: usize,
     places: usize,
     out: &mut [u16],
 ) -> usize
-    requires { ⌜ Offered (now rows) (now ends) from until services count × (length (now near) ≡ 4097)
+    requires { ⌜ Offered (now rows) (now ends) (now near) from until services count × (length (now near) ≡ 4097)
         × (3 * places ≤ length (now out)) ⌝ }
     ensures most { λ r. ⌜ AtMost 268439552 0 (now (out .entry)) (now (out .exit)) r ⌝ }
-    ensures puts { λ r. ⌜ ((o : Offered (now (rows .entry)) (now (ends .entry)) from until services count) (ds : List Definition) (used : Test) →
-        Known (now (rows .entry)) (now (ends .entry)) (now (near .entry)) (o .names) (o .nodes) ds used →
+    ensures puts { λ r. ⌜ ((x : Offered (now (rows .entry)) (now (ends .entry)) (now (near .entry)) from until services count) →
         Puts places 0
-        (usesBy used (classSites 0 (siblings (now (rows .entry)) from until) ++ methodSites ds 0 (methodsIn (now (rows .entry)) (take count services))))
+        (usesBy (x .used) (classSites 0 (siblings (now (rows .entry)) from until) ++ methodSites (x .definitions) 0 (methodsIn (now (rows .entry)) (take count services))))
         (now (out .entry)) (now (out .exit)) r) ⌝ }
 {
     let mut at = put_trees(rows, near, from, until, CLASS, 0, 0, places, out);

@@ -6,21 +6,22 @@ ghost use Rattle.book.specs.Tables.{flagged};
 ghost use Rattle.refusals.specs.Outcome.{given};
 ghost use Rattle.analysis.specs.Handed.{noNames};
 ghost use Rattle.refusals.specs.Handed.{HandedAs};
+use book::kinds::Limits;
 use refusals::Answer;
 
 // Name numbers: the first `len` of the list.
 pub struct Names {
-    pub list: [u16; 1024],
+    pub list: NameList,
     pub len: usize,
 }
 
-pub type NameList = [u16; 1024];
+pub type NameList = [u16; Limits::NAMES];
 
 // A list to fill.
 fn no_names() -> NameList
     ensures { λ r. ⌜ r ≡ noNames ⌝ }
 {
-    [0u16; 1024]
+    [0; Limits::NAMES]
 }
 
 // The names below `names` whose flag is set, ascending.

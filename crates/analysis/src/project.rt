@@ -10,17 +10,18 @@ ghost use Rattle.environment.specs.Trees.{Methods};
 ghost use Rattle.syntax.specs.Interfaces.{methodsIn};
 ghost use Rattle.listing.specs.Project.{projectFrom, projected};
 ghost use Rattle.refusals.specs.Handed.{HandedAs};
-ghost use Rattle.analysis.specs.Projecting.{Asking, countOne, lowerFar, LowestAs, placeAt, Room, MethodTaken, MethodsTaken, Services, AllProjected};
+ghost use Rattle.analysis.specs.Projecting.{Asking, AskedBy, countOne, lowerFar, LowestAs, placeAt, Room, MethodTaken, MethodsTaken, Services, AllProjected};
+use book::kinds::Limits;
 use book::read::Node;
 use refusals::Answer;
 use refusals::Refusal;
 
 // How often each of the 1,024 names is asked for.
-type Counts = [usize; 1024];
+type Counts = [usize; Limits::NAMES];
 
 // The asked numbers: how often each below 1,024, and the lowest other one, which is no name of any book; NONE where there is none.
 struct Asked {
-    pub left: [usize; 1024],
+    pub left: Counts,
     pub far: u32,
 }
 
@@ -32,7 +33,7 @@ impl Asked {
 fn no_counts() -> Counts
     ensures { λ r. ⌜ r ≡ noFlags ⌝ }
 {
-    [0usize; 1024]
+    [0; Limits::NAMES]
 }
 
 // Counts a number, where it is a name.
@@ -40,10 +41,10 @@ fn count_one(left: &mut [usize], n: u16)
     requires { ⌜ (length (now left) ≡ 1024) × (getD (now left) n 0 + 1 < 18446744073709551616) ⌝ }
     ensures { λ _. ⌜ now (left .exit) ≡ countOne n (now (left .entry)) ⌝ }
 {
-    if n >= 1024 {
+    let i = n as usize;
+    if i >= Limits::NAMES {
         return;
     }
-    let i = n as usize;
     left[i] = left[i] + 1;
 }
 
@@ -51,7 +52,7 @@ fn count_one(left: &mut [usize], n: u16)
 fn lower_far(far: u32, n: u16) -> u32
     ensures { λ r. ⌜ r ≡ lowerFar n far ⌝ }
 {
-    if n < 1024 {
+    if (n as usize) < Limits::NAMES {
         return far;
     }
     let m = n as u32;
@@ -79,11 +80,11 @@ fn count_asked(list: &[u16]) -> Asked
 
 // The lowest number still asked for, or NONE.
 fn lowest_left(left: &[usize], far: u32) -> u32
-    requires { ⌜ length (now left) ≡ 1024 ⌝ }
+    requires { ⌜ (length (now left) ≡ 1024) × ((l : List ℕ) × Asking (now left) far l) ⌝ }
     ensures { λ r. ⌜ LowestAs (now (left .entry)) far r ⌝ }
 {
     let mut n = 0;
-    while n < 1024 {
+    while n < Limits::NAMES {
         if left[n] != 0 {
             return n as u32;
         }
@@ -163,7 +164,7 @@ fn project_methods(
     places: usize,
     out: &mut [u16],
 ) -> usize
-    requires { ⌜ Services (now rows) (now services) count × (length (now left) ≡ 1024) × (places ≤ length (now out)) ⌝ }
+    requires { ⌜ Services (now rows) (now services) count × (length (now left) ≡ 1024) × AskedBy (now left) × (places ≤ length (now out)) ⌝ }
     ensures { λ r. ⌜ AllProjected places (methodsIn (now (rows .entry)) (take count (now (services .entry))))
         (now (left .entry)) (now (out .entry)) (now (left .exit)) (now (out .exit)) r ⌝ }
 {

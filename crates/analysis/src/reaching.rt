@@ -9,17 +9,19 @@ ghost use Rattle.environment.specs.Tables.{definitionsIn};
 ghost use Rattle.book.specs.Tables.{zeroTable, noFlags};
 ghost use Rattle.analysis.specs.Reaching.{BookRows, ReachAs, FirstHit, NearAs, Defining, OwnersAs, noRows, noPlaces, LinksAs, KeptFrom, KeptElse, Linked, NearestAs};
 use book::kinds::Kind;
+use book::kinds::Limits;
 use book::read::Entry;
 use book::read::Node;
+use book::tables::Flags;
 
 // For each row the first row from it on that tells; the number of rows where there is none.
-pub type Near = [u16; 4097];
+pub type Near = [u16; Limits::NODES + 1];
 
 // A table that has nothing.
 pub fn no_places() -> Near
     ensures { λ r. ⌜ r ≡ noPlaces ⌝ }
 {
-    [0u16; 4097]
+    [0; Limits::NODES + 1]
 }
 
 // Row i if it is a name with its flag set, else `last`, which is the first such row after it.
@@ -54,12 +56,12 @@ fn nearest(rows: &[u8], nodes: usize, flags: &[u8], near: &mut [u16])
 }
 
 // A number for each row.
-type ByRow = [u16; 4096];
+type ByRow = [u16; Limits::NODES];
 
 fn no_rows() -> ByRow
     ensures { λ r. ⌜ r ≡ noRows ⌝ }
 {
-    [0u16; 4096]
+    [0; Limits::NODES]
 }
 
 // Writes for each row one more than the name whose definition it lies in, in a table that has nothing; 0 where it lies in none.
@@ -112,13 +114,14 @@ fn link(rows: &[u8], nodes: usize, head: &mut [u16], next: &mut [u16])
 
 // Sets the flag of each name that is the wanted one or from which it is reached by references; none is set before. The names that are
 // flagged wait in a queue until the definitions that refer to them are flagged too.
-fn reaching(owner: &[u16], head: &[u16], next: &[u16], wanted: usize, flags: &mut [u8])
-    requires { ⌜ Linked (now owner) (now head) (now next) × (wanted < 1024) × (now flags ≡ noFlags) ⌝ }
+fn reaching(owner: &[u16], head: &[u16], next: &[u16], wanted: usize, flags: Flags) -> Flags
+    requires { ⌜ Linked (now owner) (now head) (now next) × (wanted < 1024) × (flags ≡ noFlags) ⌝ }
     ensures { λ r. ⌜ ((x : Linked (now (owner .entry)) (now (head .entry)) (now (next .entry))) →
-        ReachAs (definitionsIn (x .rows) (x .entries) 0 (x .definitions)) wanted (now (flags .exit))) ⌝ }
+        ReachAs (definitionsIn (x .rows) (x .entries) 0 (x .definitions)) wanted r) ⌝ }
 {
+    let mut flagged = flags;
     let mut queue = book::tables::no_links();
-    flags[wanted] = 1;
+    flagged[wanted] = 1;
     queue[0] = wanted as u16;
     let mut len = 1;
     let mut q = 0;
@@ -133,15 +136,16 @@ fn reaching(owner: &[u16], head: &[u16], next: &[u16], wanted: usize, flags: &mu
                 continue;
             }
             let n = o - 1;
-            if flags[n] == 1 {
+            if flagged[n] == 1 {
                 continue;
             }
-            flags[n] = 1;
+            flagged[n] = 1;
             queue[len] = n as u16;
             len += 1;
         }
         q += 1;
     }
+    flagged
 }
 
 // Finds for each row the first row from it on that is a name which is the wanted one or reaches it by references; `nodes` where there is
@@ -162,7 +166,6 @@ pub fn find_nearest(
     owners(entries, rows, names, nodes, definitions, &mut owner);
     let mut head = book::tables::no_links();
     link(rows, nodes, &mut head, near);
-    let mut flags = book::tables::no_flags();
-    reaching(&owner, &head, near, wanted, &mut flags);
+    let flags = reaching(&owner, &head, near, wanted, book::tables::no_flags());
     nearest(rows, nodes, &flags, near);
 }

@@ -1,24 +1,34 @@
-// The names to be boxed: `infer_rec`. Asks for a book's nodes and its table of roots. A definition's rows are gone through in order, so
-// nothing recurses, and in the loop over the list itself, so that flags are copied once alone, into the answer. A name listed again is
-// passed over: all that its definition refers to is seen by then.
+// The names to be boxed: `infer_rec`. Asks for a book's nodes and its table of roots. Marks go by value, once a walk: a definition's rows are
+// gone through in order, so nothing recurses, and in the loop over the list itself. A name listed again is passed over: all that its
+// definition refers to is seen by then.
 ghost use mathlib.Core.Path.{_≡_};
-ghost use mathlib.Core.List.{List};
 ghost use lib.ListN.{length, getD};
-ghost use Rattle.format.specs.Book.{Definition};
-ghost use Rattle.environment.specs.Tables.{Binds};
-ghost use Rattle.listing.specs.Recursive.{inferRec};
 ghost use Rattle.analysis.specs.Book.{Rooted};
-ghost use Rattle.analysis.specs.Marking.{MarksHold};
+ghost use Rattle.analysis.specs.Marking.{nothingMarked, Begun, InferredAs};
 use book::kinds::Kind;
+use book::kinds::Limits;
 use book::read::Node;
+use book::tables::Flags;
 use environment::Table;
 
 // The names seen and those marked; or the listed name without definition that stopped it.
 pub struct Marks {
-    pub seen: [u8; 1024],
-    pub marked: [u8; 1024],
+    pub seen: Flags,
+    pub marked: Flags,
     pub stopped: bool,
     pub bad: u16,
+}
+
+// Marks before any name is listed.
+pub fn no_marks() -> Marks
+    ensures { λ r. ⌜ r ≡ nothingMarked ⌝ }
+{
+    Marks {
+        seen: [0; Limits::NAMES],
+        marked: [0; Limits::NAMES],
+        stopped: false,
+        bad: 0,
+    }
 }
 
 // The root of a name's definition, or NONE; also of a number past the table.
@@ -27,20 +37,20 @@ fn root_of(roots: &[u16], name: u16) -> u16
     ensures { λ r. ⌜ r ≡ getD (now (roots .entry)) name 65535 ⌝ }
 {
     let n = name as usize;
-    if n >= 1024 {
+    if n >= Limits::NAMES {
         return Table::NONE;
     }
     roots[n]
 }
 
 // Name by name of the list: what its definition refers to is marked, save what was seen, that is, listed before or marked already.
-// The first listed name without definition stops it.
-pub fn infer_rec(rows: &[u8], roots: &[u16], list: &[u16]) -> Marks
-    requires { ⌜ Rooted (now rows) (now roots) ⌝ }
-    ensures { λ r. ⌜ ((ds : List Definition) → Binds (now (rows .entry)) (now (roots .entry)) ds → MarksHold (inferRec ds (now (list .entry))) r) ⌝ }
+// The first listed name without definition stops it. The marks that it starts from have not been stopped.
+pub fn infer_rec(rows: &[u8], roots: &[u16], list: &[u16], marks: Marks) -> Marks
+    requires { ⌜ Rooted (now rows) (now roots) × Begun (now rows) (now roots) marks ⌝ }
+    ensures { λ r. ⌜ InferredAs (now (rows .entry)) (now (roots .entry)) (now (list .entry)) marks r ⌝ }
 {
-    let mut seen = book::tables::no_flags();
-    let mut marked = book::tables::no_flags();
+    let mut seen = marks.seen;
+    let mut marked = marks.marked;
     let mut done = book::tables::no_flags();
     let mut i = 0;
     while i < list.len() {

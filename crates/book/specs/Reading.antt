@@ -3,7 +3,10 @@ use mathlib.Core.List.{List}
 use mathlib.Core.Path.{_≡_}
 use Prim.Native.Nat.{ℕ, _+_, _*_, _≤_, _<_}
 use lib.ListN.{length}
+use Rattle.labels.specs.declared.Label.{Label}
+use Rattle.labels.specs.declared.Label.the-variants.{Id}
 use Rattle.format.specs.Forest.{count}
+use Rattle.format.specs.Node.{Labelled, unlabelled, labelled}
 use Rattle.format.specs.Book.{Book, trees}
 use Rattle.format.specs.Encode.{Row, nameBytes, namesBytes, nodesBytes, definitionsBytes}
 use Rattle.refusals.specs.Lists.{flat}
@@ -52,6 +55,11 @@ asRow n = record { kind = n .kind; lkind = n .«label_kind»; size = n .size; va
 
 abbrev pub asEntry : Entry → stored.Entry
 asEntry e = record { name = e .name; owner = e .owner; root = e .root; reserved = e .reserved }
+
+-- The label of a node; the number n for one that has none.
+abbrev pub labelOr : ℕ → Labelled → Label
+labelOr n unlabelled = Id n
+labelOr n (labelled l) = l
 
 -- The bytes hold the entries before entry n; no book has more than 512.
 pub record EntryWithin (es : List ℕ) (n : ℕ) : Type 0 where

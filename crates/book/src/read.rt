@@ -4,9 +4,10 @@ ghost use mathlib.Core.Path.{_≡_};
 ghost use Prim.Native.Nat.{_+_, _*_, _≤_, _<_};
 ghost use mathlib.Core.List.{[]};
 ghost use lib.ListN.{length, getD};
-ghost use Rattle.format.specs.Layout.{le16, le32, rowAt, entryAt, namesOf};
+ghost use Rattle.format.specs.Layout.{le16, le32, labelOf, rowAt, entryAt, namesOf};
 ghost use Rattle.format.specs.Whole.{Within};
-ghost use Rattle.book.specs.Reading.{asRow, asEntry, EntryWithin, HasName};
+ghost use Rattle.book.specs.Reading.{asRow, labelOr, asEntry, EntryWithin, HasName};
+use labels::Label;
 
 // A byte as a number to reckon with.
 fn wide(b: u8) -> u32
@@ -47,6 +48,9 @@ impl Node {
     // The bytes of a node.
     pub const SIZE: usize = 12;
 
+    // A function's value: its argument count below HALF, its modes from there on.
+    pub const HALF: u32 = 65536;
+
     // The most modes that a function has room for.
     pub const MODES: usize = 8;
 
@@ -63,6 +67,19 @@ impl Node {
             value: word(rows, at + 4),
             label: word(rows, at + 8),
         }
+    }
+
+    // Its label. One without a label has the number that stands for none, so that labels compare by number wherever they stand.
+    pub fn label(self) -> Label
+        ensures { λ r. ⌜ r ≡ labelOr (self .label) (labelOf (self .«label_kind») (self .label)) ⌝ }
+    {
+        if self.label_kind == Label::NAMED {
+            return Label::named(self.label);
+        }
+        if Label::UNNAMED <= self.label_kind {
+            return Label::unnamed(self.label);
+        }
+        Label::id(self.label)
     }
 }
 

@@ -11,23 +11,25 @@ ghost use Rattle.format.specs.Whole.{Within, Whole};
 ghost use Rattle.book.specs.Reading.{asRow, asEntry, EntryWithin};
 ghost use Rattle.book.specs.Steps.{Tells, risesTo, TreesAs, DefinitionAs, DefinitionsAs, FileTests, FileAs};
 use crate::kinds::Kind;
+use crate::kinds::Mode;
 use crate::kinds::Role;
 use crate::read::Entry;
 use crate::read::Node;
 use format::Place;
 use labels::Label;
 
-// Whether the digits of `modes` in base 4 are modes, of which none follows a 0.
+// Whether the digits of `modes` are modes, of which none follows a 0.
 fn modes_fine(modes: u32) -> bool
     ensures { λ r. ⌜ r ≡ goodModes 8 modes ⌝ }
 {
     let mut m = modes;
     let mut left: usize = Node::MODES;
     while 0 < left {
-        if m % 4 == 0 {
+        let digit = Mode::new(m % Mode::BASE);
+        if digit.number == Mode::NONE {
             return m == 0;
         }
-        m = m / 4;
+        m = m / Mode::BASE;
         left -= 1;
     }
     m == 0
@@ -44,11 +46,11 @@ fn kind_fine(names: usize, kind: u8, value: u32, kids: usize) -> bool
         return kids == 0;
     }
     if kind == Kind::FUNC {
-        let arguments = (value % 65536) as usize;
+        let arguments = (value % Node::HALF) as usize;
         if kids < arguments {
             return false;
         }
-        return modes_fine(value / 65536);
+        return modes_fine(value / Node::HALF);
     }
     if Kind::INIT < kind {
         return false;
@@ -69,14 +71,14 @@ fn kind_fine(names: usize, kind: u8, value: u32, kids: usize) -> bool
 }
 
 // Whether a node of this kind may stand at this place.
-fn place_fine(place: Place, kind: u8) -> bool
-    ensures { λ r. ⌜ r ≡ goodPlace place kind ⌝ }
+fn place_fine(place: Place, kind: Kind) -> bool
+    ensures { λ r. ⌜ r ≡ goodPlace place (kind .number) ⌝ }
 {
     match place {
         Place::Root => true,
-        Place::Field => kind != Kind::INIT,
-        Place::Method => kind != Kind::INIT,
-        Place::Inner => kind != Kind::INIT,
+        Place::Field => kind.number != Kind::INIT,
+        Place::Method => kind.number != Kind::INIT,
+        Place::Inner => kind.number != Kind::INIT,
     }
 }
 
@@ -122,7 +124,7 @@ fn node_fine(names: usize, place: Place, node: Node, kids: usize) -> bool
     if !kind_fine(names, node.kind, node.value, kids) {
         return false;
     }
-    if !place_fine(place, node.kind) {
+    if !place_fine(place, Kind::new(node.kind)) {
         return false;
     }
     label_fine(names, place, node.label_kind, node.label)
@@ -289,20 +291,20 @@ pub(crate) fn definitions(
 }
 
 // Whether a file may have this role: main first, init arguments last.
-fn role_fine(main: bool, last: bool, role: u16) -> bool
-    ensures { λ r. ⌜ r ≡ goodRole main last role ⌝ }
+fn role_fine(main: bool, last: bool, role: Role) -> bool
+    ensures { λ r. ⌜ r ≡ goodRole main last (role .number) ⌝ }
 {
     if main {
-        return role == Role::MAIN;
+        return role.number == Role::MAIN;
     }
-    if role == Role::TYPE_IMPORT {
+    if role.number == Role::TYPE_IMPORT {
         return true;
     }
-    if role == Role::SERVICE_IMPORT {
+    if role.number == Role::SERVICE_IMPORT {
         return true;
     }
     if last {
-        return role == Role::INIT;
+        return role.number == Role::INIT;
     }
     false
 }
@@ -314,7 +316,7 @@ fn file_fine(names: usize, main: bool, last: bool, e: Entry) -> bool
     if names <= e.name as usize {
         return false;
     }
-    if !role_fine(main, last, e.owner) {
+    if !role_fine(main, last, Role::new(e.owner)) {
         return false;
     }
     if e.reserved != 0 {

@@ -3,42 +3,44 @@ ghost use mathlib.Core.Path.{_≡_};
 ghost use lib.ListN.{length};
 ghost use Rattle.format.specs.Layout.{namesOf};
 ghost use Rattle.book.specs.Tables.{blankTable, zeroTable, noFlags, NamesIn, HashesOf};
+use crate::kinds::Limits;
+use crate::read::Entry;
 
 // A node number for each of the 1,024 names.
-pub type ByName = [u16; 1024];
+pub type ByName = [u16; Limits::NAMES];
 
 // A table that has nothing.
 pub fn blank() -> ByName
     ensures { λ r. ⌜ r ≡ blankTable ⌝ }
 {
-    [65535u16; 1024]
+    [Entry::NO_ROOT; Limits::NAMES]
 }
 
 // A table of links: one more than a place, or 0 for none.
 pub fn no_links() -> ByName
     ensures { λ r. ⌜ r ≡ zeroTable ⌝ }
 {
-    [0u16; 1024]
+    [0; Limits::NAMES]
 }
 
 // A flag for each of the 1,024 names: 1 where it is set.
-pub type Flags = [u8; 1024];
+pub type Flags = [u8; Limits::NAMES];
 
 // No flag is set.
 pub fn no_flags() -> Flags
     ensures { λ r. ⌜ r ≡ noFlags ⌝ }
 {
-    [0u8; 1024]
+    [0; Limits::NAMES]
 }
 
 // A label number for each of the 1,024 names.
-pub type HashByName = [u32; 1024];
+pub type HashByName = [u32; Limits::NAMES];
 
 // A table that has 0 for each name.
 pub fn zeros() -> HashByName
     ensures { λ r. ⌜ r ≡ zeroTable ⌝ }
 {
-    [0u32; 1024]
+    [0; Limits::NAMES]
 }
 
 // The label number of each name, in one pass over their bytes.

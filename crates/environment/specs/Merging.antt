@@ -5,10 +5,12 @@ use mathlib.Core.List.{List}
 use Prim.Native.Nat.{ℕ, _≤_, _<_}
 use lib.ListN.{length, getD}
 use lib.Dec.{eqb}
+use Rattle.labels.specs.declared.Label.{Label}
+use Rattle.labels.specs.declared.Label.the-variants.{Id, Named, Unnamed}
+use Rattle.book.specs.Tables.{HashesOf}
 use Rattle.format.specs.declared.Place.{Place}
 use Rattle.format.specs.declared.Place.the-variants.{Root}
-use Rattle.format.specs.Node.{Node, labelValue}
-use Rattle.format.specs.Layout.{labelOf}
+use Rattle.format.specs.Node.{Node}
 use Rattle.format.specs.Whole.{Whole, treeAt}
 use Rattle.judgement.specs.Environment.{sameKind, sameForest}
 use Rattle.format.specs.Labels.{sameLabel}
@@ -16,10 +18,21 @@ use Rattle.environment.specs.Tables.{Nodes, Roots}
 
 -- ---- Two forests
 
--- A label kind and a label, as a book writes them.
-pub record StoredLabel (kind label : ℕ) : Type 0 where
-  pub same : labelValue (labelOf kind label) ≡ label
-  pub name : kind ≡ 2 → label < 1024
+-- A table of the label numbers of some names.
+pub record Hashed (hashes : List ℕ) : Type 0 where
+  pub spelt : List (List ℕ)
+  pub are : HashesOf hashes spelt
+
+-- A label's name is within the table, and this is its label number; 0 where a label is no name.
+abbrev pub NameIn : Label → Type 0
+NameIn (Id n) = Unit {0}
+NameIn (Named n) = n < 1024
+NameIn (Unnamed n) = Unit {0}
+
+abbrev pub hashIn : List ℕ → Label → ℕ
+hashIn hashes (Id n) = 0
+hashIn hashes (Named n) = getD hashes n 0
+hashIn hashes (Unnamed n) = 0
 
 -- Two nodes are the same but for what is below them.
 unfoldable pub sameNode : List (List ℕ) → Place → Node → Node → Bool
@@ -30,7 +43,7 @@ pub record Compared (ns hashes : List ℕ) (a a-until b b-until : ℕ) : Type 0 
   pub names : ℕ
   pub count : ℕ
   pub nodes : Nodes ns names count
-  pub long : length hashes ≡ 1024
+  pub hashed : Hashed hashes
   pub first : Whole ns a a-until
   pub first-in : a-until ≤ count
   pub second : Whole ns b b-until
@@ -38,11 +51,12 @@ pub record Compared (ns hashes : List ℕ) (a a-until b b-until : ℕ) : Type 0 
 
 -- ---- Two tables of roots
 
--- Nodes of a book, and two tables of roots.
+-- Nodes of a book, the label numbers of its names, and two tables of roots.
 pub record Mergeable (ns hashes init main : List ℕ) (names : ℕ) : Type 0 where
   pub count : ℕ
   pub nodes : Nodes ns names count
-  pub long : length hashes ≡ 1024
+  pub hashed : Hashed hashes
+  pub counted : length (hashed .spelt) ≡ names
   pub first : Roots init count
   pub second : Roots main count
 
@@ -51,7 +65,7 @@ pub record ComparedRoots (ns hashes : List ℕ) (a b : ℕ) : Type 0 where
   pub names : ℕ
   pub count : ℕ
   pub nodes : Nodes ns names count
-  pub long : length hashes ≡ 1024
+  pub hashed : Hashed hashes
   pub first : (a ≡ 65535 → ⊥) → a < count
   pub second : (b ≡ 65535 → ⊥) → b < count
 

@@ -5,15 +5,16 @@ ghost use mathlib.Core.List.{List};
 ghost use Prim.Native.Nat.{ℕ};
 ghost use lib.ListN.{length};
 ghost use Rattle.format.specs.Book.{Definition};
-ghost use Rattle.format.specs.Layout.{labelOf, nodeOf, siblings};
+ghost use Rattle.format.specs.Node.{labelled};
+ghost use Rattle.format.specs.Layout.{nodeOf, siblings};
 ghost use Rattle.format.specs.Whole.{RowFits};
 ghost use Rattle.book.specs.Reading.{asRow};
-ghost use Rattle.format.specs.Labels.{labelId, sameLabel};
+ghost use Rattle.format.specs.Labels.{sameLabel};
 ghost use Rattle.judgement.specs.Environment.{sameForest};
 ghost use Rattle.judgement.specs.Check.{mergeVerdict};
 ghost use Rattle.environment.specs.Tables.{Binds};
 ghost use Rattle.book.specs.Tables.{HashesAgree};
-ghost use Rattle.environment.specs.Merging.{StoredLabel, sameNode, Compared, Mergeable, ComparedRoots, sameRoots, eitherRoot, MergedAs};
+ghost use Rattle.environment.specs.Merging.{Hashed, NameIn, hashIn, sameNode, Compared, Mergeable, ComparedRoots, sameRoots, eitherRoot, MergedAs};
 use crate::Table;
 use book::kinds::Kind;
 use book::kinds::Limits;
@@ -23,40 +24,34 @@ use labels::Label;
 use refusals::Refusal;
 use refusals::Verdict;
 
-// The number of a label.
-fn label_id(hashes: &[u32], kind: u8, label: u32) -> u32
-    requires { ⌜ (length (now hashes) ≡ 1024) × StoredLabel kind label ⌝ }
-    ensures { λ r. ⌜ ((names : List (List ℕ)) → HashesAgree (now (hashes .entry)) names → r ≡ labelId names (labelOf kind label)) ⌝ }
+// The label number of the name that a label is; 0 of one that is no name.
+fn hash_of(hashes: &[u32], label: Label) -> u32
+    requires { ⌜ (length (now hashes) ≡ 1024) × NameIn label ⌝ }
+    ensures { λ r. ⌜ r ≡ hashIn (now (hashes .entry)) label ⌝ }
 {
-    if kind == Label::NAMED {
-        return hashes[label as usize];
+    match label {
+        Label::Id(_) => 0,
+        Label::Named(n) => hashes[n as usize],
+        Label::Unnamed(_) => 0,
     }
-    label
 }
 
 // Whether two labels at a place are the same: fields by number, methods by name.
-fn same_label(
-    hashes: &[u32],
-    place: Place,
-    a_kind: u8,
-    a_label: u32,
-    b_kind: u8,
-    b_label: u32,
-) -> bool
-    requires { ⌜ (length (now hashes) ≡ 1024) × StoredLabel «a_kind» «a_label» × StoredLabel «b_kind» «b_label» ⌝ }
-    ensures { λ r. ⌜ ((names : List (List ℕ)) → HashesAgree (now (hashes .entry)) names → r ≡ sameLabel names place (labelOf «a_kind» «a_label») (labelOf «b_kind» «b_label»)) ⌝ }
+fn same_label(hashes: &[u32], place: Place, a: Label, b: Label) -> bool
+    requires { ⌜ Hashed (now hashes) × NameIn a × NameIn b ⌝ }
+    ensures { λ r. ⌜ ((names : List (List ℕ)) → HashesAgree (now (hashes .entry)) names → r ≡ sameLabel names place (labelled a) (labelled b)) ⌝ }
 {
     match place {
         Place::Root => true,
-        Place::Field => label_id(hashes, a_kind, a_label) == label_id(hashes, b_kind, b_label),
-        Place::Method => a_label == b_label,
+        Place::Field => a.same(hash_of(hashes, a), b, hash_of(hashes, b)),
+        Place::Method => a.value() == b.value(),
         Place::Inner => true,
     }
 }
 
 // Whether two nodes at a place are the same but for what is below them.
 fn same_node(hashes: &[u32], place: Place, a: Node, b: Node) -> bool
-    requires { ⌜ (length (now hashes) ≡ 1024) × RowFits 1024 (asRow a) × RowFits 1024 (asRow b) ⌝ }
+    requires { ⌜ Hashed (now hashes) × RowFits 1024 (asRow a) × RowFits 1024 (asRow b) ⌝ }
     ensures { λ r. ⌜ ((names : List (List ℕ)) → HashesAgree (now (hashes .entry)) names → r ≡ sameNode names place (nodeOf (asRow a)) (nodeOf (asRow b))) ⌝ }
 {
     if a.kind != b.kind {
@@ -65,7 +60,7 @@ fn same_node(hashes: &[u32], place: Place, a: Node, b: Node) -> bool
     if a.value != b.value {
         return false;
     }
-    same_label(hashes, place, a.label_kind, a.label, b.label_kind, b.label)
+    same_label(hashes, place, a.label(), b.label())
 }
 
 // Whether the trees from node a up to node `a_until` are the same as those from node b up to node `b_until`, where all stand at `place`.

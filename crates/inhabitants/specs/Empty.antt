@@ -13,11 +13,13 @@ use Rattle.listing.specs.Empty.{Mark, unvisited, visiting, answered, Visit, not
 use Rattle.environment.specs.Tables.{Nodes, Roots, Binds}
 use Rattle.book.specs.Tables.{flagged}
 
--- Nodes of a book, and a table of roots.
+-- Nodes of a book, and a table of roots, which is that of some definitions.
 pub record Environment (ns roots : List ℕ) (names : ℕ) : Type 0 where
   pub count : ℕ
   pub nodes : Nodes ns names count
   pub table : Roots roots count
+  pub definitions : List Definition
+  pub binds : Binds ns roots definitions
 
 -- ---- Marks
 

@@ -8,6 +8,7 @@ ghost use Rattle.format.specs.Whole.{Within, Whole};
 ghost use Rattle.listing.specs.Empty.{visitFields, isEmpty};
 ghost use Rattle.inhabitants.specs.Empty.{Environment, namesFrom, mayBeEmpty, MarkEach, NextName, noStack, Stacked, allEmpty, Fields, newMarks, Visited, isSettled, EmptiedAs};
 use book::kinds::Kind;
+use book::kinds::Limits;
 use book::read::Node;
 use book::tables::Flags;
 use environment::Table;
@@ -30,7 +31,7 @@ impl Mark {
 // What a visit answers, and the marks after it.
 struct Visit {
     pub empty: bool,
-    pub marks: [u8; 1024],
+    pub marks: Flags,
 }
 
 // Where the types stand that the type at a node is visited by: a record's fields; else the type itself.
@@ -74,12 +75,12 @@ fn next_name(rows: &[u8], marks: &[u8], from: usize, until: usize) -> usize
 }
 
 // A number for each name that is being visited.
-type Stack = [u16; 1024];
+type Stack = [u16; Limits::NAMES];
 
 fn no_stack() -> Stack
     ensures { λ r. ⌜ r ≡ noStack ⌝ }
 {
-    [0u16; 1024]
+    [0; Limits::NAMES]
 }
 
 // The names of all rows on the stack are empty.

@@ -17,8 +17,12 @@ valueOf (Id n) = n
 valueOf (Named n) = n
 valueOf (Unnamed n) = n
 
--- The label's number: numbered and unnamed labels are their number, a name has that of its bytes.
+-- The label's number, where `hash` is that of its name: numbered and unnamed labels are their number.
+abbrev pub idBy : Label → ℕ → ℕ
+idBy (Id n) hash = n
+idBy (Named n) hash = hash
+idBy (Unnamed n) hash = n
+
+-- By the bytes of the name.
 abbrev pub idOf : Label → List ℕ → ℕ
-idOf (Id n) name = n
-idOf (Named n) name = labelNumber name
-idOf (Unnamed n) name = n
+idOf l name = idBy l (labelNumber name)

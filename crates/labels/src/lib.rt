@@ -4,7 +4,7 @@ ghost use mathlib.Core.Path.{_≡_};
 ghost use Prim.Native.Nat.{_*_, _%_, _^_};
 ghost use lib.Dec.{eqb};
 ghost use Rattle.labels.specs.Number.{labelNumber};
-ghost use Rattle.labels.specs.Label.{labelKindOf, valueOf, idOf};
+ghost use Rattle.labels.specs.Label.{labelKindOf, valueOf, idBy};
 
 // x times 223, modulo 2^32. In 64 bits the product fits.
 fn mul_223(x: u32) -> u32
@@ -27,7 +27,7 @@ pub fn idl_hash(id: &[u8]) -> u32
 }
 
 // What labels a field, a case or a method. A `Named` label holds a name number, a place in the book's table of names: an enum holds
-// no reference, so the bytes of the name are handed over beside the label where its number is asked for.
+// no reference, so the label number of the name is handed over beside the label where its own is asked for.
 pub enum Label {
     Id(u32),
     Named(u32),
@@ -90,21 +90,21 @@ impl Label {
         }
     }
 
-    // The label's number, where `name` holds the bytes of its name. Only a `Named` label reads them.
-    pub fn get_id(self, name: &[u8]) -> u32
-        ensures { λ r. ⌜ r ≡ idOf self (now (name .entry)) ⌝ }
+    // The label's number, where `hash` is that of its name. Only a `Named` label reads it.
+    pub fn get_id(self, hash: u32) -> u32
+        ensures { λ r. ⌜ r ≡ idBy self hash ⌝ }
     {
         match self {
             Label::Id(n) => n,
-            Label::Named(_) => idl_hash(name),
+            Label::Named(_) => hash,
             Label::Unnamed(n) => n,
         }
     }
 
     // Whether two labels are equal: their numbers are.
-    pub fn same(self, name: &[u8], other: Label, other_name: &[u8]) -> bool
-        ensures { λ r. ⌜ r ≡ eqb (idOf self (now (name .entry))) (idOf other (now («other_name» .entry))) ⌝ }
+    pub fn same(self, hash: u32, other: Label, other_hash: u32) -> bool
+        ensures { λ r. ⌜ r ≡ eqb (idBy self hash) (idBy other «other_hash») ⌝ }
     {
-        self.get_id(name) == other.get_id(other_name)
+        self.get_id(hash) == other.get_id(other_hash)
     }
 }

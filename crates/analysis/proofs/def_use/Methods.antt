@@ -30,9 +30,9 @@ use Rattle.refusals.specs.Handed.{Use}
 use Rattle.listing.specs.Sites.{Site, classSites, funcSites, kindSites, endSites, methodSites}
 use Rattle.listing.specs.Offers.{firstTrees, functionSites, indexed}
 use Rattle.listing.proofs.Sites.{class-indexed, function-indexed}
-use Rattle.analysis.specs.Entries.{Test, usesBy, Puts, AtMost, HitsIn, SkipsTo, Known, Offered}
+use Rattle.analysis.specs.Entries.{Test, usesBy, Puts, AtMost, HitsIn, Tested, SkipsTo, EndTested, Served, Offered}
 use Rattle.analysis.proofs.BookNodes.{services-over, services-open}
-use Rattle.environment.proofs.ChainEnds.{served-until, served-at, end-at, end-inside}
+use Rattle.environment.proofs.ChainEnds.{served-until, served-at, end-whole, end-at, end-inside}
 use Rattle.analysis.proofs.def_use.Entries.{puts-none, puts-then, Leads, leads-start, leads-on, leads-end, uses-none, uses-append}
 
 -- ---- Parts
@@ -84,19 +84,31 @@ module _ {ns : List ℕ} {f : ℕ} (w : WholeAt ns f) (q : Row) (is : q ≡ rowA
   pub func-most : {k at next : ℕ} {old mid new : List ℕ} → AtMost (results - (f + 1)) k old mid at → AtMost (f + q .size - results) at mid new next → AtMost 4096 k old new next
   func-most p r = most-then p r (omega (arith, s .before .ordered, s .after .ordered, func-ends))
 
-  pub func-puts : (near : List ℕ) (m places k : ℕ) {at next : ℕ} {old mid new : List ℕ} → ((used : Test) → HitsIn used ns near (f + 1) results → Puts places k (usesBy used (indexed m 0 0 (siblings ns (f + 1) results))) old mid at) →
-      ((used : Test) → HitsIn used ns near results (f + q .size) → Puts places at (usesBy used (indexed m 1 0 (siblings ns results (f + q .size)))) mid new next) →
-      (used : Test) → HitsIn used ns near f (f + rowAt ns f .size) →
-      Puts places k (usesBy used (funcSites m (rowAt ns f .value % 65536) 0 (siblings ns (f + 1) (f + rowAt ns f .size)))) old new next
-  func-puts near m places k {at} {next} {old} {mid} {new} p r used h =
-      let u : HitsIn used ns near f (f + q .size) = subst (λ (z : Row). HitsIn used ns near f (f + z .size)) (sym is) h in
+  -- the test of the function is one of its arguments, and of its results
+  module _ {near : List ℕ} (x : Tested ns near f (f + rowAt ns f .size)) where
+    pub func-hits : HitsIn (x .used) ns near f (f + q .size)
+    func-hits = subst (λ (z : Row). HitsIn (x .used) ns near f (f + z .size)) (sym is) (x .hits)
+
+    abbrev pub func-first : Tested ns near (f + 1) results
+    func-first = record { used = x .used; hits = hits-in func-hits (omega arith) (s .after .ordered) }
+
+    abbrev pub func-then : Tested ns near results (f + q .size)
+    func-then = record { used = x .used; hits = hits-in func-hits (omega (arith, s .before .ordered)) (omega arith) }
+
+  pub func-puts : (near : List ℕ) (m places k : ℕ) {at next : ℕ} {old mid new : List ℕ} →
+      ((x : Tested ns near (f + 1) results) → Puts places k (usesBy (x .used) (indexed m 0 0 (siblings ns (f + 1) results))) old mid at) →
+      ((x : Tested ns near results (f + q .size)) → Puts places at (usesBy (x .used) (indexed m 1 0 (siblings ns results (f + q .size)))) mid new next) →
+      (x : Tested ns near f (f + rowAt ns f .size)) →
+      Puts places k (usesBy (x .used) (funcSites m (rowAt ns f .value % 65536) 0 (siblings ns (f + 1) (f + rowAt ns f .size)))) old new next
+  func-puts near m places k {at} {next} {old} {mid} {new} p r x =
+      let used = x .used in
       let arguments = indexed m 0 0 (siblings ns (f + 1) results) in
       let others = indexed m 1 0 (siblings ns results (f + q .size)) in
       let es : usesBy used arguments ++ usesBy used others ≡ usesBy used (funcSites m (q .value % 65536) 0 (siblings ns (f + 1) (f + q .size))) =
       sym (ap (usesBy used) (function-sites m s) ∙ uses-append used arguments others) in
       subst (λ (z : Row). Puts places k (usesBy used (funcSites m (z .value % 65536) 0 (siblings ns (f + 1) (f + z .size)))) old new next) is
       (subst (λ (l : List Use). Puts places k l old new next) es
-      (puts-then (p used (hits-in u (omega arith) (s .after .ordered))) (r used (hits-in u (omega (arith, s .before .ordered)) (omega arith)))))
+      (puts-then (p (func-first x)) (r (func-then x))))
 
 -- ---- The sites at a chain's end
 kind-sites : (m k v : ℕ) (kids : Forest Node) → kindSites m (kindOf k v) kids ≡ cond (eqb k 23) (funcSites m (v % 65536) 0 kids) []
@@ -121,25 +133,37 @@ module _ (ns : List ℕ) (e m : ℕ) where
   end-some z (ends t) q = ap ends (q .1)
 
   module _ (places k : ℕ) (old : List ℕ) where
-    pub end-puts-none : e ≡ 65535 → (x : End) → EndAt ns e x → (used : Test) → Puts places k (usesBy used (endSites m x)) old old k
-    end-puts-none z x q used = rw (end-none z x q, uses-none used) (puts-none places k old)
+    pub end-puts-none : e ≡ 65535 → {near : List ℕ} (x : EndTested ns near e) → Puts places k (usesBy (x .used) (endSites m (x .reached))) old old k
+    end-puts-none z x = rw (end-none z (x .reached) (x .is), uses-none (x .used)) (puts-none places k old)
 
     module _ (z : e ≡ 65535 → ⊥) (w : WholeAt ns e) (r : Row) (is : r ≡ rowAt ns e) where
-      pub end-puts-other : (r .kind ≡ 23 → ⊥) → (x : End) → EndAt ns e x → (used : Test) → Puts places k (usesBy used (endSites m x)) old old k
-      end-puts-other n x q used =
+      pub end-puts-other : (r .kind ≡ 23 → ⊥) → {near : List ℕ} (x : EndTested ns near e) → Puts places k (usesBy (x .used) (endSites m (x .reached))) old old k
+      end-puts-other n x =
           let k′ : rowAt ns e .kind ≡ 23 → ⊥ = λ h. n (ap (λ (z : Row). z .kind) is ∙ h) in
-          rw (end-some z x q, node-sites m w, ne-eqb (rowAt ns e .kind) 23 k′, uses-none used) (puts-none places k old)
+          rw (end-some z (x .reached) (x .is), node-sites m w, ne-eqb (rowAt ns e .kind) 23 k′, uses-none (x .used)) (puts-none places k old)
 
       pub end-puts : {near new : List ℕ} {next : ℕ} → r .kind ≡ 23 →
-          ((used : Test) → HitsIn used ns near e (e + rowAt ns e .size) → Puts places k (usesBy used (funcSites m (rowAt ns e .value % 65536) 0 (siblings ns (e + 1) (e + rowAt ns e .size)))) old new next) →
-          (x : End) → EndAt ns e x → (used : Test) → ((e ≡ 65535 → ⊥) → HitsIn used ns near e (e + rowAt ns e .size)) → Puts places k (usesBy used (endSites m x)) old new next
-      end-puts n p x q used h =
-          rw (end-some z x q, node-sites m w, eq-eqb (rowAt ns e .kind) 23 (sym (ap (λ (z : Row). z .kind) is) ∙ n)) (p used (h z))
+          ((x : Tested ns near e (e + rowAt ns e .size)) → Puts places k (usesBy (x .used) (funcSites m (rowAt ns e .value % 65536) 0 (siblings ns (e + 1) (e + rowAt ns e .size)))) old new next) →
+          (x : EndTested ns near e) → Puts places k (usesBy (x .used) (endSites m (x .reached))) old new next
+      end-puts n p x =
+          rw (end-some z (x .reached) (x .is), node-sites m w, eq-eqb (rowAt ns e .kind) 23 (sym (ap (λ (z : Row). z .kind) is) ∙ n)) (p record { used = x .used; hits = x .hits z })
 
 -- ---- At the end of a chain
-module _ {ns ends′ : List ℕ} {node : ℕ} (s : Ended ns ends′ node) {e : ℕ} (is : e ≡ endNode ns ends′ node) where
-  end-hits : {near : List ℕ} {used : Test} → HitsIn used ns near 0 (s .count) → (e ≡ 65535 → ⊥) → HitsIn used ns near e (e + rowAt ns e .size)
-  end-hits h z = hits-in h (omega arith) (s .nodes .tree e (end-inside s is z) .ends)
+module _ {ns ends′ near : List ℕ} {service : ℕ} (x : Served ns ends′ near service) {node : ℕ} (h : node < x .ended .count) {e : ℕ} (is : e ≡ endNode ns ends′ node) where
+  pub end-whole-at : (e ≡ 65535 → ⊥) → WholeAt ns e
+  end-whole-at = end-whole (served-at (x .ended) node h) is
+
+  pub end-reached : EndAt ns e (aliasEnd (x .definitions) (treeAt ns node))
+  unfolding served-at
+  end-reached =
+      subst (λ (z : ℕ). EndAt ns z (aliasEnd (x .definitions) (treeAt ns node))) (sym is) (end-at (served-at (x .ended) node h) (x .definitions) (x .known .chains))
+
+  pub end-hits : (e ≡ 65535 → ⊥) → HitsIn (x .used) ns near e (e + rowAt ns e .size)
+  unfolding served-at
+  end-hits z = hits-in (x .known .hits) (omega arith) (x .ended .nodes .tree e (end-inside (served-at (x .ended) node h) is z) .ends)
+
+  abbrev pub end-tested : EndTested ns near e
+  end-tested = record { whole = end-whole-at; reached = aliasEnd (x .definitions) (treeAt ns node); is = end-reached; used = x .used; hits = end-hits }
 
 -- ---- The sites of methods
 module _ (ds : List Definition) where
@@ -170,8 +194,8 @@ pub record MethodsLeft (ns ends′ near : List ℕ) (service until first k place
   pub few : at + 4096 * (service + 1) ≤ k + 4096 * i
   pub long : length mid ≡ length old
   pub position : m + breadth (siblings ns i until) ≡ first + breadth (siblings ns (service + 1) until)
-  pub left : (s : Ended ns ends′ service) → until ≤ s .count → (ds : List Definition) (used : Test) → Known ns ends′ near (s .names) (s .count) ds used →
-      Leads places k old (usesBy used (methodSites ds first (siblings ns (service + 1) until))) at mid (usesBy used (methodSites ds m (siblings ns i until)))
+  pub left : (x : Served ns ends′ near service) → until ≤ x .ended .count →
+      Leads places k old (usesBy (x .used) (methodSites (x .definitions) first (siblings ns (service + 1) until))) at mid (usesBy (x .used) (methodSites (x .definitions) m (siblings ns i until)))
 
 pub methods-start : {ns : List ℕ} {service : ℕ} (ends′ near : List ℕ) (first k places : ℕ) (old : List ℕ) → WholeAt ns service → (q : Row) → q ≡ rowAt ns service →
     MethodsLeft ns ends′ near service (service + q .size) first k places old old (service + 1) first k
@@ -182,7 +206,7 @@ methods-start {ns} {service} ends′ near first k places old w q is =
       few = omega arith;
       long = refl;
       position = refl;
-      left = λ s h ds used x. leads-start places k old (usesBy used (methodSites ds first (siblings ns (service + 1) (service + q .size))));
+      left = λ x h. leads-start places k old (usesBy (x .used) (methodSites (x .definitions) first (siblings ns (service + 1) (service + q .size))));
     }
 
 module _ {ns ends′ near : List ℕ} {service until first k places : ℕ} {old mid : List ℕ} {i m at : ℕ} (l : MethodsLeft ns ends′ near service until first k places old mid i m at) where
@@ -197,9 +221,9 @@ module _ {ns ends′ near : List ℕ} {service until first k places : ℕ} {old 
     pub methods-most : AtMost 16777216 k old mid at
     methods-most = record { few = omega (arith, l .few, l .trees .ordered, methods-few); long = l .long }
 
-    pub methods-end : (s : Ended ns ends′ service) → until ≤ s .count → (ds : List Definition) (used : Test) → Known ns ends′ near (s .names) (s .count) ds used →
-        Puts places k (usesBy used (methodSites ds first (siblings ns (service + 1) until))) old mid at
-    methods-end s u ds used x = leads-end (l .left s u ds used x) (ap (usesBy used) (methods-none ds m ns i until h) ∙ uses-none used)
+    pub methods-end : (x : Served ns ends′ near service) → until ≤ x .ended .count →
+        Puts places k (usesBy (x .used) (methodSites (x .definitions) first (siblings ns (service + 1) until))) old mid at
+    methods-end x u = leads-end (l .left x u) (ap (usesBy (x .used)) (methods-none (x .definitions) m ns i until h) ∙ uses-none (x .used))
 
   module _ (h : i < until) where
     method-here : Opened ns i until
@@ -213,9 +237,9 @@ module _ {ns ends′ near : List ℕ} {service until first k places : ℕ} {old 
       method-next = rw is (omega (arith, method-here .here .one), method-here .rest .ordered)
 
       pub methods-on : (e : ℕ) → e ≡ endNode ns ends′ i → {mid′ : List ℕ} {at′ : ℕ} → AtMost 4096 at mid mid′ at′ →
-          ((x : End) → EndAt ns e x → (used : Test) → ((e ≡ 65535 → ⊥) → HitsIn used ns near e (e + rowAt ns e .size)) → Puts places at (usesBy used (endSites m x)) mid mid′ at′) →
+          ((x : EndTested ns near e) → Puts places at (usesBy (x .used) (endSites m (x .reached))) mid mid′ at′) →
           MethodsLeft ns ends′ near service until first k places old mid′ (i + q .size) (m + 1) at′
-      unfolding breadth served-at
+      unfolding breadth
       methods-on e ends-at {mid′} {at′} most p =
           let one = method-next .0 in
           record {
@@ -227,15 +251,15 @@ module _ {ns ends′ near : List ℕ} {service until first k places : ℕ} {old 
                 rw is
                 (let b : breadth (siblings ns i until) ≡ suc (breadth (siblings ns (i + rowAt ns i .size) until)) = ap breadth (siblings-opens method-here) in
                 omega (arith, l .position, b));
-            left = λ s u ds used x.
+            left = λ x u.
+                let ds = x .definitions in
+                let used = x .used in
                 let own = endSites m (aliasEnd ds (treeAt ns i)) in
                 let rest = methodSites ds (m + 1) (siblings ns (i + rowAt ns i .size) until) in
-                let here : Ended ns ends′ i = served-at s i (omega arith) in
-                let at-end : EndAt ns e (aliasEnd ds (treeAt ns i)) = subst (λ (z : ℕ). EndAt ns z (aliasEnd ds (treeAt ns i))) (sym ends-at) (end-at here ds (x .chains)) in
                 subst (λ (z : Row). Leads places k old (usesBy used (methodSites ds first (siblings ns (service + 1) until))) at′ mid′ (usesBy used (methodSites ds (m + 1) (siblings ns (i + z .size) until)))) (sym is)
-                (leads-on (l .left s u ds used x) (usesBy used own) (usesBy used rest)
+                (leads-on (l .left x u) (usesBy used own) (usesBy used rest)
                 (ap (usesBy used) (methods-open ds m method-here) ∙ uses-append used own rest)
-                (p (aliasEnd ds (treeAt ns i)) at-end used (end-hits here ends-at (x .hits))));
+                (p (end-tested x (omega arith) ends-at)));
           }
 
 module _ {ns ends′ near : List ℕ} {service first k places : ℕ} {old mid : List ℕ} {i m at : ℕ} (q : Row) (is : q ≡ rowAt ns service)
@@ -243,20 +267,33 @@ module _ {ns ends′ near : List ℕ} {service first k places : ℕ} {old mid : 
   pub methods-counted : m ≡ first + breadth (siblings ns (service + 1) (service + rowAt ns service .size))
   methods-counted = methods-position l h ∙ ap (λ (z : Row). first + breadth (siblings ns (service + 1) (service + z .size))) is
 
-  pub methods-puts : (s : Ended ns ends′ service) (ds : List Definition) (used : Test) → Known ns ends′ near (s .names) (s .count) ds used →
-      Puts places k (usesBy used (methodSites ds first (siblings ns (service + 1) (service + rowAt ns service .size)))) old mid at
-  methods-puts s ds used x =
-      subst (λ (z : Row). Puts places k (usesBy used (methodSites ds first (siblings ns (service + 1) (service + z .size)))) old mid at) is
-      (methods-end l h s (rw is (served-until s)) ds used x)
+  pub methods-puts : (x : Served ns ends′ near service) →
+      Puts places k (usesBy (x .used) (methodSites (x .definitions) first (siblings ns (service + 1) (service + rowAt ns service .size)))) old mid at
+  methods-puts x =
+      subst (λ (z : Row). Puts places k (usesBy (x .used) (methodSites (x .definitions) first (siblings ns (service + 1) (service + z .size)))) old mid at) is
+      (methods-end l h x (rw is (served-until (x .ended))))
 
 -- ---- The loop of `put_uses`, at service s: the methods before position m are put
+module _ {ns ends′ near services : List ℕ} {from until count : ℕ} (x : Offered ns ends′ near from until services count) where
+  abbrev pub offered-arguments : Tested ns near from until
+  offered-arguments = record { used = x .used; hits = hits-in (x .known .hits) (omega arith) (x .inside) }
+
+  abbrev pub offered-service : {s : ℕ} → s < count → Served ns ends′ near (getD services s 0)
+  offered-service {s} h = record {
+    ended = record { names = x .names; count = x .nodes; nodes = x .book; table = x .table; inside = x .service s h };
+    definitions = x .definitions;
+    used = x .used;
+    known = x .known;
+  }
+
 pub record ServicesLeft (ns ends′ near services : List ℕ) (from until count places k : ℕ) (old mid : List ℕ) (at m s : ℕ) : Type 0 where
   pub passed : s ≤ count
   pub position : m ≤ 4096 * s
   pub few : at ≤ k + 16777216 * s
   pub long : length mid ≡ length old
-  pub left : (o : Offered ns ends′ from until services count) (ds : List Definition) (used : Test) → Known ns ends′ near (o .names) (o .nodes) ds used →
-      Leads places k old (usesBy used (methodSites ds 0 (methodsIn ns (take count services)))) at mid (usesBy used (methodSites ds m (methodsIn ns (slice s count services))))
+  pub left : (x : Offered ns ends′ near from until services count) →
+      Leads places k old (usesBy (x .used) (methodSites (x .definitions) 0 (methodsIn ns (take count services)))) at mid
+      (usesBy (x .used) (methodSites (x .definitions) m (methodsIn ns (slice s count services))))
 
 pub services-start : (ns ends′ near services : List ℕ) (from until count places k : ℕ) (old : List ℕ) → ServicesLeft ns ends′ near services from until count places k old old k 0 0
 services-start ns ends′ near services from until count places k old =
@@ -265,14 +302,15 @@ services-start ns ends′ near services from until count places k old =
       position = omega arith;
       few = omega arith;
       long = refl;
-      left = λ o ds used x. leads-start places k old (usesBy used (methodSites ds 0 (methodsIn ns (take count services))));
+      left = λ x. leads-start places k old (usesBy (x .used) (methodSites (x .definitions) 0 (methodsIn ns (take count services))));
     }
 
 module _ {ns ends′ near services : List ℕ} {from until count places k : ℕ} {old mid : List ℕ} {at m s : ℕ} (l : ServicesLeft ns ends′ near services from until count places k old mid at m s) where
-  services-end : count ≤ s → (o : Offered ns ends′ from until services count) (ds : List Definition) (used : Test) → Known ns ends′ near (o .names) (o .nodes) ds used →
-      Puts places k (usesBy used (methodSites ds 0 (methodsIn ns (take count services)))) old mid at
+  services-end : count ≤ s → (x : Offered ns ends′ near from until services count) →
+      Puts places k (usesBy (x .used) (methodSites (x .definitions) 0 (methodsIn ns (take count services)))) old mid at
   unfolding methodSites
-  services-end h o ds used x = leads-end (l .left o ds used x) (ap (λ (f : Forest Node). usesBy used (methodSites ds m f)) (services-over ns services (l .passed) h) ∙ uses-none used)
+  services-end h x =
+      leads-end (l .left x) (ap (λ (f : Forest Node). usesBy (x .used) (methodSites (x .definitions) m f)) (services-over ns services (l .passed) h) ∙ uses-none (x .used))
 
   module _ (h : s < count) (long : count ≤ length services) (w : WholeAt ns (getD services s 0)) where
     few-methods : breadth (siblings ns (getD services s 0 + 1) (getD services s 0 + rowAt ns (getD services s 0) .size)) ≤ 4096
@@ -282,8 +320,8 @@ module _ {ns ends′ near services : List ℕ} {from until count places k : ℕ}
         omega (arith, breadth-count (siblings ns (service + 1) until), count-siblings ns (service + 1) until, w .within .held, w .within .few)
 
     pub services-on : {m′ at′ : ℕ} {mid′ : List ℕ} → m′ ≡ m + breadth (siblings ns (getD services s 0 + 1) (getD services s 0 + rowAt ns (getD services s 0) .size)) → AtMost 16777216 at mid mid′ at′ →
-        ((x : Ended ns ends′ (getD services s 0)) (ds : List Definition) (used : Test) → Known ns ends′ near (x .names) (x .count) ds used →
-        Puts places at (usesBy used (methodSites ds m (siblings ns (getD services s 0 + 1) (getD services s 0 + rowAt ns (getD services s 0) .size)))) mid mid′ at′) →
+        ((x : Served ns ends′ near (getD services s 0)) →
+        Puts places at (usesBy (x .used) (methodSites (x .definitions) m (siblings ns (getD services s 0 + 1) (getD services s 0 + rowAt ns (getD services s 0) .size)))) mid mid′ at′) →
         ServicesLeft ns ends′ near services from until count places k old mid′ at′ m′ (s + 1)
     services-on {m′} {at′} {mid′} position most p =
         let service = getD services s 0 in
@@ -293,15 +331,16 @@ module _ {ns ends′ near services : List ℕ} {from until count places k : ℕ}
           position = omega (arith, l .position, position, few-methods);
           few = omega (arith, l .few, most .few);
           long = most .long ∙ l .long;
-          left = λ o ds used x.
-              let here : Ended ns ends′ service = record { names = o .names; count = o .nodes; nodes = o .book; table = o .table; inside = o .service s h } in
+          left = λ x.
+              let ds = x .definitions in
+              let used = x .used in
               let own = methodSites ds m under in
               let rest = methodsIn ns (slice (s + 1) count services) in
               let opens : methodSites ds m (methodsIn ns (slice s count services)) ≡ own ++ methodSites ds m′ rest =
               ap (methodSites ds m) (services-open ns services h long w refl) ∙ methods-beside ds m under rest
               ∙ ap (λ (j : ℕ). own ++ methodSites ds j rest) (sym position) in
-              leads-on (l .left o ds used x) (usesBy used own) (usesBy used (methodSites ds m′ rest)) (ap (usesBy used) opens ∙ uses-append used own (methodSites ds m′ rest))
-              (p here ds used x);
+              leads-on (l .left x) (usesBy used own) (usesBy used (methodSites ds m′ rest)) (ap (usesBy used) opens ∙ uses-append used own (methodSites ds m′ rest))
+              (p (offered-service x h));
         }
 
   -- ---- and before them the class's arguments
@@ -313,13 +352,14 @@ module _ {ns ends′ near services : List ℕ} {from until count places k : ℕ}
     uses-most w h = record { few = omega (arith, l .few, l .passed, arguments-few w); long = l .long ∙ most .long }
 
   pub uses-end : count ≤ s → {first : List ℕ} →
-      ((used : Test) → HitsIn used ns near from until → Puts places 0 (usesBy used (indexed 65535 0 0 (siblings ns from until))) first old k) →
-      (o : Offered ns ends′ from until services count) (ds : List Definition) (used : Test) → Known ns ends′ near (o .names) (o .nodes) ds used →
-      Puts places 0 (usesBy used (classSites 0 (siblings ns from until) ++ methodSites ds 0 (methodsIn ns (take count services)))) first mid at
-  uses-end h {first} p o ds used x =
+      ((x : Tested ns near from until) → Puts places 0 (usesBy (x .used) (indexed 65535 0 0 (siblings ns from until))) first old k) →
+      (x : Offered ns ends′ near from until services count) →
+      Puts places 0 (usesBy (x .used) (classSites 0 (siblings ns from until) ++ methodSites (x .definitions) 0 (methodsIn ns (take count services)))) first mid at
+  uses-end h {first} p x =
+      let used = x .used in
       let arguments = classSites 0 (siblings ns from until) in
-      let methods = methodSites ds 0 (methodsIn ns (take count services)) in
+      let methods = methodSites (x .definitions) 0 (methodsIn ns (take count services)) in
       subst (λ (es : List Use). Puts places 0 es first mid at) (sym (uses-append used arguments methods))
       (puts-then
-      (subst (λ (q : List Site). Puts places 0 (usesBy used q) first old k) (sym (class-indexed 0 (siblings ns from until))) (p used (hits-in (x .hits) (omega arith) (o .inside))))
-      (services-end h o ds used x))
+      (subst (λ (q : List Site). Puts places 0 (usesBy used q) first old k) (sym (class-indexed 0 (siblings ns from until))) (p (offered-arguments x)))
+      (services-end h x))

@@ -18,7 +18,7 @@ use Rattle.format.proofs.Stored.{tree-whole, tree-opens}
 use Rattle.syntax.proofs.Stored.{whole-join, siblings-join}
 use Rattle.refusals.specs.Handed.{Use}
 use Rattle.listing.specs.Offers.{site, indexed}
-use Rattle.analysis.specs.Entries.{Test, usesBy, put, putAll, Puts, AtMost, hit, HitsIn, SkipsTo}
+use Rattle.analysis.specs.Entries.{usesBy, put, putAll, Puts, AtMost, hit, Tested, SkipsTo}
 use Rattle.analysis.proofs.def_use.Entries.{put-length, puts-none, Leads, leads-start, leads-on, leads-end, oneUse, uses-one, uses-none}
 
 -- ---- One tree
@@ -60,8 +60,8 @@ pub record TreesLeft (ns near : List ℕ) (m r from until k places : ℕ) (old m
   pub later : from + index ≤ i
   pub few : at + from ≤ k + i
   pub long : length mid ≡ length old
-  pub left : (used : Test) → HitsIn used ns near from until →
-      Leads places k old (usesBy used (indexed m r 0 (siblings ns from until))) at mid (usesBy used (indexed m r index (siblings ns i until)))
+  pub left : (x : Tested ns near from until) →
+      Leads places k old (usesBy (x .used) (indexed m r 0 (siblings ns from until))) at mid (usesBy (x .used) (indexed m r index (siblings ns i until)))
 
 pub trees-start : {ns : List ℕ} {from until : ℕ} (near : List ℕ) (m r k places : ℕ) (old : List ℕ) → Whole ns from until → TreesLeft ns near m r from until k places old old from 0 k
 trees-start {ns} {from} {until} near m r k places old w =
@@ -70,15 +70,15 @@ trees-start {ns} {from} {until} near m r k places old w =
       later = omega arith;
       few = omega arith;
       long = refl;
-      left = λ used h. leads-start places k old (usesBy used (indexed m r 0 (siblings ns from until)));
+      left = λ x. leads-start places k old (usesBy (x .used) (indexed m r 0 (siblings ns from until)));
     }
 
 module _ {ns near : List ℕ} {m r from until k places : ℕ} {old mid : List ℕ} {i index at : ℕ} (l : TreesLeft ns near m r from until k places old mid i index at) where
   pub trees-most : until ≤ i → AtMost (until - from) k old mid at
   trees-most h = record { few = omega (arith, l .few, l .later, l .trees .ordered); long = l .long }
 
-  pub trees-end : until ≤ i → (used : Test) → HitsIn used ns near from until → Puts places k (usesBy used (indexed m r 0 (siblings ns from until))) old mid at
-  trees-end h used u = leads-end (l .left used u) (ap (usesBy used) (sites-none m r index ns i until h) ∙ uses-none used)
+  pub trees-end : until ≤ i → (x : Tested ns near from until) → Puts places k (usesBy (x .used) (indexed m r 0 (siblings ns from until))) old mid at
+  trees-end h x = leads-end (l .left x) (ap (usesBy (x .used)) (sites-none m r index ns i until h) ∙ uses-none (x .used))
 
   module _ (h : i < until) where
     here : Opened ns i until
@@ -102,13 +102,14 @@ module _ {ns near : List ℕ} {m r from until k places : ℕ} {old mid : List �
             later = omega (arith, l .later);
             few = omega (arith, l .few, most .few);
             long = most .long ∙ l .long;
-            left = λ used u.
+            left = λ x.
+                let used = x .used in
                 let s = site m r index (treeAt ns i) in
                 let rest = indexed m r (index + 1) (siblings ns (i + rowAt ns i .size) until) in
                 let own : cond (hit near i (i + q .size)) (e ∷ []) [] ≡ oneUse used s =
-                ap (λ (z : Row). cond (hit near i (i + z .size)) (e ∷ []) []) is ∙ ap (λ (b : Bool). cond b (e ∷ []) []) (sym (u .agrees i (omega (arith, l .later)) h)) in
+                ap (λ (z : Row). cond (hit near i (i + z .size)) (e ∷ []) []) is ∙ ap (λ (b : Bool). cond b (e ∷ []) []) (sym (x .hits .agrees i (omega (arith, l .later)) h)) in
                 subst (λ (z : Row). Leads places k old (usesBy used (indexed m r 0 (siblings ns from until))) at′ mid′ (usesBy used (indexed m r (index + 1) (siblings ns (i + z .size) until)))) (sym is)
-                (leads-on (l .left used u) (oneUse used s) (usesBy used rest) (ap (usesBy used) (sites-open m r index here) ∙ uses-one used s rest)
+                (leads-on (l .left x) (oneUse used s) (usesBy used rest) (ap (usesBy used) (sites-open m r index here) ∙ uses-one used s rest)
                 (subst (λ (es : List Use). Puts places at es mid mid′ at′) own p));
           }
 

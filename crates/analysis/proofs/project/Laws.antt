@@ -33,7 +33,7 @@ use Rattle.syntax.specs.Interfaces.{methodsIn, InterfaceAs}
 use Rattle.environment.proofs.Trees.{opened, ends-inside, one-at-least, row-within, method-label, rest-methods, kids-methods}
 use Rattle.listing.specs.Project.{without, Projection, take′, projectFrom, projected}
 use Rattle.refusals.specs.Outcome.{given}
-use Rattle.analysis.specs.Projecting.{Asking, outcomeOf, LowestAs, placeAt, placeAll, Underway, Come, comesTo, Projects, Room, MethodTaken, MethodsTaken, Services, ProjectedAs, AllProjected}
+use Rattle.analysis.specs.Projecting.{Asking, AskedBy, outcomeOf, LowestAs, placeAt, placeAll, Underway, Come, comesTo, Projects, Room, MethodTaken, MethodsTaken, Services, ProjectedAs, AllProjected}
 use Rattle.syntax.specs.declared.interface.Interface.{Interface}
 use Rattle.refusals.specs.declared.Answer.{Answer}
 use Rattle.refusals.specs.declared.Answer.the-variants.{Given, Refused}
@@ -143,6 +143,10 @@ project-step places v n kids next l left name e {out} {taken} t o =
         λ i. record { taken = more i; out = placeAll places (add-one (v .taken) i) (p .taken) (placeAt places (v .taken) (v .at) (v .out)); left = p .left }
     go false p = refl
 
+-- the names left are asked for, where those at v are
+asked-on : {places : ℕ} {f e : Forest Node} {v w : Underway} → Projects places f w e v → AskedBy (v .left) → AskedBy (w .left)
+asked-on goes a = let s = goes (a .far) (a .list) (a .asking) in record { far = a .far; list = s .names; asking = s .asking }
+
 -- ---- The methods of a service: from node i on what is left comes to the same
 pub record MethodsLeft (ns : List ℕ) (places from until : ℕ) (v : Underway) (i : ℕ) (w : Underway) : Type 0 where
   pub roots : List ℕ
@@ -192,7 +196,13 @@ module _ {ns : List ℕ} {places from until : ℕ} {v : Underway} {i : ℕ} {w :
       method-ends = rw is (omega (arith, one-at-least (x .methods .trees) h), ends-inside (x .methods .trees) h)
 
       pub method-room : Room places (until - from) v → Room places 1 w
-      method-room q = record { few = omega (arith, x .near, q .few, x .later); fewer = x .fewer; names = x .names; held = omega (arith, x .held, q .held) }
+      method-room q = record {
+        few = omega (arith, x .near, q .few, x .later);
+        fewer = x .fewer;
+        names = x .names;
+        asked = asked-on (x .goes) (q .asked);
+        held = omega (arith, x .held, q .held);
+      }
 
       pub methods-on : {left out : List ℕ} {taken : ℕ} → MethodTaken places (r .label) w left out taken →
           MethodsLeft ns places from until v (i + r .size) (record { at = w .at + 1; taken = taken; left = left; out = out })
@@ -272,8 +282,14 @@ module _ {ns services : List ℕ} {count places : ℕ} {v : Underway} {k : ℕ} 
           let b = untabled (y .all) in
           (blankTable, blankTable, subst (λ (z : Row). Methods ns blankTable blankTable (node + 1) (node + z .size)) (sym is) (kids-methods (here-trees b service-inside) (here-some b service-inside) (y .service k h .1)))
 
-      pub service-room : places ≤ length (v .out) → Room places (node + r .size - (node + 1)) w
-      service-room q = record { few = omega (arith, service-ends, x .near, y .few); fewer = x .fewer; names = x .names; held = omega (arith, x .held) }
+      pub service-room : AskedBy (v .left) → places ≤ length (v .out) → Room places (node + r .size - (node + 1)) w
+      service-room a q = record {
+        few = omega (arith, service-ends, x .near, y .few);
+        fewer = x .fewer;
+        names = x .names;
+        asked = asked-on (x .goes) a;
+        held = omega (arith, x .held);
+      }
 
       pub services-on : {w′ : Underway} →
           MethodsTaken places (node + r .size - (node + 1)) (siblings ns (node + 1) (node + r .size)) w w′ → ServicesLeft ns services count places v (k + 1) w′

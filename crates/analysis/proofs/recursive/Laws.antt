@@ -22,13 +22,13 @@ use Rattle.format.proofs.Logic.{clash}
 use Rattle.book.specs.Tables.{noFlags, isSet}
 use Rattle.environment.specs.Tables.{foundAt, Binds}
 use Rattle.environment.proofs.Links.{found-none, found-some}
-use Rattle.listing.specs.Recursive.{marking, unbound, note, noteName, see, listed, inferFrom, inferRec}
+use Rattle.listing.specs.Recursive.{marking, unbound, note, noteName, see, listed, inferFrom}
 use Rattle.listing.specs.Recursive as listing
 use Rattle.listing.proofs.Leaves.{each}
 use Rattle.analysis.specs.declared.recursive.Marks.{Marks}
 use Rattle.analysis.specs.Book.{Rooted}
-use Rattle.analysis.specs.Marking.{Flagged, MarksHold}
-use Rattle.analysis.proofs.recursive.Rows.{held, GoneThrough, NodeIn, no-flags-length, no-flags-at, agrees-set, agrees-again, held-none, tree-each}
+use Rattle.analysis.specs.Marking.{Flagged, MarksHold, Begun, InferredAs}
+use Rattle.analysis.proofs.recursive.Rows.{held, GoneThrough, NodeIn, no-flags-length, no-flags-at, agrees-set, agrees-again, tree-each}
 
 -- ---- Names that are seen
 
@@ -105,17 +105,17 @@ each-after (v ∷ vs) seen set′ = look (member v seen) refl (each-after vs)
 abbrev pub refsOf : List ℕ → List ℕ → ℕ → List ℕ
 refsOf ns roots n = references (treeAt ns (getD roots n 65535))
 
-pub record Inferring (ns roots list done : List ℕ) (m : Marks) (i : ℕ) (ds : List Definition) : Type 0 where
+pub record Inferring (ns roots list done : List ℕ) (m : Marks) (i : ℕ) {first : Marks} (b : Begun ns roots first) : Type 0 where
   pub seen-now : List ℕ
   pub set-now : List ℕ
   pub holds : Flagged seen-now set-now m
-  pub rest : inferFrom ds (drop i list) (marking seen-now set-now) ≡ inferRec ds list
+  pub rest : inferFrom (b .definitions) (drop i list) (marking seen-now set-now) ≡ inferFrom (b .definitions) list (marking (b .seen-by) (b .marked-by))
   pub gone : (n : ℕ) → isSet done n ≡ true → (member n seen-now ≡ true) × Known (refsOf ns roots n) seen-now
 
-pub record InferLeft (ns roots list : List ℕ) (m : Marks) (done : List ℕ) (i : ℕ) : Type 0 where
+pub record InferLeft (ns roots list : List ℕ) (first m : Marks) (done : List ℕ) (i : ℕ) : Type 0 where
   pub passed : i ≤ length list
   pub done-long : length done ≡ 1024
-  pub inferring : (ds : List Definition) → Binds ns roots ds → Inferring ns roots list done m i ds
+  pub inferring : (b : Begun ns roots first) → Inferring ns roots list done m i b
 
 infer-unbound : (ds : List Definition) (l : List ℕ) (n : ℕ) → inferFrom ds l (unbound n) ≡ unbound n
 unfolding inferFrom listed
@@ -128,32 +128,49 @@ stoppedAt n m = record { seen = m .seen; marked = m .marked; stopped = true; bad
 abbrev pub seenAlso : ℕ → Marks → Marks
 seenAlso n r = record { seen = set (r .seen) n 1; marked = r .marked; stopped = r .stopped; bad = r .bad }
 
-module _ {ns roots list : List ℕ} where
-  pub infer-start : {seen set′ done : List ℕ} → seen ≡ noFlags → set′ ≡ noFlags → done ≡ noFlags → InferLeft ns roots list (held seen set′) done 0
-  unfolding inferRec
-  infer-start s m e =
+-- the marks that nothing has stopped are those that the loop holds
+pub from-held : {ns roots list : List ℕ} {m r : Marks} → InferredAs ns roots list (held (m .seen) (m .marked)) r → InferredAs ns roots list m r
+from-held h =
+    record {
+      holds = λ b.
+          let k = b .holds in
+          h .holds record {
+            definitions = b .definitions;
+            binds = b .binds;
+            seen-by = b .seen-by;
+            marked-by = b .marked-by;
+            holds = record { goes = refl; seen-are = k .seen-are; marked-are = k .marked-are; seen-long = k .seen-long; long = k .long };
+          };
+    }
+
+module _ {ns roots list : List ℕ} {first : Marks} where
+  pub infer-start : {done : List ℕ} → done ≡ noFlags → InferLeft ns roots list first first done 0
+  infer-start e =
       record {
         passed = omega arith;
         done-long = ap length e ∙ no-flags-length;
-        inferring = λ ds b.
+        inferring = λ b.
             record {
-              seen-now = [];
-              set-now = [];
-              holds = held-none s m;
+              seen-now = b .seen-by;
+              set-now = b .marked-by;
+              holds = b .holds;
               rest = refl;
               gone = λ n q. let z : true ≡ false = sym q ∙ ap (λ (f : List ℕ). isSet f n) e ∙ no-flags-at n in clash cc;
             };
       }
 
-  module _ {m : Marks} {done : List ℕ} {i : ℕ} (l : InferLeft ns roots list m done i) where
-    pub infer-end : length list ≤ i → (ds : List Definition) → Binds ns roots ds → MarksHold (inferRec ds list) m
+  module _ {m : Marks} {done : List ℕ} {i : ℕ} (l : InferLeft ns roots list first m done i) where
+    pub infer-end : length list ≤ i → InferredAs ns roots list first m
     unfolding inferFrom
-    infer-end h ds b =
-        let z : i ≡ length list = omega (arith, l .passed) in
-        let x = l .inferring ds b in
-        subst (λ (s : listing.Marks). MarksHold s m)
-        (sym (ap (λ (k : List ℕ). inferFrom ds k (marking (x .seen-now) (x .set-now))) (ap (λ (j : ℕ). drop j list) z ∙ drop-length list)) ∙ x .rest)
-        (x .holds)
+    infer-end h =
+        record {
+          holds = λ b.
+              let z : i ≡ length list = omega (arith, l .passed) in
+              let x = l .inferring b in
+              subst (λ (s : listing.Marks). MarksHold s m)
+              (sym (ap (λ (k : List ℕ). inferFrom (b .definitions) k (marking (x .seen-now) (x .set-now))) (ap (λ (j : ℕ). drop j list) z ∙ drop-length list)) ∙ x .rest)
+              (x .holds);
+        }
 
     module _ (h : i < length list) (n : ℕ) (is : n ≡ getD list i 0) (root : ℕ) (at-root : root ≡ getD roots n 65535) where
       opens : drop i list ≡ n ∷ drop (i + 1) list
@@ -164,14 +181,18 @@ module _ {ns roots list : List ℕ} where
       unfolding inferFrom
       step ds s f e = ap (λ (k : List ℕ). inferFrom ds k s) opens ∙ ap (λ (g : Found). inferFrom ds (drop (i + 1) list) (listed ds n g s)) e
 
-      pub infer-stop : root ≡ 65535 → (ds : List Definition) → Binds ns roots ds → MarksHold (inferRec ds list) (stoppedAt n m)
+      pub infer-stop : root ≡ 65535 → InferredAs ns roots list first (stoppedAt n m)
       unfolding listed
-      infer-stop e ds b =
-          let x = l .inferring ds b in
-          subst (λ (s : listing.Marks). MarksHold s (stoppedAt n m))
-          (sym (infer-unbound ds (drop (i + 1) list) n)
-          ∙ sym (step ds (marking (x .seen-now) (x .set-now)) missing (b n ∙ found-none ns (getD roots n 65535) (sym at-root ∙ e))) ∙ x .rest)
-          (record { stops = refl; at-name = refl })
+      infer-stop e =
+          record {
+            holds = λ b.
+                let ds = b .definitions in
+                let x = l .inferring b in
+                subst (λ (s : listing.Marks). MarksHold s (stoppedAt n m))
+                (sym (infer-unbound ds (drop (i + 1) list) n)
+                ∙ sym (step ds (marking (x .seen-now) (x .set-now)) missing (b .binds n ∙ found-none ns (getD roots n 65535) (sym at-root ∙ e))) ∙ x .rest)
+                (record { stops = refl; at-name = refl });
+          }
 
       module _ (a : Rooted ns roots) (some : root ≡ 65535 → ⊥) where
         pub name-in : n < 1024
@@ -205,13 +226,13 @@ module _ {ns roots list : List ℕ} where
             ∙ ap (λ (s : listing.Marks). inferFrom ds (drop (i + 1) list) (see n s))
             (tree-each root-node (marking seen set′) ∙ ap (λ (vs : List ℕ). each noteName vs (marking seen set′)) refs-are ∙ e)
 
-        pub infer-again : getD done n 0 ≡ 1 → InferLeft ns roots list m done (i + 1)
+        pub infer-again : getD done n 0 ≡ 1 → InferLeft ns roots list first m done (i + 1)
         infer-again e =
             record {
               passed = omega arith;
               done-long = l .done-long;
-              inferring = λ ds b.
-                  let x = l .inferring ds b in
+              inferring = λ b.
+                  let x = l .inferring b in
                   let g = x .gone n (eq-eqb (getD done n 0) 1 e) in
                   let k = x .holds in
                   let one = grows-one n (x .seen-now) in
@@ -225,18 +246,18 @@ module _ {ns roots list : List ℕ} where
                       seen-long = k .seen-long;
                       long = k .long;
                     };
-                    rest = sym (step-some ds b (x .seen-now) (x .set-now) (x .seen-now) (x .set-now) (each-known (refsOf ns roots n) (x .seen-now) (x .set-now) (g .1))) ∙ x .rest;
+                    rest = sym (step-some (b .definitions) (b .binds) (x .seen-now) (x .set-now) (x .seen-now) (x .set-now) (each-known (refsOf ns roots n) (x .seen-now) (x .set-now) (g .1))) ∙ x .rest;
                     gone = λ j q. let y = x .gone j q in (one .keeps j (y .0), known-on (y .1) one);
                   };
             }
 
-        pub infer-on : (r : Marks) → GoneThrough (treeAt ns root) m r → InferLeft ns roots list (seenAlso n r) (set done n 1) (i + 1)
+        pub infer-on : (r : Marks) → GoneThrough (treeAt ns root) m r → InferLeft ns roots list first (seenAlso n r) (set done n 1) (i + 1)
         infer-on r through =
             record {
               passed = omega arith;
               done-long = length-set done n 1 ∙ l .done-long;
-              inferring = λ ds b.
-                  let x = l .inferring ds b in
+              inferring = λ b.
+                  let x = l .inferring b in
                   let y = each-after (refsOf ns roots n) (x .seen-now) (x .set-now) in
                   let s = marking (x .seen-now) (x .set-now) in
                   let k : Flagged (y .now-seen) (y .now-set) r =
@@ -253,12 +274,12 @@ module _ {ns roots list : List ℕ} where
                       seen-long = length-set (r .seen) n 1 ∙ k .seen-long;
                       long = k .long;
                     };
-                    rest = sym (step-some ds b (x .seen-now) (x .set-now) (y .now-seen) (y .now-set) (y .state)) ∙ x .rest;
+                    rest = sym (step-some (b .definitions) (b .binds) (x .seen-now) (x .set-now) (y .now-seen) (y .now-set) (y .state)) ∙ x .rest;
                     gone = λ j q. was x (y .now-seen) (y .grows) (y .known) j q (ℕ-discrete j n);
                   };
             }
           where
-            was : {ds : List Definition} (x : Inferring ns roots list done m i ds) (seen : List ℕ) → Grows (x .seen-now) seen → Known (refsOf ns roots n) seen →
+            was : {b : Begun ns roots first} (x : Inferring ns roots list done m i b) (seen : List ℕ) → Grows (x .seen-now) seen → Known (refsOf ns roots n) seen →
                 (j : ℕ) → isSet (set done n 1) j ≡ true → Dec (j ≡ n) → (member j (n ∷ seen) ≡ true) × Known (refsOf ns roots j) (n ∷ seen)
             was x seen g known j q (yes e) =
                 (member-head j n seen e, known-on (subst (λ (k : ℕ). Known (refsOf ns roots k) seen) (sym e) known) (grows-one n seen))

@@ -29,7 +29,7 @@ use Rattle.listing.proofs.Leaves.{each}
 use Rattle.listing.proofs.Recursive.{go-each}
 use Rattle.analysis.specs.declared.recursive.Marks.{Marks}
 use Rattle.analysis.specs.Book.{Agrees}
-use Rattle.analysis.specs.Marking.{MarksHold}
+use Rattle.analysis.specs.Marking.{Flagged, MarksHold, nothingMarked}
 use Rattle.analysis.proofs.BookNodes.{untabled, here-within, here-leafy, rowNames, names-none, names-name, names-other}
 
 -- ---- What is held
@@ -79,15 +79,10 @@ module _ (flags l : List ℕ) (agrees : Agrees flags l) (n : ℕ) where
       look (yes e) = rw (e, h, eq-eqb n n refl)
       look (no d) = rw (ne-eqb k n d) (agrees k lt)
 
-pub held-none : {seen set′ : List ℕ} → seen ≡ noFlags → set′ ≡ noFlags → MarksHold (marking [] []) (held seen set′)
-held-none s m =
-    record {
-      goes = refl;
-      seen-are = subst (λ (f : List ℕ). Agrees f []) (sym s) agrees-none;
-      marked-are = subst (λ (f : List ℕ). Agrees f []) (sym m) agrees-none;
-      seen-long = ap length s ∙ no-flags-length;
-      long = ap length m ∙ no-flags-length;
-    }
+-- from the start
+pub nothing-held : Flagged [] [] nothingMarked
+unfolding nothingMarked
+nothing-held = record { goes = refl; seen-are = agrees-none; marked-are = agrees-none; seen-long = no-flags-length; long = no-flags-length }
 
 -- ---- One name
 pub note-again : (n : ℕ) (v : Marks) → n < 1024 → getD (v .seen) n 0 ≡ 1 → (s : listing.Marks) → MarksHold s v → MarksHold (noteName n s) v

@@ -104,7 +104,7 @@ module _ {ns hashes : List ℕ} {p : Place} {a a-until b b-until i j : ℕ} {r s
         names = turn .compared .names;
         count = turn .compared .count;
         nodes = turn .compared .nodes;
-        long = turn .compared .long;
+        hashed = turn .compared .hashed;
         first = rw (turn .is) (kids-whole (opens (turn .left .first) (turn .more) .here));
         first-in = omega (arith, first-size .1, turn .compared .first-in);
         second = rw (turn .at) (kids-whole (opens (turn .left .second) (turn .other) .here));

@@ -78,7 +78,7 @@ module _ {ns hashes : List ℕ} {a b : ℕ} (x : ComparedRoots ns hashes a b) (h
           names = x .names;
           count = x .count;
           nodes = x .nodes;
-          long = x .long;
+          hashed = x .hashed;
           first = rw is (tree-whole (first-tree .whole));
           first-in = rw is (first-tree .ends);
           second = rw at (tree-whole (second-tree .whole));
@@ -126,7 +126,7 @@ module _ {ns hashes init main : List ℕ} {names n : ℕ} (x : Mergeable ns hash
           names = names;
           count = x .count;
           nodes = x .nodes;
-          long = x .long;
+          hashed = x .hashed;
           first = rw first-at (x .first .node n);
           second = rw second-at (x .second .node n);
         }

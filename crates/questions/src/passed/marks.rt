@@ -21,7 +21,8 @@ pub(crate) fn marks_passed(
 {
     let c = p.contents;
     let rows = c.nodes(book);
-    let m = analysis::recursive::infer_rec(rows, roots, list);
+    let fresh = analysis::recursive::no_marks();
+    let m = analysis::recursive::infer_rec(rows, roots, list, fresh);
     if m.stopped {
         return Answer::Refused(Refusal::Unbound(m.bad));
     }

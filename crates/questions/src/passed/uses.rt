@@ -14,9 +14,8 @@ use typing::prog::Passed;
 
 // The entries of an interface: counted first, and written where there are places for all.
 fn hand_uses(rows: &[u8], ends: &[u16], near: &[u16], offer: Interface, out: &mut [u16]) -> Answer
-    requires { ⌜ Offered (now rows) (now ends) (offer .from) (offer .until) (offer .services) (offer .count) × (length (now near) ≡ 4097) ⌝ }
-    ensures { λ r. ⌜ ((x : Offered (now (rows .entry)) (now (ends .entry)) (offer .from) (offer .until) (offer .services) (offer .count)) →
-        UsesHanded (now (rows .entry)) (now (ends .entry)) (now (near .entry)) offer (x .names) (x .nodes) (now (out .entry)) (now (out .exit)) r) ⌝ }
+    requires { ⌜ Offered (now rows) (now ends) (now near) (offer .from) (offer .until) (offer .services) (offer .count) × (length (now near) ≡ 4097) ⌝ }
+    ensures { λ r. ⌜ UsesHanded (now (rows .entry)) (now (ends .entry)) (now (near .entry)) offer (now (out .entry)) (now (out .exit)) r ⌝ }
 {
     let services = offer.services;
     let needed = analysis::def_use::put_uses(

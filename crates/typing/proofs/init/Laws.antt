@@ -146,14 +146,18 @@ module _ {bs : List ℕ} {c : Contents} (a : Admitted bs c) where
   pub own-as : {main : ℕ} {own ends′ : List ℕ} {v : Verdict} → DecsAs (definitionsPart bs) rows (c .names) (c .nodes) main (c .definitions) v own ends′ → OwnDecsAs bs c main own v
   own-as d = record { verdict = d .entered .verdict; table = λ e. d .entered .checked e .table; binds = λ e. d .entered .checked e .env .binds; left = d .left }
 
-  pub mergeable : {own roots hs : List ℕ} → Roots own (c .nodes) → Roots roots (c .nodes) → length hs ≡ 1024 → Mergeable rows hs own roots (c .names)
-  mergeable y z l = record { count = c .nodes; nodes = all-trees a .nodes; long = l; first = y; second = z }
+  hashed : {hs : List ℕ} → HashesOf hs (namesOf (length (namesPart bs)) (namesPart bs)) → HashesOf hs (a .book .names)
+  hashed {hs} o = record { long = o .long; agree = subst (HashesAgree hs) (names-book a) (o .agree) }
+
+  pub mergeable : {own roots hs : List ℕ} → Roots own (c .nodes) → Roots roots (c .nodes) →
+      HashesOf hs (namesOf (length (namesPart bs)) (namesPart bs)) → Mergeable rows hs own roots (c .names)
+  mergeable y z o =
+      record { count = c .nodes; nodes = all-trees a .nodes; hashed = record { spelt = a .book .names; are = hashed o }; counted = sym (names-count a); first = y; second = z }
 
   pub merge-as : {own roots hs : List ℕ} {v : Verdict} → HashesOf hs (namesOf (length (namesPart bs)) (namesPart bs)) →
       ((ns : List (List ℕ)) (ids ds : List Definition) → HashesAgree hs ns → length ns ≡ c .names → Binds rows own ids → Binds rows roots ds → v ≡ mergeVerdict ns ids ds) →
       MergeAs a own roots v
-  merge-as {hs = hs} o said =
-      record { verdict = λ ids ds. said (a .book .names) ids ds (subst (HashesAgree hs) (names-book a) (o .agree)) (sym (names-count a)) }
+  merge-as o said = record { verdict = λ ids ds. said (a .book .names) ids ds (hashed o .agree) (sym (names-count a)) }
 
   -- the arguments
   module _ {both : List ℕ} (t : Roots both (c .nodes)) {root : ℕ} (h : root < c .nodes) where

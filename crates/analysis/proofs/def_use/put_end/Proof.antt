@@ -7,22 +7,23 @@ use Rattle.analysis.proofs.def_use.put_end.Tie as tie
 returns : tie.Need-returns
 returns c =
     let a = c .before .before .before .before .args in
-    (most-none _ _ _, λ x q used h. end-puts-none (a .rows .now) (a .e) (a .method) (a .places) (a .k) (a .out .now) (c .if1 .taken) x q used)
+    (most-none _ _ _, λ x. end-puts-none (a .rows .now) (a .e) (a .method) (a .places) (a .k) (a .out .now) (c .if1 .taken) x)
 
 at-requires : tie.Need-at-requires
-at-requires c κs = node-within (c .before .before .before .before .pre .0 (c .if1 .left))
+at-requires c κs = node-within (c .before .before .before .before .pre .0 .whole (c .if1 .left))
 
 returns-2 : tie.Need-returns-2
 returns-2 c =
     let a = c .before .before .before .before .before .before .before .args in (
       most-none _ _ _,
-      λ x q used h. end-puts-other (a .rows .now) (a .e) (a .method) (a .places) (a .k) (a .out .now) (c .before .before .before .if1 .left) (c .before .before .before .before .before .before .before .pre .0 (c .before .before .before .if1 .left)) _ (c .before .before .at .ensures) (c .if2 .taken) x q used,
+      λ x. end-puts-other (a .rows .now) (a .e) (a .method) (a .places) (a .k) (a .out .now) (c .before .before .before .if1 .left) (c .before .before .before .before .before .before .before .pre .0 .whole (c .before .before .before .if1 .left)) _ (c .before .before .at .ensures) (c .if2 .taken) x,
     )
 
 put-func-requires : tie.Need-put-func-requires
 put-func-requires c κs =
     let p = c .before .before .before .before .before .before .before .before .pre in
-    (p .0 (c .before .before .before .before .if1 .left), p .1, p .2, p .3)
+    let some = c .before .before .before .before .if1 .left in
+    (p .0 .whole some, record { used = p .0 .used; hits = p .0 .hits some }, p .1, p .2, p .3)
 
 same-length : tie.Need-same-length
 same-length c = c .before .before .put-func .ensures .0 .long
@@ -36,7 +37,7 @@ returns-3 c =
     let a = (entry-from-put-func (c .before .before)) .args in
     let p = c .before .before .put-func .ensures in (
       p .0,
-      end-puts (a .rows .now) (a .e) (a .method) (a .places) (a .k) (a .out .now) (c .before .before .before .before .before .before .before .if1 .left) ((entry-from-put-func (c .before .before)) .pre .0 (c .before .before .before .before .before .before .before .if1 .left)) _ (c .before .before .before .before .before .before .at .ensures) (c .before .before .before .before .if2 .left) (p .1),
+      end-puts (a .rows .now) (a .e) (a .method) (a .places) (a .k) (a .out .now) (c .before .before .before .before .before .before .before .if1 .left) ((entry-from-put-func (c .before .before)) .pre .0 .whole (c .before .before .before .before .before .before .before .if1 .left)) _ (c .before .before .before .before .before .before .at .ensures) (c .before .before .before .before .if2 .left) (p .1),
     )
 
 pub put-end-spec : {M : Type 1} → statement M

@@ -5,7 +5,7 @@ use native.Mathlib.Omega.{arith}
 use Rattle.format.specs.Encode.{Row}
 use Rattle.format.specs.Whole.{Whole}
 use Rattle.format.proofs.Rows.{node-within, kids-whole}
-use Rattle.analysis.proofs.def_use.Methods.{func-most, func-puts}
+use Rattle.analysis.proofs.def_use.Methods.{func-most, func-first, func-then, func-puts}
 use borrow.Author.Needs.{needs}
 use Rattle.analysis.proofs.def_use.put_func.Statement.{statement}
 use Rattle.analysis.proofs.def_use.put_func.Tie as tie
@@ -34,7 +34,7 @@ put-trees-requires : tie.Need-put-trees-requires
 put-trees-requires c κs =
     let p = c .before .before .before .before .before .before .before .before .pre in
     let s = c .before .skip .ensures in
-    (s .before, p .1, p .2, omega (arith, p .3, s .before .within .held, s .before .within .few))
+    (s .before, func-first (p .0) _ (c .before .before .before .before .at .ensures) s (p .1), p .2, p .3, omega (arith, p .4, s .before .within .held, s .before .within .few))
 
 -- places that are far back
 abbrev entry-from-put-trees : tie.After-put-trees → tie.Start
@@ -45,7 +45,7 @@ put-trees-requires-2 c κs =
     let p = (entry-from-put-trees (c .before .before .before)) .pre in
     let s = c .before .before .before .before .before .skip .ensures in
     let most = c .before .before .before .put-trees .ensures .0 in
-    (s .after, p .1, omega (arith, p .2, most .long), omega (arith, p .3, most .few, s .before .ordered, s .after .within .held, s .after .within .few))
+    (s .after, func-then (p .0) _ (c .before .before .before .before .before .before .before .before .at .ensures) s (p .1), p .2, omega (arith, p .3, most .long), omega (arith, p .4, most .few, s .before .ordered, s .after .within .held, s .after .within .few))
 
 abbrev at-from-put-trees2 : tie.After-put-trees2 → tie.After-at
 at-from-put-trees2 c = c .before .before .before .before .before .before .before .before .before

@@ -1,10 +1,10 @@
 -- `put_methods` meets its contract. Assumes nothing.
-use Prim.Native.Nat.{_-_}
+use Prim.Native.Nat.{_-_, _<_}
 use mathlib.Core.Path.{ap}
 use native.Mathlib.Omega.{arith}
 use Rattle.format.specs.Encode.{Row}
-use Rattle.environment.proofs.ChainEnds.{served-whole, served-within, served-small, served-until, served-at, end-whole}
-use Rattle.analysis.proofs.def_use.Methods.{MethodsLeft, methods-start, methods-few, method-within, method-next, methods-on, methods-most, methods-counted, methods-puts}
+use Rattle.environment.proofs.ChainEnds.{served-whole, served-within, served-small, served-until, served-at}
+use Rattle.analysis.proofs.def_use.Methods.{MethodsLeft, methods-start, methods-few, method-within, method-next, end-tested, methods-on, methods-most, methods-counted, methods-puts}
 use Rattle.analysis.proofs.def_use.put_methods.Statement.{statement}
 use Rattle.analysis.proofs.def_use.put_methods.Tie as tie
 
@@ -15,22 +15,22 @@ abbrev μ-loop : tie.MeasureT-loop
 μ-loop rows ends near service first k places out₀ until i₀ m₀ at₀ out i m at = until - i
 
 at-requires : tie.Need-at-requires Inv-loop μ-loop
-at-requires c κs = served-within (c .before .before .before .before .pre .0)
+at-requires c κs = served-within (c .before .before .before .before .pre .0 .ended)
 
 add-until : tie.Need-add-until Inv-loop μ-loop
 add-until c =
-    let s = c .before .before .before .before .before .before .pre .0 in
+    let s = c .before .before .before .before .before .before .pre .0 .ended in
     omega (arith, served-until s, s .nodes .fewNodes, ap (λ (q : Row). q .size) (c .before .at .ensures))
 
 add-i : tie.Need-add-i Inv-loop μ-loop
-add-i c = omega (arith, served-small (c .before .before .before .before .before .before .pre .0))
+add-i c = omega (arith, served-small (c .before .before .before .before .before .before .pre .0 .ended))
 
 loop-holds : tie.Need-loop-holds Inv-loop μ-loop
-loop-holds c = methods-start _ _ _ _ _ _ (served-whole (c .before .before .before .before .before .before .pre .0)) _ (c .before .at .ensures)
+loop-holds c = methods-start _ _ _ _ _ _ (served-whole (c .before .before .before .before .before .before .pre .0 .ended)) _ (c .before .at .ensures)
 
 end-of-requires : tie.Need-end-of-requires Inv-loop μ-loop
 end-of-requires c κs =
-    let p = c .before .before .before .before .before .before .before .before .pre .0 in
+    let p = c .before .before .before .before .before .before .before .before .pre .0 .ended in
     served-at p _ (omega (arith, served-until p, ap (λ (q : Row). q .size) (c .before .before .before .at .ensures), c .loop-test .taken))
 
 cast-put-end : tie.Need-cast-put-end Inv-loop μ-loop
@@ -46,8 +46,8 @@ put-end-requires : tie.Need-put-end-requires Inv-loop μ-loop
 put-end-requires c κs =
     let p = (entry-from-end-of (c .before)) .pre in
     let l = c .before .before .before .loop .inv in
-    let here = served-at (p .0) (c .before .before .before .loop .i) (omega (arith, served-until (p .0), ap (λ (q : Row). q .size) (c .before .before .before .before .before .at .ensures), c .before .before .loop-test .taken)) in (
-      end-whole here (c .before .end-of .ensures),
+    let inside : c .before .before .before .loop .i < p .0 .ended .count = omega (arith, served-until (p .0 .ended), ap (λ (q : Row). q .size) (c .before .before .before .before .before .at .ensures), c .before .before .loop-test .taken) in (
+      end-tested (p .0) (inside) (c .before .end-of .ensures),
       p .1,
       omega (arith, p .2, l .long),
       omega (arith, p .4, l .few, methods-few l, c .before .before .loop-test .taken),

@@ -24,10 +24,10 @@ put-tree-requires : tie.Need-put-tree-requires Inv-loop μ-loop
 put-tree-requires c κs =
     let s = c .before .before .before .before .before .before .before .before in
     let l = c .before .before .before .before .loop .inv in (
-      s .pre .1,
+      s .pre .2,
       omega (arith, l .trees .within .held, l .trees .within .few, c .before .before .before .loop-test .taken),
-      omega (arith, l .long, s .pre .2),
-      omega (arith, l .few, s .pre .3, c .before .before .before .loop-test .taken),
+      omega (arith, l .long, s .pre .3),
+      omega (arith, l .few, s .pre .4, c .before .before .before .loop-test .taken),
     )
 
 add-index : tie.Need-add-index Inv-loop μ-loop

@@ -1,7 +1,7 @@
 -- `put_uses` meets its contract. Assumes nothing.
 use Prim.Native.Nat.{_-_}
 use native.Mathlib.Omega.{arith}
-use Rattle.analysis.proofs.def_use.Methods.{ServicesLeft, services-start, services-on, uses-most, uses-end}
+use Rattle.analysis.proofs.def_use.Methods.{offered-arguments, offered-service, ServicesLeft, services-start, services-on, uses-most, uses-end}
 use Rattle.analysis.proofs.def_use.put_uses.Statement.{statement}
 use Rattle.analysis.proofs.def_use.put_uses.Tie as tie
 
@@ -15,7 +15,7 @@ put-trees-requires : tie.Need-put-trees-requires Inv-loop μ-loop
 put-trees-requires c κs =
     let p = c .before .before .before .before .before .pre in
     let o = p .0 in
-    (o .arguments, p .1, p .2, omega (arith, o .arguments .within .held, o .arguments .within .few))
+    (o .arguments, offered-arguments o, p .1, p .2, omega (arith, o .arguments .within .held, o .arguments .within .few))
 
 loop-holds : tie.Need-loop-holds Inv-loop μ-loop
 loop-holds c = services-start _ _ _ _ _ _ _ _ _ _
@@ -41,7 +41,7 @@ put-methods-requires c κs =
     let o = p .0 in
     let l = c .before .before .loop .inv in
     let most = c .before .before .before .before .before .put-trees .ensures .0 in (
-      record { names = o .names; count = o .nodes; nodes = o .book; table = o .table; inside = o .service (c .before .before .loop .s) (c .before .loop-test .taken) },
+      offered-service o (c .before .loop-test .taken),
       p .1,
       omega (arith, p .2, l .long, most .long),
       omega (arith, l .position, o .few, c .before .loop-test .taken),

@@ -19,7 +19,7 @@ mul-if1 : tie.Need-mul-if1 Inv-loop μ-loop
 mul-if1 c = search needs
 
 shared-slice-read-if1 : tie.Need-shared-slice-read-if1 Inv-loop μ-loop
-shared-slice-read-if1 c = omega (arith, c .before .loop-test .taken, c .before .before .before .pre)
+shared-slice-read-if1 c = omega (arith, c .before .loop-test .taken, c .before .before .before .pre .0)
 
 cast-result : tie.Need-cast-result Inv-loop μ-loop
 cast-result c = omega (arith, c .before .before .loop-test .taken)

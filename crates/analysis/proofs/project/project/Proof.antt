@@ -19,7 +19,9 @@ slice-aggregate-lowest-left : tie.Need-slice-aggregate-lowest-left
 slice-aggregate-lowest-left c = search needs
 
 lowest-left-requires : tie.Need-lowest-left-requires
-lowest-left-requires c κs = search needs
+lowest-left-requires c κs =
+    let first = c .before .before .before .before .project-methods .ensures in
+    (first .kept, (_, first .is _ _ (c .before .before .before .before .before .before .before .before .count-asked .ensures .1) .asking))
 
 -- places that are far back
 abbrev count-asked-from-lowest-left : tie.After-lowest-left → tie.After-count-asked

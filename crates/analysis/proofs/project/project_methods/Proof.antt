@@ -42,7 +42,7 @@ take-methods-requires c κs =
     let l = c .before .before .before .before .before .before .loop .inv in
     let y = (in-loop-from-take-methods-arg2 c) .before .before .before .before .before .before .pre .0 in
     let h = c .before .before .before .before .before .loop-test .taken in
-    (service-methods l y h _ (c .before .before .before .at .ensures), service-room l y h _ (c .before .before .before .at .ensures) ((in-loop-from-take-methods-arg2 c) .before .before .before .before .before .before .pre .2))
+    (service-methods l y h _ (c .before .before .before .at .ensures), service-room l y h _ (c .before .before .before .at .ensures) ((in-loop-from-take-methods-arg2 c) .before .before .before .before .before .before .pre .2) ((in-loop-from-take-methods-arg2 c) .before .before .before .before .before .before .pre .3))
 
 add-k : tie.Need-add-k Inv-loop μ-loop
 add-k c = omega (arith, (in-loop-from-take-methods-arg2 (c .before .before .before .before .before)) .loop-test .taken, (in-loop-from-take-methods-arg2 (c .before .before .before .before .before)) .before .before .before .before .before .before .pre .0 .few)

@@ -31,17 +31,14 @@ entry-from-head c = c .before .before .before .before .before .before .before .b
 link-requires : tie.Need-link-requires
 link-requires c κs = (record { names = _; known = (entry-from-head (c .before)) .pre .0 .known }, c .before .before .no-links .ensures, ap length ((entry-from-head (c .before)) .pre .2) ∙ places-length)
 
-no-flags-requires : tie.Need-no-flags-requires
-no-flags-requires c κs = search needs
-
 slice-aggregate-reaching : tie.Need-slice-aggregate-reaching
 slice-aggregate-reaching c = search needs
 
 slice-aggregate-reaching-2 : tie.Need-slice-aggregate-reaching-2
 slice-aggregate-reaching-2 c = search needs
 
-slice-aggregate-reaching-3 : tie.Need-slice-aggregate-reaching-3
-slice-aggregate-reaching-3 c = search needs
+no-flags-requires : tie.Need-no-flags-requires
+no-flags-requires c κs = search needs
 
 reaching-requires : tie.Need-reaching-requires
 reaching-requires c κs = search needs
@@ -56,15 +53,15 @@ same-length : tie.Need-same-length
 same-length c = search needs
 
 abbrev link-from-reaching : tie.After-reaching → tie.After-link
-link-from-reaching c = c .before .before .before .before .before .before .before .before .before
+link-from-reaching c = c .before .before .before .before .before .before .before .before
 
 returns : tie.Need-returns
 returns c =
-    let l = link-from-reaching (c .before .before .before .before .before .before) in
+    let l = link-from-reaching (c .before .before .before .before .before) in
     let p = (entry-from-head (l .before .before)) .pre in
     record {
       flags = _;
-      reach = c .before .before .before .before .before .before .reaching .ensures record {
+      reach = c .before .before .before .before .before .reaching .ensures record {
         rows = _;
         entries = _;
         names = _;
@@ -91,10 +88,9 @@ find-nearest-spec =
     no-links-requires
     slice-aggregate-link
     link-requires
-    no-flags-requires
     slice-aggregate-reaching
     slice-aggregate-reaching-2
-    slice-aggregate-reaching-3
+    no-flags-requires
     reaching-requires
     slice-aggregate-nearest
     nearest-requires

@@ -25,35 +25,35 @@ abbrev μ-loop : tie.MeasureT-loop
 no-links-requires : tie.Need-no-links-requires Inv-loop2 μ-loop2 Inv-loop μ-loop
 no-links-requires c κs = tt
 
-slice-write-flags : tie.Need-slice-write-flags Inv-loop2 μ-loop2 Inv-loop μ-loop
-slice-write-flags c = omega (arith, c .before .before .before .before .before .pre .1, ap length (c .before .before .before .before .before .pre .2) ∙ flags-length)
+array-write-flagged : tie.Need-array-write-flagged Inv-loop2 μ-loop2 Inv-loop μ-loop
+array-write-flagged c = omega (arith, c .before .before .before .before .pre .1, ap length (c .before .before .before .before .pre .2) ∙ flags-length)
 
 cast-queue : tie.Need-cast-queue Inv-loop2 μ-loop2 Inv-loop μ-loop
-cast-queue c = omega (arith, c .before .before .before .before .before .pre .1)
+cast-queue c = omega (arith, c .before .before .before .before .pre .1)
 
 array-write-queue : tie.Need-array-write-queue Inv-loop2 μ-loop2 Inv-loop μ-loop
 array-write-queue c = omega arith
 
 loop-holds : tie.Need-loop-holds Inv-loop2 μ-loop2 Inv-loop μ-loop
-loop-holds c = λ y. left-start _ _ _ _ _ _ _ _ (c .before .before .before .before .before .pre .1) (c .before .before .before .before .before .pre .2) (c .no-links .ensures)
+loop-holds c = λ y. left-start _ _ _ _ _ _ _ _ (c .before .before .before .before .pre .1) (c .before .before .before .before .pre .2) (c .no-links .ensures)
 
 mul-m : tie.Need-mul-m Inv-loop2 μ-loop2 Inv-loop μ-loop
-mul-m c = omega (arith, c .loop-test .taken, work-most (c .before .loop .inv (c .before .before .before .before .before .before .before .pre .0) .work))
+mul-m c = omega (arith, c .loop-test .taken, work-most (c .before .loop .inv (c .before .before .before .before .before .before .pre .0) .work))
 
 array-read-m : tie.Need-array-read-m Inv-loop2 μ-loop2 Inv-loop μ-loop
-array-read-m c = omega (arith, c .loop-test .taken, work-most (c .before .loop .inv (c .before .before .before .before .before .before .before .pre .0) .work))
+array-read-m c = omega (arith, c .loop-test .taken, work-most (c .before .loop .inv (c .before .before .before .before .before .before .pre .0) .work))
 
 cast-m : tie.Need-cast-m Inv-loop2 μ-loop2 Inv-loop μ-loop
-cast-m c = omega (arith, c .before .loop .inv (c .before .before .before .before .before .before .before .pre .0) .work .small _ (c .loop-test .taken))
+cast-m c = omega (arith, c .before .loop .inv (c .before .before .before .before .before .before .pre .0) .work .small _ (c .loop-test .taken))
 
 mul-x : tie.Need-mul-x Inv-loop2 μ-loop2 Inv-loop μ-loop
-mul-x c = omega (arith, c .before .loop .inv (c .before .before .before .before .before .before .before .pre .0) .work .small _ (c .loop-test .taken))
+mul-x c = omega (arith, c .before .loop .inv (c .before .before .before .before .before .before .pre .0) .work .small _ (c .loop-test .taken))
 
 shared-slice-read-x : tie.Need-shared-slice-read-x Inv-loop2 μ-loop2 Inv-loop μ-loop
-shared-slice-read-x c = let y = c .before .before .before .before .before .before .before .before .pre .0 in omega (arith, c .before .before .loop .inv y .work .small _ (c .before .loop-test .taken), y .links .heads)
+shared-slice-read-x c = let y = c .before .before .before .before .before .before .before .pre .0 in omega (arith, c .before .before .loop .inv y .work .small _ (c .before .loop-test .taken), y .links .heads)
 
 cast-x : tie.Need-cast-x Inv-loop2 μ-loop2 Inv-loop μ-loop
-cast-x c = let y = c .before .before .before .before .before .before .before .before .pre .0 in omega (arith, y .links .last _ (c .before .before .loop .inv y .work .small _ (c .before .loop-test .taken)) .inside, y .book .known .fewNodes)
+cast-x c = let y = c .before .before .before .before .before .before .before .pre .0 in omega (arith, y .links .last _ (c .before .before .loop .inv y .work .small _ (c .before .loop-test .taken)) .inside, y .book .known .fewNodes)
 
 loop2-holds : tie.Need-loop2-holds Inv-loop2 μ-loop2 Inv-loop μ-loop
 loop2-holds c = λ y. name-start (y .book) (y .owned) (y .links) (c .before .before .loop .inv y) (c .before .loop-test .taken)
@@ -63,7 +63,7 @@ sub-row c = omega (arith, c .loop2-test .taken)
 
 -- places that are far back
 abbrev entry-from-at-loop2 : tie.At-loop2 Inv-loop2 μ-loop2 Inv-loop μ-loop → tie.Start Inv-loop2 μ-loop2 Inv-loop μ-loop
-entry-from-at-loop2 c = c .before .before .before .before .before .before .before .before .before
+entry-from-at-loop2 c = c .before .before .before .before .before .before .before .before
 
 mul-x-2 : tie.Need-mul-x-2 Inv-loop2 μ-loop2 Inv-loop μ-loop
 mul-x-2 c = let y = (entry-from-at-loop2 (c .before)) .pre .0 in omega (arith, c .loop2-test .taken, c .before .loop2 .inv y .few, y .book .known .fewNodes)
@@ -99,35 +99,35 @@ one c = omega (arith, pos-of-ne-zero (c .if1 .left))
 small : (c : tie.Else1 Inv-loop2 μ-loop2 Inv-loop μ-loop) → getD ((entry-from-at-loop2 (c .before .before .before .before)) .args .owner .now) (c .before .before .before .before .loop2 .x - 1) 0 - 1 < 1024
 small c = let y = (entry-from-at-loop2 (c .before .before .before .before)) .pre .0 in owner-small (y .book) (y .owned) (c .before .before .before .before .loop2 .x - 1) _ (one c)
 
-slice-read-if2 : tie.Need-slice-read-if2 Inv-loop2 μ-loop2 Inv-loop μ-loop
-slice-read-if2 c = let y = (entry-from-at-loop2 (c .before .before .before .before .before)) .pre .0 in omega (arith, small (c .before), c .before .before .before .before .before .loop2 .inv y .left .work .long)
+array-read-if2 : tie.Need-array-read-if2 Inv-loop2 μ-loop2 Inv-loop μ-loop
+array-read-if2 c = let y = (entry-from-at-loop2 (c .before .before .before .before)) .pre .0 in omega (arith, small (c), c .before .before .before .before .loop2 .inv y .left .work .long)
 
 loop2-less-2 : tie.Need-loop2-less-2 Inv-loop2 μ-loop2 Inv-loop μ-loop
-loop2-less-2 c = let y = (entry-from-at-loop2 (c .before .before .before .before .before .before)) .pre .0 in omega (arith, next-most (y .book) (y .owned) (y .links) (c .before .before .before .before .before .before .loop2 .inv y) (c .before .before .before .before .before .before .loop2 .x - 1) (omega (arith, c .before .before .before .before .before .loop2-test .taken)), c .before .before .before .before .before .loop2-test .taken)
+loop2-less-2 c = let y = (entry-from-at-loop2 (c .before .before .before .before .before)) .pre .0 in omega (arith, next-most (y .book) (y .owned) (y .links) (c .before .before .before .before .before .loop2 .inv y) (c .before .before .before .before .before .loop2 .x - 1) (omega (arith, c .before .before .before .before .loop2-test .taken)), c .before .before .before .before .loop2-test .taken)
 
 loop2-again-2 : tie.Need-loop2-again-2 Inv-loop2 μ-loop2 Inv-loop μ-loop
-loop2-again-2 c = λ y. name-met (y .book) (y .owned) (y .links) (c .before .before .before .before .before .before .loop2 .inv y) (c .before .before .before .before .before .before .loop2 .x - 1) (omega (arith, c .before .before .before .before .before .loop2-test .taken)) _ (one (c .before .before)) (c .if2 .taken)
+loop2-again-2 c = λ y. name-met (y .book) (y .owned) (y .links) (c .before .before .before .before .before .loop2 .inv y) (c .before .before .before .before .before .loop2 .x - 1) (omega (arith, c .before .before .before .before .loop2-test .taken)) _ (one (c .before)) (c .if2 .taken)
 
-slice-write-flags-2 : tie.Need-slice-write-flags-2 Inv-loop2 μ-loop2 Inv-loop μ-loop
-slice-write-flags-2 c = let y = (entry-from-at-loop2 (c .before .before .before .before .before .before)) .pre .0 in omega (arith, small (c .before .before), c .before .before .before .before .before .before .loop2 .inv y .left .work .long)
+array-write-flagged-2 : tie.Need-array-write-flagged-2 Inv-loop2 μ-loop2 Inv-loop μ-loop
+array-write-flagged-2 c = let y = (entry-from-at-loop2 (c .before .before .before .before .before)) .pre .0 in omega (arith, small (c .before), c .before .before .before .before .before .loop2 .inv y .left .work .long)
 
 cast-queue-2 : tie.Need-cast-queue-2 Inv-loop2 μ-loop2 Inv-loop μ-loop
-cast-queue-2 c = omega (arith, small (c .before .before))
+cast-queue-2 c = omega (arith, small (c .before))
 
 mul-queue : tie.Need-mul-queue Inv-loop2 μ-loop2 Inv-loop μ-loop
-mul-queue c = omega (arith, work-room (c .before .before .before .before .before .before .loop2 .inv ((entry-from-at-loop2 (c .before .before .before .before .before .before)) .pre .0) .left .work) _ (small (c .before .before)) (c .if2 .left))
+mul-queue c = omega (arith, work-room (c .before .before .before .before .before .loop2 .inv ((entry-from-at-loop2 (c .before .before .before .before .before)) .pre .0) .left .work) _ (small (c .before)) (c .if2 .left))
 
 array-write-queue-2 : tie.Need-array-write-queue-2 Inv-loop2 μ-loop2 Inv-loop μ-loop
-array-write-queue-2 c = work-room (c .before .before .before .before .before .before .loop2 .inv ((entry-from-at-loop2 (c .before .before .before .before .before .before)) .pre .0) .left .work) _ (small (c .before .before)) (c .if2 .left)
+array-write-queue-2 c = work-room (c .before .before .before .before .before .loop2 .inv ((entry-from-at-loop2 (c .before .before .before .before .before)) .pre .0) .left .work) _ (small (c .before)) (c .if2 .left)
 
 add-len : tie.Need-add-len Inv-loop2 μ-loop2 Inv-loop μ-loop
-add-len c = omega (arith, work-room (c .before .before .before .before .before .before .loop2 .inv ((entry-from-at-loop2 (c .before .before .before .before .before .before)) .pre .0) .left .work) _ (small (c .before .before)) (c .if2 .left))
+add-len c = omega (arith, work-room (c .before .before .before .before .before .loop2 .inv ((entry-from-at-loop2 (c .before .before .before .before .before)) .pre .0) .left .work) _ (small (c .before)) (c .if2 .left))
 
 loop2-less-3 : tie.Need-loop2-less-3 Inv-loop2 μ-loop2 Inv-loop μ-loop
-loop2-less-3 c = let y = (entry-from-at-loop2 (c .before .before .before .before .before .before)) .pre .0 in omega (arith, next-most (y .book) (y .owned) (y .links) (c .before .before .before .before .before .before .loop2 .inv y) (c .before .before .before .before .before .before .loop2 .x - 1) (omega (arith, c .before .before .before .before .before .loop2-test .taken)), c .before .before .before .before .before .loop2-test .taken)
+loop2-less-3 c = let y = (entry-from-at-loop2 (c .before .before .before .before .before)) .pre .0 in omega (arith, next-most (y .book) (y .owned) (y .links) (c .before .before .before .before .before .loop2 .inv y) (c .before .before .before .before .before .loop2 .x - 1) (omega (arith, c .before .before .before .before .loop2-test .taken)), c .before .before .before .before .loop2-test .taken)
 
 loop2-again-3 : tie.Need-loop2-again-3 Inv-loop2 μ-loop2 Inv-loop μ-loop
-loop2-again-3 c = λ y. name-new (y .book) (y .owned) (y .links) (c .before .before .before .before .before .before .loop2 .inv y) (c .before .before .before .before .before .before .loop2 .x - 1) (omega (arith, c .before .before .before .before .before .loop2-test .taken)) _ (one (c .before .before)) (c .if2 .left)
+loop2-again-3 c = λ y. name-new (y .book) (y .owned) (y .links) (c .before .before .before .before .before .loop2 .inv y) (c .before .before .before .before .before .loop2 .x - 1) (omega (arith, c .before .before .before .before .loop2-test .taken)) _ (one (c .before)) (c .if2 .left)
 
 add-q : tie.Need-add-q Inv-loop2 μ-loop2 Inv-loop μ-loop
 add-q c = let y = (entry-from-at-loop2 (c .before)) .pre .0 in omega (arith, c .before .loop2 .inv y .inside, work-most (c .before .loop2 .inv y .left .work))
@@ -137,9 +137,6 @@ loop-less c = let y = (entry-from-at-loop2 (c .before)) .pre .0 in omega (arith,
 
 loop-again : tie.Need-loop-again Inv-loop2 μ-loop2 Inv-loop μ-loop
 loop-again c = λ y. name-end (y .book) (y .owned) (y .links) (c .before .loop2 .inv y) (omega (arith, c .loop2-test .left))
-
-same-length : tie.Need-same-length Inv-loop2 μ-loop2 Inv-loop μ-loop
-same-length c = omega (arith, c .before .loop .inv (c .before .before .before .before .before .before .before .pre .0) .work .long, ap length (c .before .before .before .before .before .before .before .pre .2) ∙ flags-length)
 
 returns : tie.Need-returns Inv-loop2 μ-loop2 Inv-loop μ-loop
 returns c = λ y. work-end (y .book) (y .owned) (y .links) (c .before .loop .inv y) (c .loop-test .left)
@@ -153,7 +150,7 @@ reaching-spec =
     Inv-loop
     μ-loop
     no-links-requires
-    slice-write-flags
+    array-write-flagged
     cast-queue
     array-write-queue
     loop-holds
@@ -174,10 +171,10 @@ reaching-spec =
     loop2-less
     loop2-again
     sub-n
-    slice-read-if2
+    array-read-if2
     loop2-less-2
     loop2-again-2
-    slice-write-flags-2
+    array-write-flagged-2
     cast-queue-2
     mul-queue
     array-write-queue-2
@@ -187,5 +184,4 @@ reaching-spec =
     add-q
     loop-less
     loop-again
-    same-length
     returns)

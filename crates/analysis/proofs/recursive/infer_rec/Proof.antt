@@ -6,7 +6,7 @@ use native.Mathlib.Omega.{arith}
 use lib.ListN.{length, getD}
 use Rattle.format.specs.Encode.{Row}
 use Rattle.analysis.proofs.recursive.Rows.{held, NodeIn, ends-in, row-in, root-in, small, GoLeft, go-start, go-end, go-other, go-again, go-anew}
-use Rattle.analysis.proofs.recursive.Laws.{InferLeft, infer-start, infer-end, infer-stop, name-in, root-node, infer-again, infer-on}
+use Rattle.analysis.proofs.recursive.Laws.{InferLeft, from-held, infer-start, infer-end, infer-stop, name-in, root-node, infer-again, infer-on}
 use Rattle.analysis.proofs.recursive.infer_rec.Statement.{statement}
 use Rattle.analysis.proofs.recursive.infer_rec.Tie as tie
 
@@ -17,7 +17,7 @@ abbrev μ-loop2 : tie.MeasureT-loop2
 μ-loop2 rows roots list seen₀ marked₀ done i name root n k₀ until seen marked k = until - k
 
 abbrev Inv-loop : tie.InvT-loop
-Inv-loop rows roots list seen₀ marked₀ done₀ i₀ seen marked done i = InferLeft rows roots list (held seen marked) done i
+Inv-loop rows roots list seen₀ marked₀ done₀ i₀ seen marked done i = InferLeft rows roots list (held seen₀ marked₀) (held seen marked) done i
 
 abbrev μ-loop : tie.MeasureT-loop
 μ-loop rows roots list seen₀ marked₀ done₀ i₀ seen marked done i = length list - i
@@ -25,14 +25,8 @@ abbrev μ-loop : tie.MeasureT-loop
 no-flags-requires : tie.Need-no-flags-requires Inv-loop2 μ-loop2 Inv-loop μ-loop
 no-flags-requires c κs = tt
 
-no-flags-requires-2 : tie.Need-no-flags-requires-2 Inv-loop2 μ-loop2 Inv-loop μ-loop
-no-flags-requires-2 c κs = tt
-
-no-flags-requires-3 : tie.Need-no-flags-requires-3 Inv-loop2 μ-loop2 Inv-loop μ-loop
-no-flags-requires-3 c κs = tt
-
 loop-holds : tie.Need-loop-holds Inv-loop2 μ-loop2 Inv-loop μ-loop
-loop-holds c = infer-start (c .before .before .no-flags .ensures) (c .before .no-flags2 .ensures) (c .no-flags3 .ensures)
+loop-holds c = infer-start (c .no-flags .ensures)
 
 mul-name : tie.Need-mul-name Inv-loop2 μ-loop2 Inv-loop μ-loop
 mul-name c = omega (arith, c .loop-test .taken, c .before .before .before .before .before .before .before .before .good)
@@ -44,21 +38,21 @@ add-i : tie.Need-add-i Inv-loop2 μ-loop2 Inv-loop μ-loop
 add-i c = omega (arith, c .before .loop-test .taken, c .before .before .before .before .before .before .before .before .before .good)
 
 root-of-requires : tie.Need-root-of-requires Inv-loop2 μ-loop2 Inv-loop μ-loop
-root-of-requires c κs = c .before .before .before .before .before .before .before .before .before .pre .bound .long
-
-returns : tie.Need-returns Inv-loop2 μ-loop2 Inv-loop μ-loop
-returns c = infer-stop (c .before .before .before .before .loop .inv) (c .before .before .before .loop-test .taken) _ refl _ (c .before .root-of .ensures) (c .if1 .taken)
+root-of-requires c κs = c .before .before .before .before .before .before .before .before .before .pre .0 .bound .long
 
 -- places that are far back
 abbrev entry-from-in-loop : tie.In-loop Inv-loop2 μ-loop2 Inv-loop μ-loop → tie.Start Inv-loop2 μ-loop2 Inv-loop μ-loop
 entry-from-in-loop c = c .before .before .before .before .before .before .before .before
 
+returns : tie.Need-returns Inv-loop2 μ-loop2 Inv-loop μ-loop
+returns c = from-held (infer-stop (c .before .before .before .before .loop .inv) (c .before .before .before .loop-test .taken) _ refl _ (c .before .root-of .ensures) (c .if1 .taken))
+
 -- a name with a definition is within the tables, and its root is a node
 known : (c : tie.Else1 Inv-loop2 μ-loop2 Inv-loop μ-loop) → getD ((entry-from-in-loop (c .before .before .before)) .args .list .now) (c .before .before .before .before .loop .i) 0 < 1024
-known c = name-in (c .before .before .before .before .loop .inv) (c .before .before .before .loop-test .taken) _ refl _ (c .before .root-of .ensures) ((entry-from-in-loop (c .before .before .before)) .pre) (c .if1 .left)
+known c = name-in (c .before .before .before .before .loop .inv) (c .before .before .before .loop-test .taken) _ refl _ (c .before .root-of .ensures) ((entry-from-in-loop (c .before .before .before)) .pre .0) (c .if1 .left)
 
 node : (c : tie.Else1 Inv-loop2 μ-loop2 Inv-loop μ-loop) → NodeIn ((entry-from-in-loop (c .before .before .before)) .args .rows .now) (c .before .root-of .result)
-node c = root-node (c .before .before .before .before .loop .inv) (c .before .before .before .loop-test .taken) _ refl _ (c .before .root-of .ensures) ((entry-from-in-loop (c .before .before .before)) .pre) (c .if1 .left)
+node c = root-node (c .before .before .before .before .loop .inv) (c .before .before .before .loop-test .taken) _ refl _ (c .before .root-of .ensures) ((entry-from-in-loop (c .before .before .before)) .pre .0) (c .if1 .left)
 
 cast-n : tie.Need-cast-n Inv-loop2 μ-loop2 Inv-loop μ-loop
 cast-n c = omega (arith, known c)
@@ -70,7 +64,7 @@ loop-less : tie.Need-loop-less Inv-loop2 μ-loop2 Inv-loop μ-loop
 loop-less c = omega (arith, c .before .before .before .before .loop-test .taken)
 
 loop-again : tie.Need-loop-again Inv-loop2 μ-loop2 Inv-loop μ-loop
-loop-again c = infer-again (c .before .before .before .before .before .loop .inv) (c .before .before .before .before .loop-test .taken) _ refl _ (c .before .before .root-of .ensures) ((entry-from-in-loop (c .before .before .before .before)) .pre) (c .before .if1 .left) (c .if2 .taken)
+loop-again c = infer-again (c .before .before .before .before .before .loop .inv) (c .before .before .before .before .loop-test .taken) _ refl _ (c .before .before .root-of .ensures) ((entry-from-in-loop (c .before .before .before .before)) .pre .0) (c .before .if1 .left) (c .if2 .taken)
 
 cast-k : tie.Need-cast-k Inv-loop2 μ-loop2 Inv-loop μ-loop
 cast-k c = omega (arith, c .before .before .root-of .ok)
@@ -134,10 +128,10 @@ loop-less-2 : tie.Need-loop-less-2 Inv-loop2 μ-loop2 Inv-loop μ-loop
 loop-less-2 c = omega (arith, c .before .before .before .before .before .before .before .before .loop-test .taken)
 
 loop-again-2 : tie.Need-loop-again-2 Inv-loop2 μ-loop2 Inv-loop μ-loop
-loop-again-2 c = infer-on (c .before .before .before .before .before .before .before .before .before .loop .inv) (c .before .before .before .before .before .before .before .before .loop-test .taken) _ refl _ (c .before .before .before .before .before .before .root-of .ensures) ((entry-from-in-loop (c .before .before .before .before .before .before .before .before)) .pre) (c .before .before .before .before .before .if1 .left) _ (go-end (c .before .loop2 .inv) (node (c .before .before .before .before .before)) (c .loop2-test .left))
+loop-again-2 c = infer-on (c .before .before .before .before .before .before .before .before .before .loop .inv) (c .before .before .before .before .before .before .before .before .loop-test .taken) _ refl _ (c .before .before .before .before .before .before .root-of .ensures) ((entry-from-in-loop (c .before .before .before .before .before .before .before .before)) .pre .0) (c .before .before .before .before .before .if1 .left) _ (go-end (c .before .loop2 .inv) (node (c .before .before .before .before .before)) (c .loop2-test .left))
 
 returns-2 : tie.Need-returns-2 Inv-loop2 μ-loop2 Inv-loop μ-loop
-returns-2 c = infer-end (c .before .loop .inv) (c .loop-test .left)
+returns-2 c = from-held (infer-end (c .before .loop .inv) (c .loop-test .left))
 
 pub infer-rec-spec : {M : Type 1} → statement M
 infer-rec-spec =
@@ -148,8 +142,6 @@ infer-rec-spec =
     Inv-loop
     μ-loop
     no-flags-requires
-    no-flags-requires-2
-    no-flags-requires-3
     loop-holds
     mul-name
     shared-slice-read-name

@@ -80,7 +80,7 @@ turn t c =
     }
 
 same-node-requires : (t : ℕ) → lts.Need-same-node-requires (calls t) (trees-at t) same-trees.Post Inv-loop μ-loop
-same-node-requires t c κs = let o = turn t c in (o .compared .long, first-fits o, second-fits o)
+same-node-requires t c κs = let o = turn t c in (o .compared .hashed, first-fits o, second-fits o)
 
 returns-2 : (t : ℕ) → lts.Need-returns-2 (calls t) (trees-at t) same-trees.Post Inv-loop μ-loop
 returns-2 t c = same-node (turn t (c .before .before)) (c .before .same-node .ensures) (not-true _ (c .if2 .taken))

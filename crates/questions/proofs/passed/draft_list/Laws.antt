@@ -36,7 +36,7 @@ use Rattle.listing.specs.Room.{needsActor}
 use Rattle.listing.specs.DraftList.{draftDefinitions, draftList}
 use Rattle.analysis.specs.declared.chase.Walk.{Walk}
 use Rattle.analysis.specs.Walking.{Counted, WalkedAs, RootIn}
-use Rattle.questions.specs.Answers.{WalkSays}
+use Rattle.questions.specs.Answers.{walkOutcome}
 use Rattle.questions.specs.Drafts.{OwnAs, MainWritten}
 use Rattle.questions.proofs.Walks.{Walks, walk-says}
 use Rattle.questions.proofs.Walks as walks
@@ -140,10 +140,10 @@ module _ {bs : List ℕ} {c : Contents} (a : Admitted bs c) where
             pub written : RootIn ns roots root × Counted ns roots k
             written = rw nodes-here (root-in table, walks.counted (draftDefinitions b) tabled few)
 
-            module _ {w : Walk} (x : WalkedAs ns roots k (actorAt ns root) w) where
+            module _ (w : Walk) (x : WalkedAs ns roots k (actorAt ns root) w) where
               pub draft-walks : Walks rows roots k (draftDefinitions b) (actorAt rows root) w
               draft-walks = record { tables = tabled; few = few; comes = subst (λ (l : List ℕ). WalkedAs l roots k (actorAt l root) w) nodes-here x }
 
-              pub draft-says : WalkSays (draftList b) w
+              pub draft-says : draftList b ≡ walkOutcome w
               unfolding after
               draft-says = walk-says draft-walks (draft-goes Passed (sym (rw h) ∙ once-is))

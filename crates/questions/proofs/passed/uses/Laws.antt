@@ -40,7 +40,7 @@ use Rattle.typing.specs.Passing.{PassedAs}
 use Rattle.typing.proofs.prog.Book.{fits, tabled, names-are, nodes-are}
 use Rattle.book.specs.declared.kinds.Contents.{Contents}
 use Rattle.book.specs.Reading.{Admitted}
-use Rattle.questions.proofs.Asking.{lacks-actor}
+use Rattle.questions.proofs.Asking.{lacks-actor, uses-as}
 use Rattle.questions.proofs.passed.uses.Sites.{followed, usedBy, used-says, used-hits, kept-same}
 use Rattle.analysis.proofs.reaching.Ownership.{admitted-defining}
 
@@ -81,18 +81,6 @@ module _ {bs : List ℕ} {c : Contents} {a : Admitted bs c} {roots ends′ : Lis
     offers : InterfaceAs rows (count (trees b)) ds (resolveActor b) i
     offers = x .offers some
 
-    pub offered : Offered rows ends′ (i .from) (i .until) (i .services) (i .count)
-    offered = record {
-      names = _;
-      nodes = _;
-      book = x .all .nodes;
-      table = x .checked .ended;
-      arguments = offers .arguments .whole;
-      inside = offers .arguments .inside;
-      few = offers .few;
-      service = λ k h. offers .service k h .0;
-    }
-
     module _ {n : ℕ} (few : n < 1024) {flags near : List ℕ} (reach : ReachAs ds n flags) (table : NearAs rows flags (count (trees b)) near) where
       abbrev offeredSites : List Site
       offeredSites = classSites 0 (siblings rows (i .from) (i .until)) ++ methodSites ds 0 (methodsIn rows (take (i .count) (i .services)))
@@ -116,13 +104,25 @@ module _ {bs : List ℕ} {c : Contents} {a : Admitted bs c} {roots ends′ : Lis
           ∙ ap given
           (row .row-is ∙ ap (map entryOf) (kept-same (row .used) test (sites ds (resolveActor b)) same) ∙ ap (λ (l : List Site). map entryOf (kept test l)) sites-are)
 
+      pub offered : Offered rows ends′ near (i .from) (i .until) (i .services) (i .count)
+      offered = record {
+        names = _;
+        nodes = _;
+        book = x .all .nodes;
+        table = x .checked .ended;
+        arguments = offers .arguments .whole;
+        inside = offers .arguments .inside;
+        few = offers .few;
+        service = λ k h. offers .service k h .0;
+        definitions = ds;
+        used = usedBy flags;
+        known = record { chains = x .chains; hits = used-hits reach few names-small (x .all .nodes) table };
+      }
+
       -- so what is handed over is the question's
-      pub uses-handed : {old new : List ℕ} {r : Answer} →
-          ((y : Offered rows ends′ (i .from) (i .until) (i .services) (i .count)) → UsesHanded rows ends′ near i (y .names) (y .nodes) old new r) →
-          UsesAs (uses b n) old new r
+      pub uses-handed : {old new : List ℕ} {r : Answer} → UsesHanded rows ends′ near i old new r → UsesAs (uses b n) old new r
       unfolding offered
-      uses-handed h =
-          h offered .handed ds (usedBy flags) (record { chains = x .chains; hits = used-hits reach few names-small (x .all .nodes) table }) (uses b n) uses-are
+      uses-handed h = uses-as uses-are (h .handed offered)
 
   -- ---- As the code has it, by the parts of the book
   module _ {ns : List ℕ} (here : ns ≡ rows) where
@@ -134,20 +134,19 @@ module _ {bs : List ℕ} {c : Contents} {a : Admitted bs c} {roots ends′ : Lis
       reached {n} {flags} h =
           subst (λ (l : List Definition). ReachAs l n flags) (ap₂ (λ (ns es : List ℕ). definitionsIn ns es 0 (p .main)) here there ∙ sym (x .definitions)) h
 
-      module _ (some : resolveActor b ≡ end → ⊥) where
-        pub offered-here : Offered ns ends′ (p .interface .from) (p .interface .until) (p .interface .services) (p .interface .count)
-        offered-here = subst (λ (l : List ℕ). Offered l ends′ (p .interface .from) (p .interface .until) (p .interface .services) (p .interface .count)) (sym here) (offered some)
+      module _ (some : resolveActor b ≡ end → ⊥) {n : ℕ} (few : n < 1024) {flags near : List ℕ}
+          (reach : ReachAs (definitionsIn ns es 0 (p .main)) n flags) (table : NearAs ns flags (p .contents .nodes) near) where
+        first-rows : NearAs rows flags (count (trees b)) near
+        first-rows = subst (λ (k : ℕ). NearAs rows flags k near) (nodes-are x) (subst (λ (l : List ℕ). NearAs l flags (p .contents .nodes) near) here table)
 
-        pub uses-here : {n : ℕ} → n < 1024 → {flags near : List ℕ} → ReachAs (definitionsIn ns es 0 (p .main)) n flags → NearAs ns flags (p .contents .nodes) near →
-            {old new : List ℕ} {r : Answer} →
-            ((y : Offered ns ends′ (p .interface .from) (p .interface .until) (p .interface .services) (p .interface .count)) →
-            UsesHanded ns ends′ near (p .interface) (y .names) (y .nodes) old new r) →
-            UsesAs (uses b n) old new r
-        uses-here few {flags} {near} reach table {old} {new} {r} h =
-            uses-handed some few (reached reach)
-            (subst (λ (k : ℕ). NearAs rows flags k near) (nodes-are x) (subst (λ (l : List ℕ). NearAs l flags (p .contents .nodes) near) here table))
-            (subst (λ (l : List ℕ). (y : Offered l ends′ (p .interface .from) (p .interface .until) (p .interface .services) (p .interface .count)) →
-            UsesHanded l ends′ near (p .interface) (y .names) (y .nodes) old new r) here h)
+        pub offered-here : Offered ns ends′ near (p .interface .from) (p .interface .until) (p .interface .services) (p .interface .count)
+        offered-here =
+            subst (λ (l : List ℕ). Offered l ends′ near (p .interface .from) (p .interface .until) (p .interface .services) (p .interface .count)) (sym here)
+            (offered some few (reached reach) first-rows)
+
+        pub uses-here : {old new : List ℕ} {r : Answer} → UsesHanded ns ends′ near (p .interface) old new r → UsesAs (uses b n) old new r
+        uses-here {old} {new} {r} h =
+            uses-handed some few (reached reach) first-rows (subst (λ (l : List ℕ). UsesHanded l ends′ near (p .interface) old new r) here h)
 
 -- ---- What is handed over
 module _ {o : Outcome (List Use)} {es : List Use} (is : o ≡ given es) {old : List ℕ} where
@@ -172,16 +171,16 @@ module _ {es : List Use} {old mid : List ℕ} {needed : ℕ} (first : Puts 0 0 e
   mid-is : mid ≡ old
   mid-is = puts-counts first refl
 
-  pub hands-short : (o : Outcome (List Use)) → o ≡ given es → length mid / 3 < needed → UsesAs o old mid (Refused (Short needed))
-  hands-short o e h =
+  pub hands-short : length mid / 3 < needed → UsesAs (given es) old mid (Refused (Short needed))
+  hands-short h =
       let n : needed ≡ length es = omega (arith, first .counted) in
-      subst (λ (l : List ℕ). UsesAs o old l (Refused (Short needed))) (sym mid-is)
-      (subst (λ (k : ℕ). UsesAs o old old (Refused (Short k))) (sym n) (uses-short e (rw (mid-is, n) at h)))
+      subst (λ (l : List ℕ). UsesAs (given es) old l (Refused (Short needed))) (sym mid-is)
+      (subst (λ (k : ℕ). UsesAs (given es) old old (Refused (Short k))) (sym n) (uses-short refl (rw (mid-is, n) at h)))
 
-  pub hands-given : (o : Outcome (List Use)) → o ≡ given es → {new : List ℕ} {written : ℕ} → (needed ≤ length mid / 3) → Puts (length mid / 3) 0 es mid new written → UsesAs o old new (Given written)
-  hands-given o e {new} {written} h second =
+  pub hands-given : {new : List ℕ} {written : ℕ} → (needed ≤ length mid / 3) → Puts (length mid / 3) 0 es mid new written → UsesAs (given es) old new (Given written)
+  hands-given {new} {written} h second =
       let n : needed ≡ length es = omega (arith, first .counted) in
       let w : written ≡ length es = omega (arith, second .counted) in
       let all = puts-all second (omega arith) (omega (arith, w, n, h)) in
-      subst (λ (k : ℕ). UsesAs o old new (Given k)) (sym w)
-      (uses-given e (rw (mid-is, n) at h) (all ∙ rw (w, mid-is)))
+      subst (λ (k : ℕ). UsesAs (given es) old new (Given k)) (sym w)
+      (uses-given refl (rw (mid-is, n) at h) (all ∙ rw (w, mid-is)))

@@ -18,7 +18,9 @@ slice-aggregate-merge : tie.Need-slice-aggregate-merge
 slice-aggregate-merge c = search needs
 
 merge-requires : tie.Need-merge-requires
-merge-requires c κs = let p = c .before .before .before .before .before .before .before .pre in rw (c .before .nodes .ensures) (mergeable (p .0) (p .1) (p .2) (c .before .before .name-hashes .ensures .long))
+merge-requires c κs =
+    let p = c .before .before .before .before .before .before .before .pre in
+    rw (c .before .nodes .ensures) (mergeable (p .0) (p .1) (p .2) (rw (c .before .before .before .names .ensures) at (c .before .before .name-hashes .ensures)))
 
 returns : tie.Need-returns
 returns c = λ a. merge-as a (rw (c .before .before .before .before .names .ensures) at (c .before .before .before .name-hashes .ensures)) (rw (c .before .before .nodes .ensures) at (c .merge .ensures))

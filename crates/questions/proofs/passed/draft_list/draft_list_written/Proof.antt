@@ -1,7 +1,7 @@
 -- `draft_list_written` meets its contract. Assumes nothing.
 use Rattle.syntax.proofs.Book.{definitions-within}
 use Rattle.book.proofs.Opened.{definitions-count}
-use Rattle.questions.proofs.Asking.{handed-refused}
+use Rattle.questions.proofs.Asking.{handed-refused, handed-as}
 use Rattle.questions.proofs.Walks.{walk-short}
 use Rattle.questions.proofs.passed.draft_list.Laws.{entered, draft-twice, written, draft-walks, draft-says}
 use mathlib.Core.Path.{ap}
@@ -66,7 +66,7 @@ hand-walk-requires c κs =
     let at-if1 = at-nodes .before in
     let start = at-if1 .before .before .before .before .before .before .before .before .before in
     let ready = written (start .pre .0) (start .pre .1) (at-if1 .before .before .before .before .before .before .definitions .ensures) (at-if1 .before .before .before .before .before .own-definitions .ensures) (at-if1 .before .before .enter .ensures) (at-if1 .if1 .left) (at-nodes .nodes .ensures) in
-    walk-short (draft-walks (start .pre .0) (start .pre .1) (at-if1 .before .before .before .before .before .before .definitions .ensures) (at-if1 .before .before .before .before .before .own-definitions .ensures) (at-if1 .before .before .enter .ensures) (at-if1 .if1 .left) (at-nodes .nodes .ensures) (walked-same (ready .1) _ (written-is _ _ (c .before .before .before .before .at .ensures) (start .pre .1 .some)) (c .before .chase-types .ensures)))
+    walk-short (draft-walks (start .pre .0) (start .pre .1) (at-if1 .before .before .before .before .before .before .definitions .ensures) (at-if1 .before .before .before .before .before .own-definitions .ensures) (at-if1 .before .before .enter .ensures) (at-if1 .if1 .left) (at-nodes .nodes .ensures) _ (walked-same (ready .1) _ (written-is _ _ (c .before .before .before .before .at .ensures) (start .pre .1 .some)) (c .before .chase-types .ensures)))
 
 same-length : tie.Need-same-length
 same-length c = search needs
@@ -77,7 +77,7 @@ returns-2 c =
     let at-if1 = at-nodes .before in
     let start = at-if1 .before .before .before .before .before .before .before .before .before in
     let ready = written (start .pre .0) (start .pre .1) (at-if1 .before .before .before .before .before .before .definitions .ensures) (at-if1 .before .before .before .before .before .own-definitions .ensures) (at-if1 .before .before .enter .ensures) (at-if1 .if1 .left) (at-nodes .nodes .ensures) in
-    λ a. c .before .before .hand-walk .ensures _ (draft-says a (start .pre .1) (at-if1 .before .before .before .before .before .before .definitions .ensures) (at-if1 .before .before .before .before .before .own-definitions .ensures) (at-if1 .before .before .enter .ensures) (at-if1 .if1 .left) (at-nodes .nodes .ensures) (walked-same (ready .1) _ (written-is _ _ (c .before .before .before .before .before .before .before .at .ensures) (start .pre .1 .some)) (c .before .before .before .before .chase-types .ensures)))
+    λ a. handed-as (draft-says a (start .pre .1) (at-if1 .before .before .before .before .before .before .definitions .ensures) (at-if1 .before .before .before .before .before .own-definitions .ensures) (at-if1 .before .before .enter .ensures) (at-if1 .if1 .left) (at-nodes .nodes .ensures) _ (walked-same (ready .1) _ (written-is _ _ (c .before .before .before .before .before .before .before .at .ensures) (start .pre .1 .some)) (c .before .before .before .before .chase-types .ensures))) (c .before .before .hand-walk .ensures)
 
 pub draft-list-written-spec : {M : Type 1} → statement M
 draft-list-written-spec =

@@ -27,7 +27,13 @@ use Rattle.questions.proofs.passed.empty.emptiness_passed.Tie as tie
 -- ---- The empty names of a book that passed, as the code has them
 module _ {bs : List ℕ} {c : Contents} {a : Admitted bs c} {roots ends′ : List ℕ} {p : Passed} (x : PassedAs a roots ends′ p) where
   ready : Environment (nodesPart bs) roots (p .contents .names)
-  ready = record { count = count (trees (a .book)); nodes = rw (names-are x) (x .all .nodes); table = x .checked .table }
+  ready = record {
+    count = count (trees (a .book));
+    nodes = rw (names-are x) (x .all .nodes);
+    table = x .checked .table;
+    definitions = mainDefinitions (a .book);
+    binds = tabled x .0;
+  }
 
   module _ {rows : List ℕ} (here : rows ≡ nodesPart bs) {flags : List ℕ} (k : EmptiedAs rows roots (p .contents .names) flags) where
     h : EmptiedAs (nodesPart bs) roots (p .contents .names) flags

@@ -4,12 +4,14 @@ use native.Mathlib.Omega.{arith}
 use lib.Seq.{length-take-le}
 use borrow.Author.Needs.{needs}
 use Rattle.syntax.proofs.Lists.{plain-length}
+use Rattle.questions.specs.Answers.{walkOutcome}
 use Rattle.questions.proofs.Asking.{handed-refused, handed-as}
 use Rattle.questions.proofs.passed.hand.hand_walk.Statement.{statement}
 use Rattle.questions.proofs.passed.hand.hand_walk.Tie as tie
 
 returns : tie.Need-returns
-returns c = λ o x. handed-refused _ (x .stops (c .if1 .taken))
+unfolding walkOutcome
+returns c = handed-refused _ (rw (c .if1 .taken))
 
 array-share-prefix-list : tie.Need-array-share-prefix-list
 array-share-prefix-list c =
@@ -28,7 +30,8 @@ same-length : tie.Need-same-length
 same-length c = search needs
 
 returns-2 : tie.Need-returns-2
-returns-2 c = λ o x. handed-as (x .ends (c .before .before .before .before .before .before .if1 .left)) (c .before .before .hand .ensures)
+unfolding walkOutcome
+returns-2 c = handed-as (rw (c .before .before .before .before .before .before .if1 .left)) (c .before .before .hand .ensures)
 
 pub hand-walk-spec : {M : Type 1} → statement M
 hand-walk-spec =

@@ -21,11 +21,11 @@ use Rattle.listing.specs.InitList.{initList}
 use Rattle.analysis.specs.declared.chase.Walk.{Walk}
 use Rattle.analysis.specs.Book.{Readable}
 use Rattle.analysis.specs.Walking.{Counted, WalkedAs}
-use Rattle.questions.specs.Answers.{WalkSays}
+use Rattle.questions.specs.Answers.{walkOutcome}
 use Rattle.refusals.proofs.Outcomes.{after-passed, after-stops}
 use Rattle.questions.proofs.Walks.{Walks, walk-says, walk-short}
 use Rattle.questions.proofs.Walks as walks
-use Rattle.questions.proofs.Asking.{handed-refused}
+use Rattle.questions.proofs.Asking.{handed-refused, handed-as}
 use borrow.Author.Needs.{needs}
 use Rattle.questions.proofs.passed.init_list.init_list_passed.Statement.{statement}
 use Rattle.questions.proofs.passed.init_list.init_list_passed.Tie as tie
@@ -54,12 +54,12 @@ module _ {bs : List ℕ} {c : Contents} {a : Admitted bs c} {roots ends′ : Lis
         rw here
         (record { rooted = record { names = _; count = _; all = q .all; bound = q .table }; whole = q .whole; inside = q .within }, walks.counted (bothDefinitions (a .book)) tabled (q .few))
 
-    module _ {w : Walk} (h : WalkedAs rows both (r .count) (siblings rows (r .from) (r .until)) w) where
+    module _ (w : Walk) (h : WalkedAs rows both (r .count) (siblings rows (r .from) (r .until)) w) where
       init-walks : Walks (nodesPart bs) both (r .count) (bothDefinitions (a .book)) (siblings (nodesPart bs) (r .from) (r .until)) w
       init-walks =
           record { tables = tabled; few = q .few; comes = subst (λ (l : List ℕ). WalkedAs l both (r .count) (siblings l (r .from) (r .until)) w) here h }
 
-      init-says : WalkSays (initList (a .book)) w
+      init-says : initList (a .book) ≡ walkOutcome w
       unfolding initList
       init-says =
           walk-says init-walks
@@ -99,7 +99,7 @@ chase-types-requires c κs =
 hand-walk-requires : tie.Need-hand-walk-requires
 hand-walk-requires c κs =
     let at-check-init-args = c .before .before .before .before .before .before .before .before in
-    walk-short (init-walks (at-check-init-args .before .before .before .before .before .before .before .pre .passed) (at-check-init-args .check-init-args .ensures _ (at-check-init-args .before .before .before .before .before .before .before .pre)) (c .before .before .before .before .before .enum-told .given .1) (c .before .before .before .nodes .ensures) (c .before .chase-types .ensures))
+    walk-short (init-walks (at-check-init-args .before .before .before .before .before .before .before .pre .passed) (at-check-init-args .check-init-args .ensures _ (at-check-init-args .before .before .before .before .before .before .before .pre)) (c .before .before .before .before .before .enum-told .given .1) (c .before .before .before .nodes .ensures) _ (c .before .chase-types .ensures))
 
 same-length : tie.Need-same-length
 same-length c = search needs
@@ -107,7 +107,7 @@ same-length c = search needs
 returns-2 : tie.Need-returns-2
 returns-2 c =
     let at-hand-walk = c .before .before in
-    λ b. at-hand-walk .hand-walk .ensures _ (init-says (b .passed) (at-hand-walk .before .before .before .before .before .before .before .before .before .check-init-args .ensures _ b) (at-hand-walk .before .before .before .before .before .before .enum-told .given .1) (at-hand-walk .before .before .before .before .nodes .ensures) (at-hand-walk .before .before .chase-types .ensures))
+    λ b. handed-as (init-says (b .passed) (at-hand-walk .before .before .before .before .before .before .before .before .before .check-init-args .ensures _ b) (at-hand-walk .before .before .before .before .before .before .enum-told .given .1) (at-hand-walk .before .before .before .before .nodes .ensures) _ (at-hand-walk .before .before .chase-types .ensures)) (at-hand-walk .hand-walk .ensures)
 
 pub init-list-passed-spec : {M : Type 1} → statement M
 init-list-passed-spec =

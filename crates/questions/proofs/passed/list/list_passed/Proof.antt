@@ -22,8 +22,8 @@ use Rattle.listing.specs.Chase.{chaseTypes, walked}
 use Rattle.listing.specs.List.{list}
 use Rattle.analysis.specs.declared.chase.Walk.{Walk}
 use Rattle.analysis.specs.Walking.{Counted, WalkedAs, InterfaceIn}
-use Rattle.questions.specs.Answers.{WalkSays}
-use Rattle.questions.proofs.Asking.{lacks-actor, has-actor, handed-refused}
+use Rattle.questions.specs.Answers.{walkOutcome}
+use Rattle.questions.proofs.Asking.{lacks-actor, has-actor, handed-refused, handed-as}
 use Rattle.questions.proofs.Walks.{Walks, walk-says, walk-short}
 use Rattle.questions.proofs.Walks as walks
 use borrow.Author.Tests.{not-true, not-false}
@@ -50,11 +50,11 @@ module _ {bs : List ℕ} {c : Contents} {a : Admitted bs c} {roots ends′ : Lis
     unfolding list
     list-lacks f = lacks-actor x is _ f
 
-    module _ {rows : List ℕ} (here : rows ≡ nodesPart bs) {w : Walk} (h : WalkedAs rows roots (p .main) (interfaceTree rows (p .interface)) w) where
+    module _ {rows : List ℕ} (here : rows ≡ nodesPart bs) (w : Walk) (h : WalkedAs rows roots (p .main) (interfaceTree rows (p .interface)) w) where
       list-walks : Walks (nodesPart bs) roots (p .main) (mainDefinitions (a .book)) (interfaceTree (nodesPart bs) (p .interface)) w
       list-walks = record { tables = tabled x; few = few x; comes = subst (λ (l : List ℕ). WalkedAs l roots (p .main) (interfaceTree l (p .interface)) w) here h }
 
-      list-says : has ≡ true → WalkSays (list (a .book)) w
+      list-says : has ≡ true → list (a .book) ≡ walkOutcome w
       unfolding list
       list-says f =
           walk-says list-walks
@@ -76,13 +76,13 @@ chase-actor-requires c κs = rw (c .nodes .ensures) (interface-in (c .before .be
 hand-walk-requires : tie.Need-hand-walk-requires
 hand-walk-requires c κs =
     let at-nodes = c .before .before in
-    walk-short (list-walks (at-nodes .before .before .before .before .before .before .before .before .before .pre .passed) (at-nodes .before .before .before .has-actor .ensures) (at-nodes .nodes .ensures) (c .before .chase-actor .ensures))
+    walk-short (list-walks (at-nodes .before .before .before .before .before .before .before .before .before .pre .passed) (at-nodes .before .before .before .has-actor .ensures) (at-nodes .nodes .ensures) _ (c .before .chase-actor .ensures))
 
 same-length : tie.Need-same-length
 same-length c = search needs
 
 returns-2 : tie.Need-returns-2
-returns-2 c = λ b. c .before .before .hand-walk .ensures _ (list-says (b .passed) (c .before .before .before .before .before .before .before .before .has-actor .ensures) (c .before .before .before .before .before .nodes .ensures) (c .before .before .before .before .chase-actor .ensures) (not-false _ (c .before .before .before .before .before .before .before .if1 .left)))
+returns-2 c = λ b. handed-as (list-says (b .passed) (c .before .before .before .before .before .before .before .before .has-actor .ensures) (c .before .before .before .before .before .nodes .ensures) _ (c .before .before .before .before .chase-actor .ensures) (not-false _ (c .before .before .before .before .before .before .before .if1 .left))) (c .before .before .hand-walk .ensures)
 
 pub list-passed-spec : {M : Type 1} → statement M
 list-passed-spec =

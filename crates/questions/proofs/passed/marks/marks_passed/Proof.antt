@@ -1,13 +1,12 @@
 -- `marks_passed` meets its contract. Assumes nothing.
 use mathlib.Core.Path.{_≡_, sym, ap, subst, _∙_}
 use mathlib.Core.Bool.{true, false}
-use mathlib.Core.List.{List}
+use mathlib.Core.List.{List, []}
 use Prim.Native.Nat.{ℕ, _≤_}
 use native.Mathlib.Omega.{arith}
 use lib.ListN.{length}
 use Rattle.refusals.specs.declared.Refusal.the-variants.{Unbound}
 use Rattle.refusals.specs.Outcome.{refused, given}
-use Rattle.format.specs.Book.{Definition}
 use Rattle.format.specs.Layout.{nodesPart}
 use Rattle.book.specs.declared.kinds.Contents.{Contents}
 use Rattle.book.specs.Reading.{Admitted}
@@ -22,7 +21,8 @@ use Rattle.listing.specs.Recursive.{inferRec}
 use Rattle.listing.specs.Marks.{marked, marksOver}
 use Rattle.analysis.specs.declared.recursive.Marks.{Marks}
 use Rattle.analysis.specs.Book.{Rooted}
-use Rattle.analysis.specs.Marking.{MarksHold}
+use Rattle.analysis.specs.Marking.{Flagged, MarksHold, nothingMarked, Begun, InferredAs}
+use Rattle.analysis.proofs.recursive.Rows.{nothing-held}
 use Rattle.analysis.proofs.recursive.Answers.{marked-stopped, marked-long, marked-given}
 use Rattle.refusals.proofs.Outcomes.{after-passed}
 use Rattle.questions.proofs.Asking.{handed-refused, handed-as}
@@ -38,9 +38,23 @@ module _ {bs : List ℕ} {c : Contents} {a : Admitted bs c} {roots ends′ : Lis
   names-few : p .contents .names ≤ 1024
   names-few = omega (arith, names-are x, x .all .nodes .fewNames)
 
-  module _ {rows : List ℕ} (here : rows ≡ nodesPart bs) (l : List ℕ) (m : Marks) (k : (ds : List Definition) → Binds rows roots ds → MarksHold (inferRec ds l) m) where
+  module _ {rows : List ℕ} (here : rows ≡ nodesPart bs) {fresh : Marks} (none : fresh ≡ nothingMarked) where
+    begun : Begun rows roots fresh
+    begun = record {
+      definitions = mainDefinitions (a .book);
+      binds = subst (λ (ns : List ℕ). Binds ns roots (mainDefinitions (a .book))) (sym here) (tabled x .0);
+      seen-by = [];
+      marked-by = [];
+      holds = subst (Flagged [] []) (sym none) nothing-held;
+    }
+
+    marks-from : Rooted rows roots × Begun rows roots fresh
+    marks-from = (subst (λ (ns : List ℕ). Rooted ns roots) (sym here) rooted, begun)
+
+  module _ {rows : List ℕ} (here : rows ≡ nodesPart bs) {fresh : Marks} (none : fresh ≡ nothingMarked) (l : List ℕ) (m : Marks) (k : InferredAs rows roots l fresh m) where
     h : MarksHold (inferRec (mainDefinitions (a .book)) l) m
-    h = k (mainDefinitions (a .book)) (subst (λ (ns : List ℕ). Binds ns roots (mainDefinitions (a .book))) (sym here) (tabled x .0))
+    unfolding inferRec begun
+    h = k .holds (begun here none)
 
     marks-stop : m .stopped ≡ true → marksOver (a .book) l ≡ refused (Unbound (m .bad))
     unfolding marksOver
@@ -62,11 +76,14 @@ module _ {bs : List ℕ} {c : Contents} {a : Admitted bs c} {roots ends′ : Lis
 nodes-requires : tie.Need-nodes-requires
 nodes-requires c κs = search needs
 
+no-marks-requires : tie.Need-no-marks-requires
+no-marks-requires c κs = search needs
+
 infer-rec-requires : tie.Need-infer-rec-requires
-infer-rec-requires c κs = rw (c .nodes .ensures) (rooted (c .before .before .before .before .before .before .before .pre .passed))
+infer-rec-requires c κs = marks-from (c .before .before .before .before .before .before .before .before .pre .passed) (c .before .nodes .ensures) (c .no-marks .ensures)
 
 returns : tie.Need-returns
-returns c = λ b. handed-refused _ (marks-stop (b .passed) (c .before .before .nodes .ensures) _ _ (c .before .infer-rec .ensures) (c .if1 .taken))
+returns c = λ b. handed-refused _ (marks-stop (b .passed) (c .before .before .before .nodes .ensures) (c .before .before .no-marks .ensures) _ _ (c .before .infer-rec .ensures) (c .if1 .taken))
 
 slice-aggregate-names-of : tie.Need-slice-aggregate-names-of
 slice-aggregate-names-of c = search needs
@@ -74,7 +91,7 @@ slice-aggregate-names-of c = search needs
 names-of-requires : tie.Need-names-of-requires
 names-of-requires c κs =
     let at-if1 = c .before .before in
-    let x = at-if1 .before .before .before .before .before .before .before .before .before .pre .passed in marks-ready x (at-if1 .before .before .nodes .ensures) _ _ (at-if1 .before .infer-rec .ensures) (at-if1 .if1 .left)
+    let x = at-if1 .before .before .before .before .before .before .before .before .before .before .pre .passed in marks-ready x (at-if1 .before .before .before .nodes .ensures) (at-if1 .before .before .no-marks .ensures) _ _ (at-if1 .before .infer-rec .ensures) (at-if1 .if1 .left)
 
 hand-names-requires : tie.Need-hand-names-requires
 hand-names-requires c κs = search needs
@@ -83,13 +100,18 @@ same-length : tie.Need-same-length
 same-length c = search needs
 
 returns-2 : tie.Need-returns-2
-returns-2 c = λ b. handed-as (marks-given (b .passed) (c .before .before .before .before .before .before .before .before .before .nodes .ensures) _ _ (c .before .before .before .before .before .before .before .before .infer-rec .ensures) (c .before .before .before .before .before .before .before .if1 .left) (c .before .before .before .before .names-of .ensures .0)) (c .before .before .hand-names .ensures)
+returns-2 c =
+    let at-if1 = c .before .before .before .before .before .before .before in
+    λ b. handed-as
+        (marks-given (b .passed) (at-if1 .before .before .before .nodes .ensures) (at-if1 .before .before .no-marks .ensures) _ _ (at-if1 .before .infer-rec .ensures) (at-if1 .if1 .left) (c .before .before .before .before .names-of .ensures .0))
+        (c .before .before .hand-names .ensures)
 
 pub marks-passed-spec : {M : Type 1} → statement M
 marks-passed-spec =
     tie.close
     (tie.spec
     nodes-requires
+    no-marks-requires
     infer-rec-requires
     returns
     slice-aggregate-names-of

@@ -14,7 +14,7 @@ same-length : tie.Need-same-length
 same-length c = search needs
 
 returns : tie.Need-returns
-returns c = λ x. record { handed = λ ds used k o e. hands-short (c .before .before .before .put-uses .ensures .1 x ds used k) o e (c .if1 .taken) }
+returns c = record { handed = λ x. hands-short (c .before .before .before .put-uses .ensures .1 x) (c .if1 .taken) }
 
 put-uses-requires-2 : tie.Need-put-uses-requires-2
 put-uses-requires-2 c κs = search needs
@@ -23,7 +23,7 @@ same-length-2 : tie.Need-same-length-2
 same-length-2 c = search needs
 
 returns-2 : tie.Need-returns-2
-returns-2 c = λ x. record { handed = λ ds used k o e. hands-given (c .before .before .before .before .before .before .before .put-uses .ensures .1 x ds used k) o e (c .before .before .before .before .if1 .left) (c .before .before .put-uses2 .ensures .1 x ds used k) }
+returns-2 c = record { handed = λ x. hands-given (c .before .before .before .before .before .before .before .put-uses .ensures .1 x) (c .before .before .before .before .if1 .left) (c .before .before .put-uses2 .ensures .1 x) }
 
 pub hand-uses-spec : {M : Type 1} → statement M
 hand-uses-spec =

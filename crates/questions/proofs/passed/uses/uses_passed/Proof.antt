@@ -39,7 +39,13 @@ slice-aggregate-hand-uses : tie.Need-slice-aggregate-hand-uses
 slice-aggregate-hand-uses c = search needs
 
 hand-uses-requires : tie.Need-hand-uses-requires
-hand-uses-requires c κs = let x = (else1-from-near (c .before .before .before .before)) .before .before .before .before .before .before .before .pre .passed in (offered-here x (c .before .before .before .before .before .before .before .nodes .ensures) (c .before .before .before .before .before .before .definitions .ensures) (some-actor x ((else1-from-near (c .before .before .before .before)) .before .has-actor .ensures) (not-false _ ((else1-from-near (c .before .before .before .before)) .if1 .left))), c .before .before .before .find-nearest .ensures .first .long)
+hand-uses-requires c κs =
+    let at-else1 = else1-from-near (c .before .before .before .before) in
+    let x = at-else1 .before .before .before .before .before .before .before .pre .passed in
+    let n = c .before .before .before .find-nearest .ensures in (
+      offered-here x (c .before .before .before .before .before .before .before .nodes .ensures) (c .before .before .before .before .before .before .definitions .ensures) (some-actor x (at-else1 .before .has-actor .ensures) (not-false _ (at-else1 .if1 .left))) (c .before .before .before .before .before .before .before .before .before .if2 .left) (n .reach) (n .first),
+      n .first .long,
+    )
 
 same-length : tie.Need-same-length
 same-length c = search needs
