@@ -15,7 +15,7 @@ use Rattle.format.specs.Node.{Node}
 use Rattle.format.specs.Book.{Definition}
 use Rattle.format.specs.Layout.{rowAt, siblings}
 use Rattle.format.specs.Whole.{Whole, WholeAt, treeAt}
-use Rattle.judgement.specs.Environment.{End}
+use Rattle.judgement.specs.Aliases.{End}
 use Rattle.environment.specs.Tables.{Nodes, EndNodes, EndAt, Chains, Ended}
 use Rattle.refusals.specs.Handed.{Use, numbers}
 use Rattle.listing.specs.Sites.{Site}

@@ -14,7 +14,8 @@ use Rattle.format.specs.Encode.{Row}
 use Rattle.format.specs.Layout.{rowAt}
 use Rattle.format.specs.Whole.{Within, WholeAt, treeAt}
 use Rattle.format.proofs.Rows.{node-within}
-use Rattle.judgement.specs.Environment.{findType, End, ends, aliasEnd}
+use Rattle.judgement.specs.Environment.{findType}
+use Rattle.judgement.specs.Aliases.{End, ends, aliasEnd}
 use Rattle.environment.specs.Tables.{nameEnd, EndAt, Chains, Ended, endNode}
 use Rattle.environment.proofs.FuncEnds.{node-ends, name-ends}
 

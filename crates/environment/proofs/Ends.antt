@@ -14,7 +14,8 @@ use Rattle.format.specs.Book.{Definition}
 use Rattle.refusals.specs.declared.Refusal as refusal
 use Rattle.refusals.specs.declared.Verdict.{Verdict}
 use Rattle.refusals.specs.Verdict.{andThen, unless}
-use Rattle.judgement.specs.Environment.{Found, missing, body, findType, End, unbound, circle, ends}
+use Rattle.judgement.specs.Environment.{Found, missing, body, findType}
+use Rattle.judgement.specs.Aliases.{End, unbound, circle, ends}
 use Rattle.judgement.specs.Check.{eachName, isCircle, circleVerdict}
 use Rattle.book.specs.Tables.{blankTable}
 use Rattle.environment.specs.Tables.{Binds, nameEnd, EndAt, EndKnown, FollowedAs, Unfinished, endBefore, Unbegun, NotedAs, AliasEndsAs}

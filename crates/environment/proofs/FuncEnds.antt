@@ -16,7 +16,8 @@ use Rattle.format.specs.Layout.{rowAt, kinds, kindOf, nodeOf}
 use Rattle.format.specs.Whole.{WholeAt, treeAt}
 use Rattle.format.proofs.References.{kind-alone}
 use Rattle.format.proofs.Stored.{tree-opens}
-use Rattle.judgement.specs.Environment.{findType, other, head, End, unbound, circle, ends, chain, aliasEnd, isFuncKind, rootPasses, asFunc}
+use Rattle.judgement.specs.Environment.{findType, other, head, isFuncKind}
+use Rattle.judgement.specs.Aliases.{End, unbound, circle, ends, chain, aliasEnd, rootPasses, asFunc}
 use Rattle.environment.specs.Tables.{Nodes, Binds, nameEnd, EndAt, AliasEndsAs, endIs}
 use Rattle.environment.proofs.Links.{chain-other, head-var, head-other}
 use Rattle.environment.proofs.Names.{to-name}

@@ -13,7 +13,8 @@ use Rattle.format.specs.Layout.{rowAt, nodeOf}
 use Rattle.format.specs.Whole.{Within, WholeAt, treeAt}
 use Rattle.format.proofs.References.{node-var, var-node}
 use Rattle.format.proofs.Stored.{tree-opens}
-use Rattle.judgement.specs.Environment.{missing, body, findType, named, other, headKind, head, unbound, circle, ends, met, link, chainFrom}
+use Rattle.judgement.specs.Environment.{missing, body, findType, named, other, headKind, head}
+use Rattle.judgement.specs.Aliases.{unbound, circle, ends, met, link, chainFrom}
 use Rattle.environment.specs.declared.Alias.{Alias}
 use Rattle.environment.specs.declared.Alias.the-variants.{Unbound, Circle, Ends}
 use Rattle.environment.specs.Tables.{Nodes, Roots, foundAt, Binds, asEnd, InRange}

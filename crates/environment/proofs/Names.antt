@@ -19,7 +19,8 @@ use Rattle.format.specs.Book.{Definition}
 use Rattle.format.specs.Encode.{Row}
 use Rattle.format.specs.Layout.{rowAt}
 use Rattle.format.specs.Whole.{Within, treeAt}
-use Rattle.judgement.specs.Environment.{Found, missing, body, findType, named, other, headKind, head, unbound, circle, ends, link, chainFrom, chain, aliasEnd}
+use Rattle.judgement.specs.Environment.{Found, missing, body, findType, named, other, headKind, head}
+use Rattle.judgement.specs.Aliases.{unbound, circle, ends, link, chainFrom, chain, aliasEnd}
 use Rattle.judgement.proofs.Chains.{crosses, outcome, run-end}
 use Rattle.environment.specs.Tables.{Nodes, Roots, Binds, nameEnd, EndAt, EndKnown, FollowedAs, Unfinished, NotedAs}
 use Rattle.environment.proofs.Links.{chain-other, chain-unbound, chain-circle, chain-on, head-var, head-other, found-none, found-some, getD-within, in-table}

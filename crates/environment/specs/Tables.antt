@@ -9,7 +9,8 @@ use Rattle.format.specs.Book.{Definition}
 use Rattle.format.specs.Encode.{Entry}
 use Rattle.format.specs.Layout.{run, entryAt, rowAt}
 use Rattle.format.specs.Whole.{Within, WholeIn, RowFits, treeAt, definitionAt}
-use Rattle.judgement.specs.Environment.{Found, missing, body, findType, End, unbound, circle, ends, aliasEnd}
+use Rattle.judgement.specs.Environment.{Found, missing, body, findType}
+use Rattle.judgement.specs.Aliases.{End, unbound, circle, ends, aliasEnd}
 use Rattle.judgement.specs.Check.{member, eachName, circleVerdict}
 use Rattle.book.specs.Tables.{blankTable}
 use Rattle.refusals.specs.declared.Refusal as refusal

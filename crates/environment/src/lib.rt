@@ -7,7 +7,7 @@ ghost use Prim.Native.Nat.{_≤_, _<_};
 ghost use lib.ListN.{length};
 ghost use Rattle.format.specs.Book.{Definition};
 ghost use Rattle.format.specs.Whole.{treeAt};
-ghost use Rattle.judgement.specs.Environment.{chainFrom};
+ghost use Rattle.judgement.specs.Aliases.{chainFrom};
 ghost use Rattle.book.specs.Tables.{blankTable};
 ghost use Rattle.environment.specs.Tables.{Nodes, Entries, Roots, Binds, Tabled, asEnd, InRange, DefinesAs, Ended, EndKnown, FollowedAs, Unfinished, endBefore, Unbegun, NotedAs, AliasEndsAs, endIs, endNode};
 

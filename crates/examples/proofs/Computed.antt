@@ -6,9 +6,10 @@ use Rattle.labels.specs.Number.{weightedSum, labelNumber}
 use Rattle.format.specs.Forest.{beside}
 use Rattle.format.specs.Book.{Book}
 use Rattle.format.specs.Layout.{nameIn}
-use Rattle.judgement.specs.Environment.{methodsAt, sameKind, sameForest}
+use Rattle.judgement.specs.Environment.{sameKind, sameForest}
+use Rattle.judgement.specs.Aliases.{methodsAt}
 use Rattle.format.specs.Labels.{labelId, sameLabel}
-use Rattle.judgement.specs.Actor.{methodsOf, importedMethods, mergedActor}
+use Rattle.judgement.specs.Resolve.{methodsOf, importedMethods, mergedActor}
 use Rattle.judgement.specs.Check.{serviceVerdict, importedVerdict, hashesVerdict, mainVerdict, checkBytes, initCheckBytes}
 use Rattle.listing.specs.Recursive.{note, noteName, markArm, go, see, listed, inferFrom, inferRec, sorted}
 use Rattle.listing.specs.Project.{without, take′, projectFrom, lowest, leftOver, projected, project}

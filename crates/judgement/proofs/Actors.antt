@@ -32,7 +32,8 @@ use Rattle.refusals.specs.declared.Verdict.{Verdict}
 use Rattle.refusals.specs.declared.Verdict.the-variants.{Passed, Refused}
 use Rattle.refusals.specs.Verdict.{unless}
 use Rattle.refusals.proofs.Verdicts.{refused-passed, passed-refused}
-use Rattle.judgement.specs.Environment.{End, unbound, circle, ends, head, headKind, aliasEnd, isServKind, rootPasses, asService, kidsOf}
+use Rattle.judgement.specs.Environment.{head, headKind, isServKind, kidsOf}
+use Rattle.judgement.specs.Aliases.{End, unbound, circle, ends, aliasEnd, rootPasses, asService}
 use Rattle.judgement.specs.Actor.{isClassKind, isClass, lastTree, classArguments, belowClass, serviceOf, classOf, mergedOf}
 use Rattle.judgement.specs.Check.{checkForest, isCircle, importsVerdict, serviceVerdict, importedVerdict, hashesVerdict, mainVerdict, actorVerdict}
 use Rattle.judgement.specs.WellFormed.{definedName, arrived, RootIs, StandsFor, Bound, WellFormedTrees, belowTop}

@@ -19,7 +19,8 @@ use lib.ListN.{length, length-map}
 use Rattle.format.specs.Forest.{Forest, end, tree, breadth}
 use Rattle.format.specs.Node.{Kind, Node}
 use Rattle.format.specs.Book.{Definition}
-use Rattle.judgement.specs.Environment.{missing, body, findType, Head, named, other, head, End, unbound, circle, ends, Chain, met, link, cross, chainFrom, chain, aliasEnd, isFuncKind, isServKind, rootPasses, asFunc, asService}
+use Rattle.judgement.specs.Environment.{missing, body, findType, Head, named, other, head, isFuncKind, isServKind}
+use Rattle.judgement.specs.Aliases.{End, unbound, circle, ends, Chain, met, link, cross, chainFrom, chain, aliasEnd, rootPasses, asFunc, asService}
 use Rattle.judgement.specs.Check.{isCircle}
 use Rattle.format.specs.Distinct.{Distinct, none, more}
 use Rattle.judgement.specs.WellFormed.{definedName, Defined, Leads, arrived, onward, RootIs, StandsFor, Bound}

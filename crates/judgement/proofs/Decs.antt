@@ -21,7 +21,8 @@ use Rattle.refusals.specs.declared.Refusal.the-variants.{Twice, Circle, NoFunct
 use Rattle.refusals.specs.declared.Verdict.the-variants.{Passed, Refused}
 use Rattle.refusals.specs.Verdict.{unless}
 use Rattle.refusals.proofs.Verdicts.{passed-refused, not-says}
-use Rattle.judgement.specs.Environment.{Found, missing, body, findType, aliasEnd}
+use Rattle.judgement.specs.Environment.{Found, missing, body, findType}
+use Rattle.judgement.specs.Aliases.{aliasEnd}
 use Rattle.judgement.specs.Check.{checkForest, onceVerdict, bodiesVerdict, eachName, isCircle, circleVerdict, methodsFit, bodiesFit, decsVerdict}
 use Rattle.judgement.specs.WellFormed.{definedName, MethodsAreFunctions}
 use Rattle.judgement.specs.Rows.{Repeated, NeverEnds, HasMethod, InBodies, CircleFrom}

@@ -18,8 +18,10 @@ use Rattle.format.specs.Forest.{Forest, end, tree, beside, breadth}
 use Rattle.format.specs.Node.{Kind, ServT, Node}
 use Rattle.format.specs.Book.{Definition, File, Book}
 use Rattle.format.specs.Distinct.{Distinct}
-use Rattle.judgement.specs.Environment.{mainDefinitions, head, ends, isServKind, kidsOf, methodsAt}
-use Rattle.judgement.specs.Actor.{serviceImports, mainActor, isClassKind, isClass, classArguments, belowClass, serviceOf, classOf, methodsOf, importedMethods, mergedOf, mergedActor, resolveWith, resolveActor}
+use Rattle.judgement.specs.Environment.{mainDefinitions, head, isServKind, kidsOf}
+use Rattle.judgement.specs.Aliases.{ends, methodsAt}
+use Rattle.judgement.specs.Actor.{serviceImports, mainActor, isClassKind, isClass, classArguments, belowClass, serviceOf, classOf, mergedOf}
+use Rattle.judgement.specs.Resolve.{methodsOf, importedMethods, mergedActor, resolveWith, resolveActor}
 use Rattle.judgement.specs.WellFormed.{definedName, Leads, arrived, onward, RootIs, StandsFor}
 use Rattle.judgement.specs.Meaning.{Serves, Together, none, more, mainService, actorOf, services, ActorOf, written, merged}
 use Rattle.judgement.proofs.Heads.{other-named, named-no-class}

@@ -15,7 +15,8 @@ use Rattle.format.specs.Book.{Definition}
 use Rattle.refusals.specs.declared.Refusal.the-variants.{Unbound, Circle}
 use Rattle.refusals.specs.declared.Verdict.{Verdict}
 use Rattle.refusals.specs.declared.Verdict.the-variants.{Passed, Refused}
-use Rattle.judgement.specs.Environment.{mergeDefinitions, Found, missing, body, findType, named, head, End, unbound, ends, chain, aliasEnd}
+use Rattle.judgement.specs.Environment.{mergeDefinitions, Found, missing, body, findType, named, head}
+use Rattle.judgement.specs.Aliases.{End, unbound, ends, chain, aliasEnd}
 use Rattle.judgement.specs.Check.{nameVerdict, kindVerdict, checkForest, onceVerdict, bodiesVerdict, eachName, isCircle, circleVerdict, decsVerdict}
 use Rattle.refusals.proofs.Verdicts.{refused-passed, both-pass, unless-passed, passed-unless}
 use Rattle.judgement.proofs.Lookup.{found-cases, not-both-found, find-body, merge-first, merge-second}

@@ -6,7 +6,8 @@ use mathlib.Core.Path.{_≡_, refl}
 use mathlib.Core.Bool.{Bool, true, false, cond}
 use Rattle.format.specs.Forest.{Forest, end, tree}
 use Rattle.format.specs.Node.{Node}
-use Rattle.judgement.specs.Environment.{End, unbound, circle, ends, isServKind, rootPasses, kidsOf, methodsAt}
+use Rattle.judgement.specs.Environment.{isServKind, kidsOf}
+use Rattle.judgement.specs.Aliases.{End, unbound, circle, ends, rootPasses, methodsAt}
 
 pub served-methods : (t : Forest Node) → rootPasses isServKind (ends t) ≡ true → methodsAt (ends t) ≡ kidsOf t
 unfolding methodsAt rootPasses kidsOf

@@ -21,7 +21,8 @@ use Rattle.refusals.specs.declared.Verdict.the-variants.{Passed}
 use Rattle.refusals.specs.Verdict.{andThen}
 use Rattle.refusals.proofs.Verdicts.{passed-refused}
 use Rattle.judgement.specs.Environment.{mainDefinitions, isServKind, kidsOf}
-use Rattle.judgement.specs.Actor.{serviceImports, mainActor, belowClass, mergedOf, resolveActor}
+use Rattle.judgement.specs.Actor.{serviceImports, mainActor, belowClass, mergedOf}
+use Rattle.judgement.specs.Resolve.{resolveActor}
 use Rattle.judgement.specs.Check.{importedVerdict, hashesVerdict, mainVerdict, resolveVerdict, actorVerdict}
 use Rattle.judgement.specs.WellFormed.{definedName, StandsFor, WellFormedTrees, belowTop}
 use Rattle.judgement.specs.Rust.{OneMode, hashOf, hashesOf, Hashed}

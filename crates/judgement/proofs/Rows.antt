@@ -27,7 +27,8 @@ use Rattle.refusals.specs.declared.Refusal.the-variants.{NoService, ImportWitho
 use Rattle.refusals.specs.declared.Verdict.the-variants.{Passed, Refused}
 use Rattle.refusals.specs.Refusal.{numberOf}
 use Rattle.judgement.specs.Environment.{mainDefinitions, isFuncKind, isServKind}
-use Rattle.judgement.specs.Actor.{serviceImports, mainActor, belowClass, resolveActor}
+use Rattle.judgement.specs.Actor.{serviceImports, mainActor, belowClass}
+use Rattle.judgement.specs.Resolve.{resolveActor}
 use Rattle.judgement.specs.Check.{member, check, initCheck, checkBytes, initCheckBytes}
 use Rattle.judgement.specs.WellFormed.{definedName, StandsFor, belowTop}
 use Rattle.judgement.specs.Rust.{hashOf, hashesOf}

@@ -23,7 +23,8 @@ use Rattle.format.proofs.Admission.{judged-says}
 use Rattle.refusals.specs.declared.Verdict.the-variants.{Passed}
 use Rattle.refusals.proofs.Verdicts.{pass-both, and-passed}
 use Rattle.judgement.specs.Environment.{roleAt, mainDefinitions, initDefinitions, findType, mergeDefinitions, kidsOf}
-use Rattle.judgement.specs.Actor.{serviceImports, initTree, NoInit, belowClass, resolveActor}
+use Rattle.judgement.specs.Actor.{serviceImports, initTree, NoInit, belowClass}
+use Rattle.judgement.specs.Resolve.{resolveActor}
 use Rattle.judgement.specs.Check.{checkForest, onceVerdict, bodiesVerdict, eachName, circleVerdict, bodiesFit, decsVerdict, check, sameVerdict, mergeVerdict, initVerdict, initCheck, checkBytes, initCheckBytes}
 use Rattle.judgement.specs.WellFormed.{WellFormedTrees, belowTop, Typed, TypedInit}
 use Rattle.judgement.specs.Meaning.{ActorOf}

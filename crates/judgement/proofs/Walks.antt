@@ -27,7 +27,8 @@ use Rattle.refusals.specs.declared.Refusal.the-variants.{Unbound, Class, Modes,
 use Rattle.refusals.specs.declared.Verdict.{Verdict}
 use Rattle.refusals.specs.declared.Verdict.the-variants.{Passed, Refused}
 use Rattle.refusals.proofs.Verdicts.{refused-passed, passed-refused, both-pass, pass-both, which-refused, unless-passed, unless-refused, fails-not}
-use Rattle.judgement.specs.Environment.{Found, missing, body, findType, isFuncKind, isServKind, asFunc}
+use Rattle.judgement.specs.Environment.{Found, missing, body, findType, isFuncKind, isServKind}
+use Rattle.judgement.specs.Aliases.{asFunc}
 use Rattle.judgement.specs.Actor.{isClassKind}
 use Rattle.judgement.specs.Check.{nameVerdict, isOneway, modesVerdict, kindVerdict, methodVerdict, checkForest, methodsFit}
 use Rattle.judgement.specs.WellFormed.{definedName, Defined, StandsFor, MethodsAreFunctions, WellFormedTrees}

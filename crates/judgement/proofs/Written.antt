@@ -22,7 +22,8 @@ use Rattle.format.specs.Occurs.{here}
 use Rattle.format.specs.Distinct.{Distinct}
 use Rattle.format.proofs.Occurs.{Everywhere, EachTree, occurs-end, beside-none, everywhere-tree, in-kids, everywhere-beside, beside-everywhere, each-beside, beside-each}
 use Rattle.judgement.specs.Environment.{mainDefinitions, isServKind, kidsOf}
-use Rattle.judgement.specs.Actor.{serviceImports, mainActor, isClassKind, isClass, lastTree, allButLast, classArguments, belowClass, serviceOf, classOf, mergedOf, resolveActor}
+use Rattle.judgement.specs.Actor.{serviceImports, mainActor, isClassKind, isClass, lastTree, allButLast, classArguments, belowClass, serviceOf, classOf, mergedOf}
+use Rattle.judgement.specs.Resolve.{resolveActor}
 use Rattle.judgement.specs.WellFormed.{Defined, Leads, arrived, onward, StandsFor, WellFormedTrees, WellFormedDefinitions, belowTop, Typed}
 use Rattle.judgement.specs.Meaning.{Serves, Together, none, more, services}
 use Rattle.judgement.specs.Rust.{OneMode, OneModeDefinitions, hashesOf, Hashed, Rust}

@@ -1,12 +1,12 @@
--- The actor that a book means: `IDLMergedProg::resolve_actor` of syntax/mod.rs, where nothing is refused. Definitions; assumes nothing.
+-- Actors as written: files by role, classes, and an actor made of merged methods. Definitions; assumes nothing.
 use mathlib.Core.Path.{_≡_}
 use mathlib.Core.Bool.{Bool, true, false, cond}
 use mathlib.Core.List.{List, [], _∷_, List·Memᴰ}
 use Rattle.format.specs.Forest.{Forest, end, tree, beside}
 use Rattle.format.specs.Node.{Kind, PrimT, VarT, OptT, VecT, RecordT, VariantT, FuncT, ServT, ClassT, InitT, unlabelled, Node}
-use Rattle.format.specs.Book.{Definition, Role, Main, TypeImport, ServiceImport, InitArgs, File, Book}
+use Rattle.format.specs.Book.{Role, Main, TypeImport, ServiceImport, InitArgs, File, Book}
 use Rattle.format.specs.Fits.{isInitRole}
-use Rattle.judgement.specs.Environment.{mainDefinitions, aliasEnd, kidsOf, methodsAt}
+use Rattle.judgement.specs.Environment.{kidsOf}
 
 -- ---- Files by role
 unfoldable pub isServiceImport : Role → Bool
@@ -70,33 +70,13 @@ classArguments t = cond (isClass t) (allButLast (kidsOf t)) end
 unfoldable pub belowClass : Forest Node → Forest Node
 belowClass t = cond (isClass t) (lastTree (kidsOf t)) t
 
--- ---- The resolved actor
+-- ---- An actor of merged methods
 abbrev pub serviceOf : Forest Node → Forest Node
 serviceOf methods = tree (record { kind = ServT; label = unlabelled }) methods end
 
 abbrev pub classOf : Forest Node → Forest Node → Forest Node
 classOf arguments service = tree (record { kind = ClassT; label = unlabelled }) (beside arguments service) end
 
--- The methods of an actor or of a class's service, its alias end followed: `chase_service`.
-unfoldable pub methodsOf : List Definition → Forest Node → Forest Node
-methodsOf ds t = methodsAt (aliasEnd ds t)
-
-unfoldable pub importedMethods : List Definition → List File → Forest Node
-importedMethods ds [] = end
-importedMethods ds (f ∷ fs) = beside (methodsOf ds (f .actor)) (importedMethods ds fs)
-
 -- Main with these methods: a class keeps its arguments.
 abbrev pub mergedOf : Forest Node → Forest Node → Forest Node
 mergedOf main methods = cond (isClass main) (classOf (classArguments main) (serviceOf methods)) (serviceOf methods)
-
--- Main's methods first, then each import's in file order.
-unfoldable pub mergedActor : List Definition → Forest Node → List File → Forest Node
-mergedActor ds main imports = mergedOf main (beside (methodsOf ds (belowClass main)) (importedMethods ds imports))
-
--- Without service imports the main actor is taken as written; `end` where there is none.
-unfoldable pub resolveWith : List Definition → Forest Node → List File → Forest Node
-resolveWith ds main [] = main
-resolveWith ds main (f ∷ fs) = mergedActor ds main (f ∷ fs)
-
-unfoldable pub resolveActor : Book → Forest Node
-resolveActor b = resolveWith (mainDefinitions b) (mainActor b) (serviceImports (b .files))

@@ -17,8 +17,10 @@ use Rattle.refusals.specs.declared.Verdict.{Verdict}
 use Rattle.refusals.specs.declared.Verdict.the-variants.{Passed, Refused}
 use Rattle.refusals.specs.Verdict.{andThen, unless}
 use Rattle.refusals.specs.Outcome.{judged}
-use Rattle.judgement.specs.Environment.{mainDefinitions, initDefinitions, mergeDefinitions, Found, missing, body, findType, End, unbound, circle, ends, aliasEnd, isServKind, rootPasses, asFunc, asService, kidsOf, sameForest}
-use Rattle.judgement.specs.Actor.{serviceImports, mainActor, initTree, isClass, belowClass, resolveActor}
+use Rattle.judgement.specs.Environment.{mainDefinitions, initDefinitions, mergeDefinitions, Found, missing, body, findType, isServKind, kidsOf, sameForest}
+use Rattle.judgement.specs.Aliases.{End, unbound, circle, ends, aliasEnd, rootPasses, asFunc, asService}
+use Rattle.judgement.specs.Actor.{serviceImports, mainActor, initTree, isClass, belowClass}
+use Rattle.judgement.specs.Resolve.{resolveActor}
 
 -- ---- Types: `check_type`, `check_fields`, `check_meths`
 

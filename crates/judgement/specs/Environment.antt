@@ -1,4 +1,4 @@
--- What names stand for: type_env.rs. Definitions; assumes nothing.
+-- Definitions by name, and types by their roots: type_env.rs. Definitions; assumes nothing.
 use mathlib.Core.Bool.{Bool, true, false, cond, _&&_, not}
 use mathlib.Core.List.{List, [], _∷_, _++_}
 use Prim.Native.Nat.{ℕ, zero, suc}
@@ -46,7 +46,7 @@ isMissing (body t) = false
 unfoldable pub mergeDefinitions : List Definition → List Definition → List Definition
 mergeDefinitions init main = init ++ keep (λ d. isMissing (findType init (d .name))) main
 
--- ---- The alias chain: a type that is a name, its definition if that is a name, and so on
+-- ---- Types by their roots
 
 -- A type that is a name, or another.
 pub data Head : Type 0 where
@@ -69,41 +69,6 @@ unfoldable pub head : Forest Node → Head
 head end = other
 head (tree n kids next) = headKind (n .kind)
 
--- Where a chain ends: at a name without definition, never, or at a type that is no name.
-pub data End : Type 0 where
-  unbound : ℕ → End
-  circle : End
-  ends : Forest Node → End
-
--- The names that a chain crosses, and its end.
-pub record Chain : Type 0 where
-  pub crossed : List ℕ
-  pub last : End
-
--- One link: what is met at a name, where `bound` goes on with the type of a name that has a definition.
-unfoldable pub met : (ℕ → Forest Node → Chain) → ℕ → Found → Chain
-met bound n missing = record { crossed = []; last = unbound n }
-met bound n (body t) = bound n t
-
-unfoldable pub link : (ℕ → Forest Node → Chain) → List Definition → Forest Node → Head → Chain
-link bound ds t other = record { crossed = []; last = ends t }
-link bound ds t (named n) = met bound n (findType ds n)
-
-abbrev pub cross : ℕ → Chain → Chain
-cross n c = record { crossed = n ∷ c .crossed; last = c .last }
-
--- At most k names are crossed. Where k is the number of definitions, a chain that would cross one more never ends.
-unfoldable pub chainFrom : ℕ → List Definition → Forest Node → Chain
-chainFrom zero ds t = link (λ n u. record { crossed = []; last = circle }) ds t (head t)
-chainFrom (suc k) ds t = link (λ n u. cross n (chainFrom k ds u)) ds t (head t)
-
-unfoldable pub chain : List Definition → Forest Node → Chain
-chain ds t = chainFrom (length ds) ds t
-
-unfoldable pub aliasEnd : List Definition → Forest Node → End
-aliasEnd ds t = chain ds t .last
-
--- ---- `as_func` and `as_service`: what stands at a chain's end
 unfoldable pub isFuncKind : Kind → Bool
 isFuncKind (PrimT p) = false
 isFuncKind (VarT n) = false
@@ -128,29 +93,10 @@ isServKind ServT = true
 isServKind ClassT = false
 isServKind InitT = false
 
--- The chain ends at a type whose root passes the test.
-unfoldable pub rootPasses : (Kind → Bool) → End → Bool
-rootPasses test (unbound n) = false
-rootPasses test circle = false
-rootPasses test (ends end) = false
-rootPasses test (ends (tree n kids next)) = test (n .kind)
-
-unfoldable pub asFunc : List Definition → Forest Node → Bool
-asFunc ds t = rootPasses isFuncKind (aliasEnd ds t)
-
-unfoldable pub asService : List Definition → Forest Node → Bool
-asService ds t = rootPasses isServKind (aliasEnd ds t)
-
+-- What stands below the first of them.
 unfoldable pub kidsOf : Forest Node → Forest Node
 kidsOf end = end
 kidsOf (tree n kids next) = kids
-
--- The methods of a service at a chain's end; none where there is no service.
-unfoldable pub methodsAt : End → Forest Node
-methodsAt (unbound n) = end
-methodsAt circle = end
-methodsAt (ends end) = end
-methodsAt (ends (tree n kids next)) = cond (isServKind (n .kind)) kids end
 
 -- ---- `merge`: two types are the same as stored. Labels of records and variants compare by number, methods by name.
 -- Kinds compare by their numbers and values: a name's number, a function's argument count and modes.

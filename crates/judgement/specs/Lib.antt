@@ -1,6 +1,9 @@
--- When a declaration passes. Read in this order: Environment, Actor, Check; then what pins them from outside: WellFormed, Meaning, Same, Rust, Rows, Order.
+-- When a declaration passes. The Rust's functions, arm by arm, and document 01's order: Environment, Aliases, Actor, Resolve, Check. What pins them
+-- from outside, by predicates that reach no fuel and no verdict: WellFormed (Candid.md), Meaning, Same, Rust, Rows, Order.
 pub mod Environment
+pub mod Aliases
 pub mod Actor
+pub mod Resolve
 pub mod Check
 pub mod WellFormed
 pub mod Meaning

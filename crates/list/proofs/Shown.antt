@@ -14,7 +14,7 @@ use Rattle.format.proofs.Encoded.{fit-parts}
 use Rattle.format.proofs.Theorems.{found}
 use Rattle.refusals.specs.declared.Verdict.the-variants.{Passed}
 use Rattle.judgement.specs.Environment.{mainDefinitions}
-use Rattle.judgement.specs.Actor.{resolveActor}
+use Rattle.judgement.specs.Resolve.{resolveActor}
 use Rattle.judgement.specs.Check.{member, check}
 use Rattle.judgement.specs.WellFormed.{definedName}
 use Rattle.format.proofs.Distinct.{pigeonhole, ascends-distinct}

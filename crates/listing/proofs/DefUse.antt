@@ -26,9 +26,11 @@ use Rattle.format.specs.Book.{Definition, Book}
 use Rattle.format.specs.Fits.{Fits}
 use Rattle.format.proofs.Logic.{is-false}
 use Rattle.refusals.specs.declared.Verdict.the-variants.{Passed}
-use Rattle.judgement.specs.Environment.{mainDefinitions, End, ends, aliasEnd, isFuncKind, isServKind, rootPasses, methodsAt}
-use Rattle.judgement.specs.Environment as environment
-use Rattle.judgement.specs.Actor.{isClass, allButLast, classArguments, belowClass, resolveActor}
+use Rattle.judgement.specs.Environment.{mainDefinitions, isFuncKind, isServKind}
+use Rattle.judgement.specs.Aliases.{End, ends, aliasEnd, rootPasses, methodsAt}
+use Rattle.judgement.specs.Aliases as aliases
+use Rattle.judgement.specs.Actor.{isClass, allButLast, classArguments, belowClass}
+use Rattle.judgement.specs.Resolve.{resolveActor}
 use Rattle.judgement.specs.Check.{member, check}
 use Rattle.format.specs.Occurs.{first, later}
 use Rattle.format.specs.Distinct.{Distinct, Ascends}
@@ -275,8 +277,8 @@ module _ (ds : List Definition) where
       where
         go : (e : End) → Interface ds (typeOf e) arguments methods →
             chaseActor ds e ≡ chaseSites ds (classSites 0 (classArguments (typeOf e)) ++ methodSites ds 0 (methodsAt (aliasEnd ds (belowClass (typeOf e))))) []
-        go (environment.unbound n) y = absurd (none-serves (interface-serves ds once y) refl)
-        go environment.circle y = absurd (none-serves (interface-serves ds once y) refl)
+        go (aliases.unbound n) y = absurd (none-serves (interface-serves ds once y) refl)
+        go aliases.circle y = absurd (none-serves (interface-serves ds once y) refl)
         go (ends t) y =
             let class = classSites 0 (classArguments t) in
             same-next (chaseSites ds class []) (service-chase (interface-serves ds once y) fs)

@@ -26,7 +26,8 @@ use Rattle.format.specs.Distinct.{Distinct}
 use Rattle.format.specs.Admission.{admitted, onBytes, Source}
 use Rattle.format.proofs.Admission.{admitted-fits, asked-is}
 use Rattle.judgement.specs.Environment.{mainDefinitions}
-use Rattle.judgement.specs.Actor.{mainActor, classArguments, resolveActor}
+use Rattle.judgement.specs.Actor.{mainActor, classArguments}
+use Rattle.judgement.specs.Resolve.{resolveActor}
 use Rattle.judgement.specs.Check.{check}
 use Rattle.judgement.specs.WellFormed.{definedName}
 use Rattle.listing.specs.References.{direct}

@@ -16,8 +16,10 @@ use Rattle.format.specs.Rules.{noTrees}
 use Rattle.refusals.specs.declared.Verdict.{Verdict}
 use Rattle.refusals.specs.declared.Verdict.the-variants.{Passed}
 use Rattle.refusals.specs.declared.Refusal.the-variants.{Unbound, NoActor}
-use Rattle.judgement.specs.Environment.{roleAt, keep, mainDefinitions, initDefinitions, findType, isMissing, mergeDefinitions, headKind, head, met, link, chainFrom, chain, aliasEnd, isFuncKind, isServKind, rootPasses, asFunc, asService, kidsOf}
-use Rattle.judgement.specs.Actor.{isServiceImport, serviceImports, firstActor, mainActor, isClassKind, isClass, lastTree, belowClass, resolveWith, resolveActor, initTree}
+use Rattle.judgement.specs.Environment.{roleAt, keep, mainDefinitions, initDefinitions, findType, isMissing, mergeDefinitions, headKind, head, isFuncKind, isServKind, kidsOf}
+use Rattle.judgement.specs.Aliases.{met, link, chainFrom, chain, aliasEnd, rootPasses, asFunc, asService}
+use Rattle.judgement.specs.Actor.{isServiceImport, serviceImports, firstActor, mainActor, isClassKind, isClass, lastTree, belowClass, initTree}
+use Rattle.judgement.specs.Resolve.{resolveWith, resolveActor}
 use Rattle.judgement.specs.Check.{nameVerdict, isOneway, modesVerdict, kindVerdict, methodVerdict, checkForest, member, onceVerdict, bodiesVerdict, eachName, isCircle, circleVerdict, methodsFit, bodiesFit, decsVerdict, importsVerdict, resolveVerdict, check, sameVerdict, mergeVerdict, initVerdict, initCheck}
 use Rattle.judgement.specs.Check as checks
 use Rattle.format.specs.Distinct.{Distinct}

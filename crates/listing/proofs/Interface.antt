@@ -17,8 +17,10 @@ use Rattle.format.specs.Fits.{Fits}
 use Rattle.format.specs.Rules.{noTrees}
 use Rattle.refusals.specs.declared.Refusal.the-variants.{NoService}
 use Rattle.refusals.specs.declared.Verdict.the-variants.{Passed}
-use Rattle.judgement.specs.Environment.{headKind, head, mainDefinitions, ends, aliasEnd, isFuncKind, isServKind, asService, kidsOf, methodsAt}
-use Rattle.judgement.specs.Actor.{serviceImports, mainActor, isClassKind, isClass, lastTree, allButLast, classArguments, belowClass, methodsOf, resolveActor}
+use Rattle.judgement.specs.Environment.{headKind, head, mainDefinitions, isFuncKind, isServKind, kidsOf}
+use Rattle.judgement.specs.Aliases.{ends, aliasEnd, asService, methodsAt}
+use Rattle.judgement.specs.Actor.{serviceImports, mainActor, isClassKind, isClass, lastTree, allButLast, classArguments, belowClass}
+use Rattle.judgement.specs.Resolve.{methodsOf, resolveActor}
 use Rattle.judgement.specs.Check.{check, checkForest, importsVerdict, decsVerdict, resolveVerdict}
 use Rattle.judgement.specs.Check as judged
 use Rattle.format.specs.Occurs.{here}

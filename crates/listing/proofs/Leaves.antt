@@ -18,8 +18,10 @@ use Rattle.format.specs.Book.{Definition, File, Book}
 use Rattle.format.specs.Fits.{placeBelow, kindFits, kindAllowed, labelFits, nodeFits, forestFits, isInitRole, Fits}
 use Rattle.format.specs.References.{referenceOf, references}
 use Rattle.format.proofs.Logic.{both, both₃}
-use Rattle.judgement.specs.Environment.{roleAt, keep, mainDefinitions, initDefinitions, End, unbound, circle, ends, aliasEnd, kidsOf, methodsAt}
-use Rattle.judgement.specs.Actor.{isClass, lastTree, allButLast, classArguments, belowClass, serviceImports, mainActor, serviceOf, classOf, methodsOf, importedMethods, mergedActor, resolveWith, resolveActor, initTree}
+use Rattle.judgement.specs.Environment.{roleAt, keep, mainDefinitions, initDefinitions, kidsOf}
+use Rattle.judgement.specs.Aliases.{End, unbound, circle, ends, aliasEnd, methodsAt}
+use Rattle.judgement.specs.Actor.{isClass, lastTree, allButLast, classArguments, belowClass, serviceImports, mainActor, serviceOf, classOf, initTree}
+use Rattle.judgement.specs.Resolve.{methodsOf, importedMethods, mergedActor, resolveWith, resolveActor}
 use Rattle.judgement.proofs.Lookup.{keep-says}
 use Rattle.judgement.proofs.Chains.{end-leads, leads-keeps}
 use Rattle.judgement.proofs.Fitting.{Fitting}

@@ -26,7 +26,8 @@ use Rattle.refusals.specs.declared.Refusal.the-variants.{NoActor, Short}
 use Rattle.refusals.specs.declared.Verdict.the-variants.{Passed, Refused}
 use Rattle.refusals.specs.Verdict.{andThen}
 use Rattle.judgement.specs.Environment.{mainDefinitions, kidsOf}
-use Rattle.judgement.specs.Actor.{isClassKind, isClass, firstActor, mainActor, serviceImports, classOf, serviceOf, mergedActor, resolveWith, resolveActor}
+use Rattle.judgement.specs.Actor.{isClassKind, isClass, firstActor, mainActor, serviceImports, classOf, serviceOf}
+use Rattle.judgement.specs.Resolve.{mergedActor, resolveWith, resolveActor}
 use Rattle.judgement.specs.Check.{check}
 use Rattle.judgement.specs.WellFormed.{Bound, belowTop}
 use Rattle.judgement.proofs.Theorems.{check-says, actor-trees}

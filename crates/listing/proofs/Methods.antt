@@ -16,8 +16,10 @@ use Rattle.format.specs.Fits.{Fits}
 use Rattle.format.proofs.Trees.{breadth-count, count-beside, breadth-beside}
 use Rattle.format.proofs.Encoded.{fit-parts}
 use Rattle.refusals.specs.declared.Verdict.the-variants.{Passed}
-use Rattle.judgement.specs.Environment.{mainDefinitions, Head, named, other, headKind, head, End, unbound, circle, ends, aliasEnd, isFuncKind, isServKind, kidsOf, methodsAt}
-use Rattle.judgement.specs.Actor.{isServiceImport, serviceImports, isClassKind, isClass, lastTree, allButLast, firstActor, mainActor, classArguments, belowClass, serviceOf, classOf, methodsOf, importedMethods, mergedActor, resolveWith, resolveActor}
+use Rattle.judgement.specs.Environment.{mainDefinitions, Head, named, other, headKind, head, isFuncKind, isServKind, kidsOf}
+use Rattle.judgement.specs.Aliases.{End, unbound, circle, ends, aliasEnd, methodsAt}
+use Rattle.judgement.specs.Actor.{isServiceImport, serviceImports, isClassKind, isClass, lastTree, allButLast, firstActor, mainActor, classArguments, belowClass, serviceOf, classOf}
+use Rattle.judgement.specs.Resolve.{methodsOf, importedMethods, mergedActor, resolveWith, resolveActor}
 use Rattle.judgement.specs.Check.{check}
 use Rattle.format.specs.Distinct.{Distinct}
 use Rattle.format.specs.Labels.{methodNames}

@@ -30,8 +30,10 @@ use Rattle.format.specs.Rules.{noTrees}
 use Rattle.refusals.specs.declared.Refusal.{Refusal}
 use Rattle.refusals.specs.declared.Refusal.the-variants.{Absent, Short}
 use Rattle.refusals.specs.declared.Verdict.the-variants.{Passed}
-use Rattle.judgement.specs.Environment.{keep, mainDefinitions, findType, headKind, head, link, chainFrom, chain, aliasEnd, isFuncKind, isServKind, rootPasses, asFunc, asService, kidsOf, methodsAt}
-use Rattle.judgement.specs.Actor.{isServiceImport, serviceImports, firstActor, mainActor, isClassKind, isClass, belowClass, resolveWith, resolveActor, classArguments}
+use Rattle.judgement.specs.Environment.{keep, mainDefinitions, findType, headKind, head, isFuncKind, isServKind, kidsOf}
+use Rattle.judgement.specs.Aliases.{link, chainFrom, chain, aliasEnd, rootPasses, asFunc, asService, methodsAt}
+use Rattle.judgement.specs.Actor.{isServiceImport, serviceImports, firstActor, mainActor, isClassKind, isClass, belowClass, classArguments}
+use Rattle.judgement.specs.Resolve.{resolveWith, resolveActor}
 use Rattle.judgement.specs.Check.{modesVerdict, kindVerdict, methodVerdict, checkForest, member, onceVerdict, bodiesVerdict, eachName, circleVerdict, bodiesFit, decsVerdict, importsVerdict, resolveVerdict, check}
 use Rattle.judgement.specs.Check as judged
 use Rattle.format.specs.Labels.{methodNames}

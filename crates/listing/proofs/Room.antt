@@ -21,7 +21,7 @@ use Rattle.refusals.specs.declared.Refusal.{Refusal}
 use Rattle.refusals.specs.declared.Refusal.the-variants.{NoActor, Short}
 use Rattle.refusals.specs.declared.Verdict.the-variants.{Passed, Refused}
 use Rattle.refusals.specs.Verdict.{andThen}
-use Rattle.judgement.specs.Actor.{resolveActor}
+use Rattle.judgement.specs.Resolve.{resolveActor}
 use Rattle.judgement.specs.Check.{check, member}
 use Rattle.judgement.specs.Rows.{CheckRow, InitRow, checkRows}
 use Rattle.refusals.proofs.Verdicts.{both-pass, pass-both, passed-refused, which-refused}

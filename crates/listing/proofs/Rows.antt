@@ -23,7 +23,7 @@ use Rattle.refusals.specs.declared.Verdict.{Verdict}
 use Rattle.refusals.specs.declared.Verdict.the-variants.{Passed, Refused}
 use Rattle.refusals.specs.Outcome.{Outcome, refused, given, asked, fit}
 use Rattle.refusals.proofs.Outcomes.{given-refused, fit-given}
-use Rattle.judgement.specs.Actor.{resolveActor}
+use Rattle.judgement.specs.Resolve.{resolveActor}
 use Rattle.judgement.specs.Check.{check}
 use Rattle.judgement.specs.Rows.{CheckRow}
 use Rattle.judgement.proofs.Rows.{row-refuses, init-row-refuses}

@@ -28,8 +28,10 @@ use Rattle.format.specs.Fits.{Fits}
 use Rattle.format.specs.References.{references}
 use Rattle.format.specs.References as refer
 use Rattle.refusals.specs.declared.Verdict.the-variants.{Passed}
-use Rattle.judgement.specs.Environment.{mainDefinitions, findType, Head, named, other, headKind, head, End, unbound, circle, ends, met, link, chainFrom, chain, aliasEnd, isServKind, kidsOf, methodsAt}
-use Rattle.judgement.specs.Actor.{isClassKind, isClass, lastTree, allButLast, classArguments, belowClass, resolveActor}
+use Rattle.judgement.specs.Environment.{mainDefinitions, findType, Head, named, other, headKind, head, isServKind, kidsOf}
+use Rattle.judgement.specs.Aliases.{End, unbound, circle, ends, met, link, chainFrom, chain, aliasEnd, methodsAt}
+use Rattle.judgement.specs.Actor.{isClassKind, isClass, lastTree, allButLast, classArguments, belowClass}
+use Rattle.judgement.specs.Resolve.{resolveActor}
 use Rattle.judgement.specs.Check.{member, check}
 use Rattle.judgement.specs.WellFormed.{definedName, Defined, Leads, arrived, onward, Bound, belowTop}
 use Rattle.judgement.proofs.Chains.{stops, run-end, end-leads}

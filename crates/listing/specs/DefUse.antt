@@ -10,8 +10,9 @@ use Rattle.format.specs.Forest.{Forest, end, tree}
 use Rattle.format.specs.Node.{Node}
 use Rattle.format.specs.Book.{Definition}
 use Rattle.format.specs.Distinct.{Ascends}
-use Rattle.judgement.specs.Environment.{End, ends, aliasEnd, isFuncKind, isServKind, rootPasses, methodsAt}
-use Rattle.judgement.specs.Environment as environment
+use Rattle.judgement.specs.Environment.{isFuncKind, isServKind}
+use Rattle.judgement.specs.Aliases.{End, ends, aliasEnd, rootPasses, methodsAt}
+use Rattle.judgement.specs.Aliases as aliases
 use Rattle.judgement.specs.Actor.{classArguments, belowClass}
 use Rattle.listing.specs.Chase.{Walk, going, chaseTypes}
 use Rattle.listing.specs.Chase as chased
@@ -69,8 +70,8 @@ chaseSites ds (s ∷ all) rows = onMade (pushWalk (s .entry) (chaseTypes ds (s .
 
 -- The error at the end of a chain, where a type stands that is not the one looked for.
 unfoldable pub failed : DefUse → End → DefUse
-failed other (environment.unbound n) = unbound n
-failed other environment.circle = circle
+failed other (aliases.unbound n) = unbound n
+failed other aliases.circle = circle
 failed other (ends t) = other
 
 -- Method m, whose chain has that end: `as_func`, then its arguments and its results.
@@ -87,8 +88,8 @@ chaseService ds e rows = cond (rootPasses isServKind e) (chaseMethods ds 0 (meth
 
 -- `trace_type`, then the class's arguments and the service.
 unfoldable pub chaseActor : List Definition → End → DefUse
-chaseActor ds (environment.unbound n) = unbound n
-chaseActor ds environment.circle = circle
+chaseActor ds (aliases.unbound n) = unbound n
+chaseActor ds aliases.circle = circle
 chaseActor ds (ends t) = onMade (chaseSites ds (classSites 0 (classArguments t)) []) (chaseService ds (aliasEnd ds (belowClass t)))
 
 unfoldable pub chaseDefUse : List Definition → Forest Node → DefUse

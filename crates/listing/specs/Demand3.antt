@@ -24,7 +24,8 @@ use Rattle.format.specs.References.{references}
 use Rattle.format.specs.Distinct.{Distinct, Ascends}
 use Rattle.format.specs.Admission.{onBytes, Source}
 use Rattle.judgement.specs.Environment.{mainDefinitions}
-use Rattle.judgement.specs.Actor.{mainActor, resolveActor}
+use Rattle.judgement.specs.Actor.{mainActor}
+use Rattle.judgement.specs.Resolve.{resolveActor}
 use Rattle.judgement.specs.WellFormed.{Defined}
 use Rattle.listing.specs.References.{Refers, Reachable, Circle, Chases, Reaches, Lost, Misses}
 use Rattle.listing.specs.Offers.{Interface, argumentsAndResults}

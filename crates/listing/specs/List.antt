@@ -8,7 +8,7 @@ use Rattle.refusals.specs.Verdict.{andThen}
 use Rattle.refusals.specs.Outcome.{Outcome, after}
 use Rattle.format.specs.Book.{Book}
 use Rattle.judgement.specs.Environment.{mainDefinitions}
-use Rattle.judgement.specs.Actor.{resolveActor}
+use Rattle.judgement.specs.Resolve.{resolveActor}
 use Rattle.judgement.specs.Check.{check}
 use Rattle.judgement.specs.Rows.{CheckRow, checkRows}
 use Rattle.listing.specs.Chase.{chaseTypes, walked}

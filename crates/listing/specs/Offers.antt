@@ -8,7 +8,8 @@ use Rattle.format.specs.Forest.{Forest, end, tree, beside, breadth, firstTree, 
 use Rattle.format.specs.Node.{FuncT, ClassT, FuncMode, Node}
 use Rattle.format.specs.Book.{Definition}
 use Rattle.format.specs.Occurs.{Beside}
-use Rattle.judgement.specs.Environment.{End, unbound, circle, ends, aliasEnd, isFuncKind}
+use Rattle.judgement.specs.Environment.{isFuncKind}
+use Rattle.judgement.specs.Aliases.{End, unbound, circle, ends, aliasEnd}
 use Rattle.judgement.specs.WellFormed.{Leads}
 use Rattle.judgement.specs.Meaning.{Serves}
 use Rattle.listing.specs.Sites.{Site}

@@ -17,8 +17,10 @@ use Rattle.format.specs.Node.{Node, labelValue}
 use Rattle.format.specs.Book.{Book}
 use Rattle.format.specs.Distinct.{Ascends}
 use Rattle.format.specs.Labels.{methodNames}
-use Rattle.judgement.specs.Environment.{mainDefinitions, aliasEnd, methodsAt}
-use Rattle.judgement.specs.Actor.{belowClass, resolveActor}
+use Rattle.judgement.specs.Environment.{mainDefinitions}
+use Rattle.judgement.specs.Aliases.{aliasEnd, methodsAt}
+use Rattle.judgement.specs.Actor.{belowClass}
+use Rattle.judgement.specs.Resolve.{resolveActor}
 use Rattle.judgement.specs.Check.{member, check}
 use Rattle.judgement.specs.Rows.{CheckRow, checkRows}
 use Rattle.listing.specs.Offers.{Interface}

@@ -16,7 +16,7 @@ use Rattle.format.specs.Node.{Node}
 use Rattle.format.specs.Book.{Book}
 use Rattle.format.specs.Distinct.{Distinct}
 use Rattle.format.specs.Rules.{noTrees}
-use Rattle.judgement.specs.Actor.{resolveActor}
+use Rattle.judgement.specs.Resolve.{resolveActor}
 use Rattle.judgement.specs.Check.{check}
 
 -- The check comes before the question.

@@ -5,7 +5,7 @@ use Rattle.format.specs.Forest.{Forest, end, tree}
 use Rattle.format.specs.Node.{Kind, PrimT, VarT, OptT, VecT, RecordT, VariantT, FuncT, ServT, ClassT, InitT, Node}
 use Rattle.format.specs.Book.{Definition}
 use Rattle.refusals.specs.Handed.{Use}
-use Rattle.judgement.specs.Environment.{End, unbound, circle, ends, aliasEnd, methodsAt}
+use Rattle.judgement.specs.Aliases.{End, unbound, circle, ends, aliasEnd, methodsAt}
 use Rattle.judgement.specs.Actor.{classArguments, belowClass}
 
 -- A type that is an argument or a result, with its entry.

@@ -15,7 +15,7 @@ use Rattle.format.specs.Forest.{Forest}
 use Rattle.format.specs.Node.{Node}
 use Rattle.format.specs.Book.{Definition, Book}
 use Rattle.judgement.specs.Environment.{mainDefinitions}
-use Rattle.judgement.specs.Actor.{resolveActor}
+use Rattle.judgement.specs.Resolve.{resolveActor}
 use Rattle.judgement.specs.Check.{member, check}
 use Rattle.judgement.specs.Rows.{CheckRow, checkRows}
 use Rattle.listing.specs.Chase.{Walk, going, unbound, chaseTypes}

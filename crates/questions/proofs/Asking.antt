@@ -27,7 +27,7 @@ use Rattle.book.specs.Reading.{Admitted}
 use Rattle.admission.specs.declared.Admission.the-variants.{Refused as NotAdmitted, Admitted as IsAdmitted}
 use Rattle.admission.specs.Admitting.{admissionOf}
 use Rattle.admission.proofs.Admitting.{admission-refuses, admission-gives}
-use Rattle.judgement.specs.Actor.{resolveActor}
+use Rattle.judgement.specs.Resolve.{resolveActor}
 use Rattle.judgement.specs.Check.{check, checkBytes, initCheck, initCheckBytes}
 use Rattle.typing.specs.declared.prog.Passed.{Passed}
 use Rattle.typing.specs.declared.prog.Found.{Found}

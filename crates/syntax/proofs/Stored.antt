@@ -15,7 +15,8 @@ use Rattle.format.proofs.Trees.{Sized-beside, map-beside}
 use Rattle.format.proofs.Rows.{preorder-rowTrees, build-append}
 use Rattle.format.proofs.References.{kind-alone}
 use Rattle.format.proofs.Stored.{tree-opens}
-use Rattle.judgement.specs.Environment.{ends, isServKind, rootPasses, kidsOf, methodsAt}
+use Rattle.judgement.specs.Environment.{isServKind, kidsOf}
+use Rattle.judgement.specs.Aliases.{ends, rootPasses, methodsAt}
 use Rattle.judgement.specs.Actor.{isClassKind, isClass}
 use Rattle.judgement.proofs.Methods.{served-methods}
 use Rattle.environment.proofs.FuncEnds.{as-test}

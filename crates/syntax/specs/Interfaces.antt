@@ -12,7 +12,8 @@ use Rattle.format.specs.Node.{Node}
 use Rattle.format.specs.Book.{Definition}
 use Rattle.format.specs.Layout.{rowAt}
 use Rattle.format.specs.Whole.{treeAt, actorAt}
-use Rattle.judgement.specs.Environment.{kidsOf, aliasEnd, asService, methodsAt}
+use Rattle.judgement.specs.Environment.{kidsOf}
+use Rattle.judgement.specs.Aliases.{aliasEnd, asService, methodsAt}
 use Rattle.judgement.specs.Actor.{belowClass, mergedOf}
 use Rattle.syntax.specs.declared.interface.Interface.{Interface}
 use Rattle.syntax.specs.Classes.{ArgumentsAs}

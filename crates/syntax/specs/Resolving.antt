@@ -16,7 +16,8 @@ use Rattle.refusals.specs.declared.Verdict.the-variants.{Passed, Refused}
 use Rattle.refusals.specs.Verdict.{isPassed, andThen}
 use Rattle.book.specs.declared.kinds.Contents.{Contents}
 use Rattle.book.specs.Reading.{Admitted}
-use Rattle.judgement.specs.Actor.{serviceImports, mainActor, belowClass, methodsOf, importedMethods, mergedActor, resolveWith}
+use Rattle.judgement.specs.Actor.{serviceImports, mainActor, belowClass}
+use Rattle.judgement.specs.Resolve.{methodsOf, importedMethods, mergedActor, resolveWith}
 use Rattle.judgement.specs.Check.{mainVerdict, importedVerdict, resolveVerdict}
 use Rattle.environment.specs.Tables.{Tabled}
 use Rattle.syntax.specs.declared.actor.Service.{Service}

@@ -16,7 +16,7 @@ use Rattle.refusals.specs.declared.Refusal as refusal
 use Rattle.refusals.specs.declared.Verdict.{Verdict}
 use Rattle.refusals.specs.declared.Verdict.the-variants.{Passed, Refused}
 use Rattle.refusals.specs.Verdict.{isPassed, andThen}
-use Rattle.judgement.specs.Environment.{asFunc}
+use Rattle.judgement.specs.Aliases.{asFunc}
 use Rattle.judgement.specs.Check.{methodVerdict, checkForest}
 use Rattle.environment.specs.Tables.{endIs}
 use Rattle.environment.proofs.Trees.{opened, rest-trees, one-at-least, row-within}

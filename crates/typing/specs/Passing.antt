@@ -12,7 +12,7 @@ use Rattle.refusals.specs.declared.Verdict.{Verdict}
 use Rattle.refusals.specs.declared.Verdict.the-variants.{Passed as passes}
 use Rattle.refusals.specs.Verdict.{isPassed}
 use Rattle.judgement.specs.Environment.{mainDefinitions}
-use Rattle.judgement.specs.Actor.{resolveActor}
+use Rattle.judgement.specs.Resolve.{resolveActor}
 use Rattle.judgement.specs.Check.{check}
 use Rattle.environment.specs.Tables.{Chains, definitionsIn}
 use Rattle.typing.specs.declared.prog.Passed.{Passed}

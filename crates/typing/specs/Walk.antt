@@ -12,7 +12,8 @@ use Rattle.format.specs.Whole.{Within, treeAt}
 use Rattle.refusals.specs.declared.Refusal as refusal
 use Rattle.refusals.specs.declared.Verdict.{Verdict}
 use Rattle.refusals.specs.Verdict.{andThen, unless}
-use Rattle.judgement.specs.Environment.{isServKind, asFunc}
+use Rattle.judgement.specs.Environment.{isServKind}
+use Rattle.judgement.specs.Aliases.{asFunc}
 use Rattle.judgement.specs.Check.{kindVerdict, modesVerdict, checkForest}
 use Rattle.environment.specs.Tables.{Binds, endIs}
 

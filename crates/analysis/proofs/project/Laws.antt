@@ -24,7 +24,7 @@ use Rattle.format.specs.Whole.{Within}
 use Rattle.format.proofs.Trees.{beside-end, beside-assoc}
 use Rattle.format.proofs.Rows.{siblings-none, siblings-opens}
 use Rattle.refusals.specs.declared.Refusal.the-variants.{Absent, Short}
-use Rattle.judgement.specs.Environment.{aliasEnd, methodsAt}
+use Rattle.judgement.specs.Aliases.{aliasEnd, methodsAt}
 use Rattle.judgement.specs.Actor.{belowClass}
 use Rattle.judgement.specs.Check.{member}
 use Rattle.book.specs.Tables.{blankTable}

@@ -16,7 +16,8 @@ use Rattle.format.specs.Whole.{Within, WholeAt, treeAt, actorAt}
 use Rattle.format.proofs.Rows.{node-within}
 use Rattle.format.proofs.Trees.{beside-end}
 use Rattle.format.proofs.Stored.{actor-none, actor-some}
-use Rattle.judgement.specs.Environment.{head, End, unbound, circle, ends, aliasEnd, isServKind, rootPasses, asService, kidsOf, methodsAt}
+use Rattle.judgement.specs.Environment.{head, isServKind, kidsOf}
+use Rattle.judgement.specs.Aliases.{End, unbound, circle, ends, aliasEnd, rootPasses, asService, methodsAt}
 use Rattle.judgement.specs.Actor.{isClass, belowClass}
 use Rattle.environment.specs.Tables.{EndNodes, EndAt, Chains, Ended, endNode}
 use Rattle.environment.specs.Trees.{AllTrees}

@@ -23,8 +23,10 @@ use Rattle.refusals.specs.declared.Verdict.the-variants.{Passed}
 use Rattle.refusals.specs.Verdict.{isPassed, andThen}
 use Rattle.book.specs.declared.kinds.Contents.{Contents}
 use Rattle.book.specs.Reading.{EntryWithin, Admitted}
-use Rattle.judgement.specs.Environment.{aliasEnd, kidsOf}
-use Rattle.judgement.specs.Actor.{serviceImports, mainActor, belowClass, methodsOf, importedMethods, mergedOf, mergedActor, resolveWith}
+use Rattle.judgement.specs.Environment.{kidsOf}
+use Rattle.judgement.specs.Aliases.{aliasEnd}
+use Rattle.judgement.specs.Actor.{serviceImports, mainActor, belowClass, mergedOf}
+use Rattle.judgement.specs.Resolve.{methodsOf, importedMethods, mergedActor, resolveWith}
 use Rattle.judgement.specs.Check.{serviceVerdict, mainVerdict, importedVerdict, hashesVerdict, resolveVerdict}
 use Rattle.environment.specs.Tables.{Tabled}
 use Rattle.syntax.specs.declared.actor.Service.{Service}

@@ -21,8 +21,10 @@ use Rattle.refusals.specs.declared.Refusal as refusal
 use Rattle.refusals.specs.declared.Verdict.{Verdict}
 use Rattle.refusals.specs.declared.Verdict.the-variants.{Passed, Refused}
 use Rattle.refusals.specs.Verdict.{unless}
-use Rattle.judgement.specs.Environment.{head, ends, chain, chainFrom, aliasEnd, kidsOf, methodsAt}
-use Rattle.judgement.specs.Actor.{isClass, belowClass, methodsOf}
+use Rattle.judgement.specs.Environment.{head, kidsOf}
+use Rattle.judgement.specs.Aliases.{ends, chain, chainFrom, aliasEnd, methodsAt}
+use Rattle.judgement.specs.Actor.{isClass, belowClass}
+use Rattle.judgement.specs.Resolve.{methodsOf}
 use Rattle.judgement.specs.Check.{serviceVerdict, mainVerdict}
 use Rattle.environment.specs.declared.Alias.{Alias}
 use Rattle.environment.specs.declared.Alias.the-variants.{Unbound, Circle, Ends}

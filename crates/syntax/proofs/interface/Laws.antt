@@ -12,7 +12,8 @@ use Rattle.format.specs.Book.{Definition}
 use Rattle.format.specs.Rules.{noTrees}
 use Rattle.format.specs.Whole.{WholeAt, treeAt, actorAt}
 use Rattle.format.proofs.Stored.{tree-opens, actor-none, actor-some}
-use Rattle.judgement.specs.Environment.{headKind, head, ends, aliasEnd, isServKind, asService, kidsOf, methodsAt}
+use Rattle.judgement.specs.Environment.{headKind, head, isServKind, kidsOf}
+use Rattle.judgement.specs.Aliases.{ends, aliasEnd, asService, methodsAt}
 use Rattle.judgement.specs.Actor.{isClassKind, isClass, allButLast, classArguments, belowClass, serviceOf, classOf, mergedOf}
 use Rattle.judgement.proofs.Classes.{others-beside}
 use Rattle.judgement.proofs.Meaning.{merged-below}

@@ -30,7 +30,8 @@ use Rattle.refusals.specs.declared.Refusal as refusal
 use Rattle.refusals.specs.declared.Verdict.{Verdict}
 use Rattle.refusals.specs.declared.Verdict.the-variants.{Passed, Refused}
 use Rattle.refusals.specs.Verdict.{isPassed, andThen, unless}
-use Rattle.judgement.specs.Environment.{head, headKind, chain, aliasEnd, isServKind, rootPasses, asService, kidsOf}
+use Rattle.judgement.specs.Environment.{head, headKind, isServKind, kidsOf}
+use Rattle.judgement.specs.Aliases.{chain, aliasEnd, rootPasses, asService}
 use Rattle.judgement.specs.Actor.{isClassKind, isClass, lastTree, allButLast, classArguments, belowClass, serviceOf, classOf, mergedOf}
 use Rattle.judgement.specs.Check.{kindVerdict, methodVerdict, checkForest, actorVerdict}
 use Rattle.judgement.specs.WellFormed.{belowTop}

@@ -19,7 +19,7 @@ use Rattle.book.specs.declared.kinds.Contents.{Contents}
 use Rattle.book.specs.Reading.{Admitted}
 use Rattle.book.proofs.Opened.{names-count, nodes-count, nodes-here}
 use Rattle.judgement.specs.Environment.{mainDefinitions}
-use Rattle.judgement.specs.Actor.{resolveActor}
+use Rattle.judgement.specs.Resolve.{resolveActor}
 use Rattle.environment.specs.Tables.{Entries, Tabled}
 use Rattle.syntax.specs.Interfaces.{interfaceTree}
 use Rattle.syntax.proofs.Book.{few-definitions, entries-known}

@@ -25,8 +25,10 @@ use Rattle.book.specs.declared.kinds.Contents.{Contents}
 use Rattle.book.specs.Reading.{Admitted}
 use Rattle.book.specs.Tables.{blankTable}
 use Rattle.book.proofs.Opened.{names-count, nodes-count, definitions-count, files-count}
-use Rattle.judgement.specs.Environment.{mainDefinitions, asService, kidsOf}
-use Rattle.judgement.specs.Actor.{serviceImports, mainActor, isClass, belowClass, resolveActor}
+use Rattle.judgement.specs.Environment.{mainDefinitions, kidsOf}
+use Rattle.judgement.specs.Aliases.{asService}
+use Rattle.judgement.specs.Actor.{serviceImports, mainActor, isClass, belowClass}
+use Rattle.judgement.specs.Resolve.{resolveActor}
 use Rattle.judgement.specs.Check.{check, checkForest, importsVerdict, decsVerdict, resolveVerdict, actorVerdict}
 use Rattle.environment.specs.Tables.{Roots, EndNodes, Tabled, Chains, definitionsIn}
 use Rattle.environment.proofs.Definitions.{defined-length}

@@ -18,7 +18,7 @@ use Rattle.format.specs.Layout.{siblings, nodesPart, definitionsPart}
 use Rattle.format.proofs.Logic.{is-true, is-false, same-test}
 use Rattle.refusals.specs.declared.Refusal.the-variants.{Short, NoActor}
 use Rattle.judgement.specs.Environment.{mainDefinitions}
-use Rattle.judgement.specs.Actor.{resolveActor}
+use Rattle.judgement.specs.Resolve.{resolveActor}
 use Rattle.judgement.specs.WellFormed.{Defined}
 use Rattle.judgement.proofs.Lookup.{find-missing}
 use Rattle.environment.specs.Tables.{foundAt, definitionsIn}

@@ -17,7 +17,8 @@ use Rattle.format.specs.Layout.{rowAt}
 use Rattle.format.specs.Whole.{treeAt}
 use Rattle.format.specs.References.{references}
 use Rattle.format.proofs.Logic.{same-test}
-use Rattle.judgement.specs.Environment.{aliasEnd, methodsAt, rootPasses, asService, isServKind, End, unbound, circle, ends, Head, named, other, head, headKind}
+use Rattle.judgement.specs.Environment.{isServKind, Head, named, other, head, headKind}
+use Rattle.judgement.specs.Aliases.{aliasEnd, methodsAt, rootPasses, asService, End, unbound, circle, ends}
 use Rattle.judgement.specs.Actor.{classArguments, belowClass, isClass, isClassKind}
 use Rattle.judgement.specs.WellFormed.{Defined}
 use Rattle.judgement.proofs.Lookup.{listed-defined}
