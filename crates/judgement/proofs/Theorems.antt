@@ -26,7 +26,7 @@ use Rattle.judgement.specs.Environment.{roleAt, mainDefinitions, initDef
 use Rattle.judgement.specs.Actor.{serviceImports, initTree, NoInit, belowClass}
 use Rattle.judgement.specs.Resolve.{resolveActor}
 use Rattle.judgement.specs.Check.{checkForest, onceVerdict, bodiesVerdict, eachName, circleVerdict, bodiesFit, decsVerdict, check, sameVerdict, mergeVerdict, initVerdict, initCheck, checkBytes, initCheckBytes}
-use Rattle.judgement.specs.WellFormed.{WellFormedTrees, belowTop, Typed, TypedInit}
+use Rattle.judgement.specs.WellFormed.{WellFormedTrees, belowTop, Typed, TypedInit, WellFormed}
 use Rattle.judgement.specs.Meaning.{ActorOf}
 use Rattle.judgement.specs.Rust.{hashesOf, Rust, RustInit}
 use Rattle.judgement.proofs.Lookup.{keep-none}
@@ -50,6 +50,10 @@ check-says b fits =
     let p = check-say b fits .passed in
     let s = steps-typed b fits in
     (λ e. s .0 (p .0 e), λ h. p .1 (s .1 h))
+
+-- Labels that differ are asked for by Candid.md and not by the check.
+pub well-formed-passes : (b : Book) → Fits b → WellFormed b → Rust b → check b ≡ Passed
+well-formed-passes b fits w r = check-says b fits .1 (w .typed, r)
 
 -- ---- The actor of a book that passes
 module _ (b : Book) (fits : Fits b) (passed : check b ≡ Passed) where

@@ -30,6 +30,7 @@ use Rattle.judgement.specs.Actor.{mainActor, classArguments}
 use Rattle.judgement.specs.Resolve.{resolveActor}
 use Rattle.judgement.specs.Check.{check}
 use Rattle.judgement.specs.WellFormed.{definedName}
+use Rattle.judgement.proofs.Theorems.{actor-means}
 use Rattle.listing.specs.References.{direct}
 use Rattle.listing.specs.List.{list}
 use Rattle.listing.specs.Marks.{marksOver}
@@ -70,6 +71,7 @@ demand-3 b fits passed some =
       listed = a .names;
       marked = m .0;
       row = usesOf (mainDefinitions b) (resolveActor b);
+      meant = actor-means b fits passed;
       listGiven = gives (list b) (a .answer);
       marksGiven = gives (marksOver b (a .names)) (m .1);
       usesGiven = λ n. gives (uses b n) (answered n);

@@ -27,6 +27,7 @@ use Rattle.judgement.specs.Environment.{mainDefinitions}
 use Rattle.judgement.specs.Actor.{mainActor}
 use Rattle.judgement.specs.Resolve.{resolveActor}
 use Rattle.judgement.specs.WellFormed.{Defined}
+use Rattle.judgement.specs.Meaning.{ActorOf}
 use Rattle.listing.specs.References.{Refers, Reachable, Circle, Chases, Reaches, Lost, Misses}
 use Rattle.listing.specs.Offers.{Interface, argumentsAndResults}
 use Rattle.listing.specs.List.{list}
@@ -79,6 +80,8 @@ pub record Answers (b : Book) : Type 0 where
   pub listed : List ℕ
   pub marked : List ℕ
   pub row : ℕ → List Use
+  -- the actor is the one that the book's files mean, and no other
+  pub meant : (t : Forest Node) → ActorOf b t ↔ (t ≡ resolveActor b)
   -- "with lists long enough its definition list, that list's marks and the uses of every name are never refused."
   pub listGiven : Gives (list b) listed
   pub marksGiven : Gives (marksOver b listed) marked
