@@ -1,30 +1,34 @@
--- How a refusal prints (document 01, "Listed, marked, refused"). Definitions; assumes nothing.
-use mathlib.Core.Bool.{Bool, cond, not}
+-- How a refusal prints (document 01, "Listed, marked, refused"), with one choice of this project's: a number that is named and is outside the
+-- book's table prints as it is. A quoted name begins with a quote and no number is `-`, so none is mistaken for another. Definitions; assumes
+-- nothing.
+use mathlib.Core.Bool.{Bool, false, cond}
 use mathlib.Core.List.{List, _++_}
 use Prim.Native.Nat.{ℕ}
-use lib.Dec.{eqb}
+use lib.Dec.{ltb}
+use lib.ListN.{length}
 use Rattle.refusals.specs.declared.Refusal.{Refusal}
-use Rattle.refusals.specs.Refusal.{numberOf, nameOf}
-use Rattle.format.specs.Layout.{nameIn}
+use Rattle.refusals.specs.Refusal.{numberOf, namesOf, nameOf}
+use Rattle.format.specs.Layout.{Layout, broken, whole, layout, nameIn}
 use Rattle.print.specs.Ascii.{ascii}
 use Rattle.print.specs.Quoted.{quoted}
 use Rattle.print.specs.Decimal.{decimal}
 
--- The quoted name, or `-` where there is none.
-unfoldable pub nameOrDash : Bool → List ℕ → List ℕ
-nameOrDash named name = cond named (quoted name) (ascii "-")
+-- Whether the table of names has a place of number n; a broken book has no table.
+abbrev pub inTableBy : Layout → ℕ → Bool
+inTableBy broken n = false
+inTableBy (whole b) n = ltb n (length (b .names))
 
--- `refused`, the number, and the name.
-unfoldable pub refusedLine : ℕ → Bool → List ℕ → List ℕ
-refusedLine number named name = ascii "refused " ++ decimal number ++ ascii " " ++ nameOrDash named name ++ ascii "\n"
+unfoldable pub inTable : List ℕ → ℕ → Bool
+inTable book n = inTableBy (layout book) n
 
--- A refusal without a name gives 65,535 for it: no book has so many names.
-abbrev pub isNamed : ℕ → Bool
-isNamed n = not (eqb n 65535)
+-- A name of the book in quotes; a number outside its table in decimal.
+unfoldable pub nameOrNumber : List ℕ → ℕ → List ℕ
+nameOrNumber book n = cond (inTable book n) (quoted (nameIn book n)) (decimal n)
 
--- As `refused 7 "a"` or `refused 1 -`, where the name is the one that the book has for the refusal's number.
-unfoldable pub refusal : Refusal → List ℕ → List ℕ
-refusal r name = refusedLine (numberOf r) (isNamed (nameOf r)) name
+-- `-` where nothing is named.
+unfoldable pub namedOrDash : Bool → List ℕ → ℕ → List ℕ
+namedOrDash named book n = cond named (nameOrNumber book n) (ascii "-")
 
+-- As `refused 7 "a"`, `refused 1 -` or `refused 15 1024`.
 unfoldable pub refusalOf : List ℕ → Refusal → List ℕ
-refusalOf book r = refusal r (nameIn book (nameOf r))
+refusalOf book r = ascii "refused " ++ decimal (numberOf r) ++ ascii " " ++ namedOrDash (namesOf r) book (nameOf r) ++ ascii "\n"

@@ -5,10 +5,11 @@
 ghost use mathlib.Core.Path.{_≡_};
 ghost use mathlib.Core.List.{[], _∷_};
 ghost use Prim.Native.Nat.{_<_};
-ghost use Rattle.print.specs.Laid.{Laid};
+ghost use Rattle.print.specs.Laid.{Laid, LaidWithin};
 ghost use Rattle.print.specs.Quoted.{hexDigit, plain, escape, quoted};
 ghost use Rattle.print.specs.Decimal.{digit, decimal};
-ghost use Rattle.print.specs.Refused.{nameOrDash, refusedLine, isNamed, refusal};
+ghost use Rattle.print.specs.Refused.{inTable, nameOrNumber, namedOrDash, refusalOf};
+use book::Reading;
 use refusals::Refusal;
 
 // One byte.
@@ -105,37 +106,44 @@ pub fn decimal(n: u64, out: &mut [u8], at: usize) -> usize
     byte(digit(n), out, next)
 }
 
-// A refusal's name in quotes, or a dash where it has none.
-fn name_or_dash(named: bool, name: &[u8], out: &mut [u8], at: usize) -> usize
-    ensures { λ r. ⌜ Laid (nameOrDash named (now (name .entry))) (now (out .entry)) at r (now (out .exit)) ⌝ }
+// Whether a number is that of a name of the book.
+fn in_table(book: &[u8], number: u16) -> bool
+    ensures { λ r. ⌜ r ≡ inTable (now (book .entry)) number ⌝ }
+{
+    let Reading::Whole(c) = book::layout(book) else {
+        return false;
+    };
+    let names = c.names;
+    (number as usize) < names
+}
+
+// The book's name of this number in quotes, or the number where there is none.
+fn name_or_number(book: &[u8], number: u16, out: &mut [u8], at: usize) -> usize
+    ensures { λ r. ⌜ Laid (nameOrNumber (now (book .entry)) number) (now (out .entry)) at r (now (out .exit)) ⌝ }
+{
+    if in_table(book, number) {
+        return quoted(book::name(book, number), out, at);
+    }
+    decimal(number as u64, out, at)
+}
+
+// What is named, or a dash where nothing is.
+fn named_or_dash(named: bool, book: &[u8], number: u16, out: &mut [u8], at: usize) -> usize
+    ensures { λ r. ⌜ Laid (namedOrDash named (now (book .entry)) number) (now (out .entry)) at r (now (out .exit)) ⌝ }
 {
     if named {
-        return quoted(name, out, at);
+        return name_or_number(book, number, out, at);
     }
     byte(b'-', out, at)
 }
 
-// The line of a refusal that has this number, and this name if it is named.
-fn refused(number: u16, named: bool, name: &[u8], out: &mut [u8], at: usize) -> usize
-    ensures { λ r. ⌜ Laid (refusedLine number named (now (name .entry))) (now (out .entry)) at r (now (out .exit)) ⌝ }
+// The line of a refusal of this book: fewer than 780 bytes.
+pub fn refusal(why: Refusal, book: &[u8], out: &mut [u8], at: usize) -> usize
+    ensures { λ r. ⌜ LaidWithin 780 (refusalOf (now (book .entry)) why) (now (out .entry)) at r (now (out .exit)) ⌝ }
 {
     let mut next = bytes(b"refused ", out, at);
-    next = decimal(number as u64, out, next);
+    next = decimal(why.number() as u64, out, next);
     next = byte(b' ', out, next);
-    next = name_or_dash(named, name, out, next);
+    next = named_or_dash(why.names(), book, why.name(), out, next);
     byte(b'\n', out, next)
-}
-
-// Whether a number that a refusal gives is one of a name.
-fn is_named(name: u16) -> bool
-    ensures { λ r. ⌜ r ≡ isNamed name ⌝ }
-{
-    name != Refusal::NO_NAME
-}
-
-// The line of a refusal. `name` is the name that the book has for the refusal's number.
-pub fn refusal(why: Refusal, name: &[u8], out: &mut [u8], at: usize) -> usize
-    ensures { λ r. ⌜ Laid (refusal why (now (name .entry))) (now (out .entry)) at r (now (out .exit)) ⌝ }
-{
-    refused(why.number(), is_named(why.name()), name, out, at)
 }

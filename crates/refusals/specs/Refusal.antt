@@ -1,4 +1,5 @@
 -- Document 01's number of each refusal, and what it tells beside that. Definitions; assumes nothing.
+use mathlib.Core.Bool.{Bool, true, false}
 use Prim.Native.Nat.{ℕ}
 use Rattle.refusals.specs.declared.Refusal.{Refusal}
 use Rattle.refusals.specs.declared.Refusal.the-variants.{Broken, Twice, Unbound, Class, Modes, Oneway, Circle, NoFunction, MethodNoFunction, NoService, Differs, ImportWithoutActor, ImportNoService, SameHash, Absent, Short, NoActor}
@@ -33,6 +34,15 @@ numberOf r = saysOf r .0
 
 abbrev pub told : Refusal → Told
 told r = saysOf r .1
+
+-- Whether it names a number. That of 3 and 15 is the one asked with, so it may be outside the table of names, and even 65,535.
+abbrev pub namesTold : Told → Bool
+namesTold nothing = false
+namesTold (name n) = true
+namesTold (needed n) = false
+
+abbrev pub namesOf : Refusal → Bool
+namesOf r = namesTold (told r)
 
 -- The name number, or 65,535 where the row says none.
 abbrev pub nameTold : Told → ℕ

@@ -3,12 +3,13 @@
 ghost use mathlib.Core.Path.{_≡_};
 ghost use Prim.Native.Nat.{_<_};
 ghost use lib.ListN.{length};
-ghost use Rattle.refusals.specs.Refusal.{numberOf, nameOf, neededOf};
+ghost use Rattle.refusals.specs.Refusal.{numberOf, namesOf, nameOf, neededOf};
 ghost use Rattle.refusals.specs.Verdict.{isPassed};
 ghost use Rattle.refusals.specs.Outcome.{given};
 ghost use Rattle.refusals.specs.Handed.{HandedAs};
 
-// Rows 1 to 17 in order. Those with a name hold its number, a place in the book's table of names.
+// Rows 1 to 17 in order. Those with a name hold its number: a place in the book's table of names, unless a question was asked with a number
+// outside that table. Then 3 and 15 hold the number as it was asked, even 65,535.
 pub enum Refusal {
     // 1: the layout is broken.
     Broken,
@@ -46,35 +47,35 @@ pub enum Refusal {
     NoActor,
 }
 
-// What a refusal says: its number, the name's number, the entries needed.
-struct Said(u16, u16, u32);
+// What a refusal says: its number, whether it names something, the name's number, the entries needed.
+struct Said(u16, bool, u16, u32);
 
 impl Refusal {
-    // The number of a refusal that names nothing.
+    // Stands for the name's number where a refusal names nothing. It may also be a number that is named: `names` tells them apart.
     pub const NO_NAME: u16 = 65535;
 
     // Document 01's table, one line for each refusal as in the definition `saysOf`.
     fn says(self) -> Said
-        ensures { λ r. ⌜ (r .0 ≡ numberOf self) × (r .1 ≡ nameOf self) × (r .2 ≡ neededOf self) ⌝ }
+        ensures { λ r. ⌜ (r .0 ≡ numberOf self) × (r .1 ≡ namesOf self) × (r .2 ≡ nameOf self) × (r .3 ≡ neededOf self) ⌝ }
     {
         match self {
-            Refusal::Broken => Said(1, Refusal::NO_NAME, 0),
-            Refusal::Twice(n) => Said(2, n, 0),
-            Refusal::Unbound(n) => Said(3, n, 0),
-            Refusal::Class => Said(4, Refusal::NO_NAME, 0),
-            Refusal::Modes => Said(5, Refusal::NO_NAME, 0),
-            Refusal::Oneway => Said(6, Refusal::NO_NAME, 0),
-            Refusal::Circle(n) => Said(7, n, 0),
-            Refusal::NoFunction => Said(8, Refusal::NO_NAME, 0),
-            Refusal::MethodNoFunction(n) => Said(9, n, 0),
-            Refusal::NoService => Said(10, Refusal::NO_NAME, 0),
-            Refusal::Differs(n) => Said(11, n, 0),
-            Refusal::ImportWithoutActor(n) => Said(12, n, 0),
-            Refusal::ImportNoService(n) => Said(13, n, 0),
-            Refusal::SameHash(n) => Said(14, n, 0),
-            Refusal::Absent(n) => Said(15, n, 0),
-            Refusal::Short(n) => Said(16, Refusal::NO_NAME, n),
-            Refusal::NoActor => Said(17, Refusal::NO_NAME, 0),
+            Refusal::Broken => Said(1, false, Refusal::NO_NAME, 0),
+            Refusal::Twice(n) => Said(2, true, n, 0),
+            Refusal::Unbound(n) => Said(3, true, n, 0),
+            Refusal::Class => Said(4, false, Refusal::NO_NAME, 0),
+            Refusal::Modes => Said(5, false, Refusal::NO_NAME, 0),
+            Refusal::Oneway => Said(6, false, Refusal::NO_NAME, 0),
+            Refusal::Circle(n) => Said(7, true, n, 0),
+            Refusal::NoFunction => Said(8, false, Refusal::NO_NAME, 0),
+            Refusal::MethodNoFunction(n) => Said(9, true, n, 0),
+            Refusal::NoService => Said(10, false, Refusal::NO_NAME, 0),
+            Refusal::Differs(n) => Said(11, true, n, 0),
+            Refusal::ImportWithoutActor(n) => Said(12, true, n, 0),
+            Refusal::ImportNoService(n) => Said(13, true, n, 0),
+            Refusal::SameHash(n) => Said(14, true, n, 0),
+            Refusal::Absent(n) => Said(15, true, n, 0),
+            Refusal::Short(n) => Said(16, false, Refusal::NO_NAME, n),
+            Refusal::NoActor => Said(17, false, Refusal::NO_NAME, 0),
         }
     }
 
@@ -85,18 +86,25 @@ impl Refusal {
         self.says().0
     }
 
+    // Whether it names something, which need not be a name of the book.
+    pub fn names(self) -> bool
+        ensures { λ r. ⌜ r ≡ namesOf self ⌝ }
+    {
+        self.says().1
+    }
+
     // The name number that it gives, or NO_NAME.
     pub fn name(self) -> u16
         ensures { λ r. ⌜ r ≡ nameOf self ⌝ }
     {
-        self.says().1
+        self.says().2
     }
 
     // The entries needed, which only row 16 gives; else 0.
     pub fn needed(self) -> u32
         ensures { λ r. ⌜ r ≡ neededOf self ⌝ }
     {
-        self.says().2
+        self.says().3
     }
 }
 

@@ -1,29 +1,64 @@
--- `refusal` meets its contract: what it prints is the refusal's. Assumes nothing.
-use Rattle.print.proofs.Laid.{alias}
-use Rattle.print.proofs.Refusals.{refusal-is}
+-- `refusal` meets its contract: its parts are laid one after another. Assumes nothing.
 use borrow.Author.Needs.{needs}
+use Rattle.print.proofs.Laid.{then}
+use Rattle.print.proofs.Refusals.{line-laid}
 use Rattle.print.proofs.refusal.Statement.{statement}
 use Rattle.print.proofs.refusal.Tie as tie
 
+slice-aggregate-bytes : tie.Need-slice-aggregate-bytes
+slice-aggregate-bytes c = search needs
+
+bytes-requires : tie.Need-bytes-requires
+bytes-requires c κs = tt
+
 number-requires : tie.Need-number-requires
-number-requires c κs = search needs
+number-requires c κs = tt
+
+cast-decimal : tie.Need-cast-decimal
+cast-decimal c = search needs
+
+decimal-requires : tie.Need-decimal-requires
+decimal-requires c κs = tt
+
+byte-requires : tie.Need-byte-requires
+byte-requires c κs = tt
+
+names-requires : tie.Need-names-requires
+names-requires c κs = tt
 
 name-requires : tie.Need-name-requires
-name-requires c κs = search needs
+name-requires c κs = tt
 
-is-named-requires : tie.Need-is-named-requires
-is-named-requires c κs = search needs
+named-or-dash-requires : tie.Need-named-or-dash-requires
+named-or-dash-requires c κs = tt
 
-refused-requires : tie.Need-refused-requires
-refused-requires c κs = search needs
+byte-requires-2 : tie.Need-byte-requires-2
+byte-requires-2 c κs = tt
 
 same-length : tie.Need-same-length
 same-length c = search needs
 
 returns : tie.Need-returns
-returns c = alias (refusal-is _ _ (c .before .before .before .before .before .before .number .ensures) (c .before .before .before .before .before .name .ensures) (c .before .before .before .before .is-named .ensures)) (c .before .before .refused .ensures)
+returns c =
+    let named : tie.After-named-or-dash = c .before .before .before .before .before .before in
+    let numbered : tie.After-byte = named .before .before .before .before .before .before in
+    let counted : tie.After-decimal = numbered .before .before .before .before in
+    line-laid _ _ (named .before .before .name .ok) (counted .before .before .number .ensures) (named .before .before .before .names .ensures) (named .before .before .name .ensures)
+    (then (then (then (then (counted .before .before .before .before .before .bytes .ensures) (counted .decimal .ensures)) (numbered .byte .ensures)) (named .named-or-dash .ensures)) (c .before .before .byte2 .ensures))
 
 pub refusal-spec : {M : Type 1} → statement M
 refusal-spec =
     tie.close
-    (tie.spec number-requires name-requires is-named-requires refused-requires same-length returns)
+    (tie.spec
+    slice-aggregate-bytes
+    bytes-requires
+    number-requires
+    cast-decimal
+    decimal-requires
+    byte-requires
+    names-requires
+    name-requires
+    named-or-dash-requires
+    byte-requires-2
+    same-length
+    returns)
