@@ -18,7 +18,7 @@ use Rattle.format.specs.Distinct.{Distinct, FirstRepeat}
 use Rattle.format.proofs.Logic.{both, join, is-false}
 use Rattle.refusals.specs.declared.Refusal.{Refusal}
 use Rattle.refusals.specs.declared.Refusal.the-variants.{Twice, Circle, NoFunction}
-use Rattle.refusals.specs.declared.Verdict.the-variants.{Passed, Refused}
+use Rattle.refusals.specs.declared.Verdict.the-variants.{Passed}
 use Rattle.refusals.specs.Verdict.{unless}
 use Rattle.refusals.proofs.Verdicts.{passed-refused, not-says}
 use Rattle.judgement.specs.Environment.{Found, missing, body, findType}

@@ -2,7 +2,6 @@
 use mathlib.Core.Bool.{Bool, true, false, cond, _&&_, not}
 use mathlib.Core.List.{List, [], _∷_, _++_}
 use Prim.Native.Nat.{ℕ, zero, suc}
-use lib.ListN.{length}
 use lib.Dec.{eqb}
 use Rattle.format.specs.declared.Place.{Place}
 use Rattle.format.specs.Forest.{Forest, end, tree}
