@@ -90,15 +90,19 @@ HashRepeated names methods n =
     (earlier : List ℕ) × (others : List ℕ) × (methods ≡ earlier ++ (n ∷ others)) × List·Memᴰ (hashOf names n) (map (hashOf names) earlier)
 
 pub data ActorRow (b : Book) : Refusal → Type 0 where
+  -- 3: the chain of an actor that has to be a service meets a name without definition
   unbound : {n : ℕ} {t : Forest Node} → List·Memᴰ t (services b) → MeetsUnbound (mainDefinitions b) n t → ActorRow b (Unbound n)
+  -- 10 and 13: there is an actor, and it leads to another type
   noService : (mainActor b ≡ end → ⊥) → LeadsElsewhere (mainDefinitions b) (belowClass (mainActor b)) → ActorRow b NoService
-  importWithoutActor : {f : File} → List·Memᴰ f (serviceImports (b .files)) → f .actor ≡ end → ActorRow b (ImportWithoutActor (f .name))
   importNoService : {f : File} → List·Memᴰ f (serviceImports (b .files)) → (f .actor ≡ end → ⊥) → LeadsElsewhere (mainDefinitions b) (f .actor) →
       ActorRow b (ImportNoService (f .name))
+  -- 12: there is none
+  importWithoutActor : {f : File} → List·Memᴰ f (serviceImports (b .files)) → f .actor ≡ end → ActorRow b (ImportWithoutActor (f .name))
+  -- 14: with service imports, of all methods together
   sameHash : {methods : Forest Node} {n : ℕ} → (serviceImports (b .files) ≡ [] → ⊥) → Together (mainDefinitions b) (services b) methods →
       HashRepeated (b .names) (methodNames methods) n → ActorRow b (SameHash n)
 
--- A refusal of the check: of the definitions, of the actor's walk, or of the actor and its imports.
+-- A refusal of the check: of the definitions, of the walk of the book's actor, or of the actor and its imports.
 pub data CheckRow (b : Book) : Refusal → Type 0 where
   definitions : {r : Refusal} → DefinitionsRow (mainDefinitions b) r → CheckRow b r
   walk : {t : Forest Node} {r : Refusal} → ActorOf b t → TreesRow (mainDefinitions b) (belowTop t) r → CheckRow b r
