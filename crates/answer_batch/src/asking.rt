@@ -5,6 +5,7 @@ ghost use lib.ListN.{length};
 ghost use Rattle.io.specs.Counts.{Counts};
 use crate::asked::Asked;
 use crate::asked::Question;
+use book::kinds::Limits;
 use refusals::Answer;
 use refusals::Refusal;
 use refusals::Verdict;
@@ -17,10 +18,10 @@ pub(crate) fn room() -> [u16; 12288]
 }
 
 // As many names as a book has.
-pub(crate) fn room_for_names() -> [u16; 1024]
+pub(crate) fn room_for_names() -> [u16; Limits::NAMES]
     ensures { λ r. ⌜ 1024 ≡ length r ⌝ }
 {
-    [0; 1024]
+    [0; Limits::NAMES]
 }
 
 // Asks a question by this word, about the first of the names if it is of a name. Answers how many numbers were given.

@@ -18,6 +18,15 @@ use refusals::Answer;
 use refusals::Refusal;
 use refusals::Verdict;
 
+// A refusal's number stands above what it tells: a name's number, or the entries needed.
+const BELOW: u32 = 65536;
+
+// There may be more uses.
+const BELOW_USES: u64 = 4294967296;
+
+// The refusal that tells the entries needed.
+const SHORT: u16 = 16;
+
 // A verdict as one number.
 fn code(v: Verdict) -> u32
     ensures answer { λ r. ⌜ r ≡ coded v ⌝ }
@@ -25,7 +34,7 @@ fn code(v: Verdict) -> u32
 {
     match v {
         Verdict::Passed => 0,
-        Verdict::Refused(why) => why.number() as u32 * 65536 + why.name() as u32,
+        Verdict::Refused(why) => why.number() as u32 * BELOW + why.name() as u32,
     }
 }
 
@@ -52,7 +61,7 @@ fn low(why: Refusal) -> u32
     ensures is { λ r. ⌜ r ≡ lowOf why ⌝ }
     ensures small { λ r. ⌜ (neededOf why < 65536 → r < 65536) ⌝ }
 {
-    if why.number() == 16 {
+    if why.number() == SHORT {
         return why.needed();
     }
     why.name() as u32
@@ -66,7 +75,7 @@ fn answer_code(a: Answer) -> u32
 {
     match a {
         Answer::Given(n) => n as u32,
-        Answer::Refused(why) => why.number() as u32 * 65536 + low(why),
+        Answer::Refused(why) => why.number() as u32 * BELOW + low(why),
     }
 }
 
@@ -78,7 +87,7 @@ fn uses_code(a: Answer) -> u64
 {
     match a {
         Answer::Given(n) => n as u64,
-        Answer::Refused(why) => why.number() as u64 * 4294967296 + low(why) as u64,
+        Answer::Refused(why) => why.number() as u64 * BELOW_USES + low(why) as u64,
     }
 }
 

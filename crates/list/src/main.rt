@@ -7,6 +7,7 @@ ghost use Rattle.refusals.specs.Outcome.{given};
 ghost use Rattle.print.specs.Laid.{Laid};
 ghost use Rattle.print.specs.Refused.{refusalOf};
 ghost use Rattle.list.specs.Printed.{heading, markOf, line, lines, marksIn, markedText, printed};
+use book::kinds::Limits;
 use libc::STDIN_FILENO;
 use libc::STDOUT_FILENO;
 use refusals::Answer;
@@ -90,10 +91,10 @@ fn table(book: &[u8], listed: &[u16], marked: &[u16], out: &mut [u8]) -> usize
 }
 
 // A place for each name.
-fn room_for_marks() -> [u16; 1024]
+fn room_for_marks() -> [u16; Limits::NAMES]
     ensures { λ r. ⌜ 1024 ≡ length r ⌝ }
 {
-    [0; 1024]
+    [0; Limits::NAMES]
 }
 
 // What is printed where the names are listed.
@@ -108,10 +109,10 @@ fn marked(book: &[u8], listed: &[u16], out: &mut [u8]) -> usize
 }
 
 // A place for each definition.
-fn room_for_list() -> [u16; 512]
+fn room_for_list() -> [u16; Limits::DEFINITIONS]
     ensures { λ r. ⌜ 512 ≡ length r ⌝ }
 {
-    [0; 512]
+    [0; Limits::DEFINITIONS]
 }
 
 // All that is printed for the bytes of a book: never as many bytes as are asked for.
