@@ -12,6 +12,7 @@ bytes. It prints, one line each, what the program answer_batch prints of the boo
     marks OUTCOME           the marks over that list, over no names where it is refused
     marks-back OUTCOME      over it from its end
     marks-outside OUTCOME   over it and then a number outside every table
+    marks-highest OUTCOME   over it and then the highest number
     init OUTCOME            the init list
     draft OUTCOME           the draft list
     empty OUTCOME           the names that are empty
@@ -20,12 +21,13 @@ bytes. It prints, one line each, what the program answer_batch prints of the boo
     twice "NAME" OUTCOME    and twice
     uses-outside OUTCOME    the uses of a number outside every table
     project-outside OUTCOME the methods projected when it is asked for,
+    project-highest OUTCOME when the highest number is,
     project-none OUTCOME    when nothing is asked for,
     project-all OUTCOME     when all names are whose own projection is given, the last name first,
     project-every OUTCOME   and when every name of the table is, the last name first
 
 OUTCOME is `passed` of a check, `whole` and the counts of a layout, `given`, the number of entries and these, or `refused`, the number
-and the name or `-`. Of a book with more than 514 names that lists none, so that no name has uses, only the first 8 names and the last 8
+and the name or `-`. A number that was asked with and is outside the book's table is named as it is, without quotes. Of a book with more than 514 names that lists none, so that no name has uses, only the first 8 names and the last 8
 are asked about. A broken book is not asked about names. After list, marks, init, draft, empty, uses and project-all, if entries were
 given, it is asked again with one place fewer than they take:
 
@@ -49,6 +51,7 @@ MAIN, TYPE_IMPORT, SERVICE_IMPORT, INIT = range(4)
 ONEWAY = 1
 OF_CLASS = 65535  # stands for the method in a use by an argument of the actor's class
 OUTSIDE = 1024  # the first number outside every name table
+HIGHEST = 65535  # the last one
 MOST_USES = 4096  # entries in the list that answer_batch lends for uses; its other lists are long enough for all
 MOST_NAMES = 514  # a book that has more of them and lists none is asked about some alone:
 FIRST_AND_LAST = 8  # so many of the first and of the last
@@ -384,6 +387,17 @@ def emptiness(book):
 
 # Lines
 
+def refusal(refused, names):
+    """A refusal of a book with these names."""
+    if refused.name is None:
+        named = "-"
+    elif refused.name < len(names):
+        named = layout.quoted(names[refused.name])
+    else:
+        named = str(refused.name)
+    return f"refused {refused.number} {named}"
+
+
 def given(entries):
     return " ".join([f"given {len(entries)}", *entries])
 
@@ -427,6 +441,7 @@ QUESTIONS = tuple(Question(*row) for row in (
     ("marks", OF_BOOK, "marks", marks, lambda lines, _: [lines.listed()], names, True),
     ("marks-back", OF_BOOK, "marks", marks, lambda lines, _: [lines.listed()[::-1]], names, False),
     ("marks-outside", OF_BOOK, "marks", marks, lambda lines, _: [[*lines.listed(), OUTSIDE]], names, False),
+    ("marks-highest", OF_BOOK, "marks", marks, lambda lines, _: [[*lines.listed(), HIGHEST]], names, False),
     ("init", OF_BOOK, "init", init_list, lambda lines, _: [], names, True),
     ("draft", OF_BOOK, "draft", draft_list, lambda lines, _: [], names, True),
     ("empty", OF_BOOK, "empty", emptiness, lambda lines, _: [], names, True),
@@ -435,6 +450,7 @@ QUESTIONS = tuple(Question(*row) for row in (
     ("twice", OF_NAME, "project", project, lambda lines, number: [[number, number]], numbers, False),
     ("uses-outside", OF_WHOLE, "uses", uses, lambda lines, _: [OUTSIDE], entries_of_uses, False),
     ("project-outside", OF_WHOLE, "project", project, lambda lines, _: [[OUTSIDE]], numbers, False),
+    ("project-highest", OF_WHOLE, "project", project, lambda lines, _: [[HIGHEST]], numbers, False),
     ("project-none", OF_WHOLE, "project", project, lambda lines, _: [[]], numbers, False),
     ("project-all", OF_WHOLE, "project", project, lambda lines, _: [lines.projected()[::-1]], numbers, True),
     ("project-every", OF_WHOLE, "project", project, lambda lines, _: [[*range(len(lines.book.names))][::-1]], numbers, False),
@@ -455,10 +471,7 @@ class Lines:
         self.book, self.found, self.answers = book, {}, {}
 
     def name(self, number):
-        return layout.quoted(self.book.names[number] if number < len(self.book.names) else b"")
-
-    def refusal(self, refused):
-        return f"refused {refused.number} {'-' if refused.name is None else self.name(refused.name)}"
+        return layout.quoted(self.book.names[number])
 
     def listed(self):
         return self.answers["list"] or []
@@ -482,13 +495,13 @@ class Lines:
             self.found[row.word + about] = row.said(self, answer)
         except Refused as refused:
             answer = None
-            self.found[row.word + about] = self.refusal(refused)
+            self.found[row.word + about] = refusal(refused, self.book.names)
         self.answers[row.word + about] = answer
         if answer and row.again:
             try:
                 handed(answer, len(answer) - 1)
             except Refused as refused:
-                self.found[f"{row.word}-short{about}"] = f"needs {refused.needed} {self.refusal(refused)}"
+                self.found[f"{row.word}-short{about}"] = f"needs {refused.needed} {refusal(refused, self.book.names)}"
 
     def all(self):
         for row in asked_of(OF_BOOK):
@@ -567,10 +580,13 @@ def listing(data):
     """What the program `list` prints of a book."""
     try:
         book = Book(data)
+    except Refused as refused:
+        return refusal(refused, []) + "\n"
+    try:
         listed = definition_list(book)
         marked = marks(book, listed)
-    except Refused as refusal:
-        return f"refused {refusal.number} {'-' if refusal.name is None else layout.quoted(book.names[refusal.name])}\n"
+    except Refused as refused:
+        return refusal(refused, book.names) + "\n"
     lines = [f"list {len(listed)} marked {len(marked)}"]
     lines += [f"{place} {'r' if name in marked else '-'} {layout.quoted(book.names[name])}"
               for place, name in enumerate(listed, 1)]

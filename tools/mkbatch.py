@@ -15,7 +15,7 @@ outcomes, and these must agree:
 A stated outcome of a question is
     // QUESTION: ENTRY ..        QUESTION is as in tools/answers.py, with a TEXT where it is about a name
     // QUESTION: none            an ENTRY is a TEXT, a number or METHOD.KIND.INDEX, with repeat and nest as in a source
-    // QUESTION: refused NUMBER TEXT, or - for TEXT
+    // QUESTION: refused NUMBER TEXT, or for TEXT - or a number outside the table
     // QUESTION: passes          of check and init-check
     // QUESTION: whole N N N N   of layout: names, nodes, definitions, files
     // QUESTION: needs N         of a question with too short a list
@@ -47,7 +47,7 @@ def words(*kinds):
 
 QUESTION = rf"(?P<question>(?:{words(answers.OF_BOOK, answers.OF_WHOLE)})|(?:{words(answers.OF_NAME)}) (?P<asked>{TEXT}))"
 STATED_LINE = re.compile(f"// {QUESTION}: " + r"(?P<outcome>\S.*)")
-REFUSED = re.compile(rf"refused (?P<number>[0-9]+) (?P<named>-|{TEXT})")
+REFUSED = re.compile(rf"refused (?P<number>[0-9]+) (?P<named>-|[0-9]+|{TEXT})")
 
 
 def sources(folder):
@@ -139,7 +139,9 @@ def stated(text):
         if question in found:
             raise mkbook.SourceError(f"{question} is stated twice")
         if refused:
-            named = "-" if refused["named"] == "-" else layout.quoted(mkbook.name(refused["named"]))
+            named = refused["named"]
+            if named.startswith('"'):
+                named = layout.quoted(mkbook.name(named))
             found[question] = f"refused {refused['number']} {named}"
         elif said == "passes":
             found[question] = "passed"

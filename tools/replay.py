@@ -67,7 +67,7 @@ def whose(question, theirs):
         return "the oracle's own, its reader of books"
     if word.endswith("-short") or outcome == "refused 16 -":
         return "the oracle's own, 16"
-    if word == "marks-outside" and theirs["marks"].startswith("given"):
+    if word in ("marks-outside", "marks-highest") and theirs["marks"].startswith("given"):
         return "the oracle's own, 3 for a number outside"
     return "the Rust's"
 

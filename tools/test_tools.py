@@ -423,7 +423,8 @@ class ListSources(unittest.TestCase):
             '// layout: whole 1 0 0 1\n// name: "" "" ""\n': {"layout": "whole 1 0 0 1", "name": 'given 3 "" "" ""'},
             '// uses-short "a": needs 3\n// list-short: needs 1\n':
                 {'uses-short "a"': "needs 3 refused 16 -", "list-short": "needs 1 refused 16 -"},
-            '// marks-back: none\n// marks-outside: refused 3 ""\n': {"marks-back": "given 0", "marks-outside": 'refused 3 ""'},
+            '// marks-back: none\n// marks-outside: refused 3 1024\n': {"marks-back": "given 0", "marks-outside": "refused 3 1024"},
+            '// project-every: refused 15 ""\n': {"project-every": 'refused 15 ""'},
         }.items():
             self.assertEqual(mkbatch.stated(head + lines), found, lines)
         for text in (head, head + "// uses-short: needs 3\n", head + "// check-short: needs 3\n",
@@ -438,19 +439,19 @@ class ListSources(unittest.TestCase):
         self.assertEqual(mkbatch.answered("a", "// answers: x\n// list: none\n", LIST_BOOKS["p10"]), "".join("a " + line for line in (
             "layout whole 2 2 0 1\n", 'name given 4 "" "m" "" ""\n',
             "check passed\n", "init-check passed\n", "list given 0\n", "marks given 0\n", "marks-back given 0\n",
-            'marks-outside refused 3 ""\n', "init given 0\n", "draft given 0\n", "empty given 0\n",
+            "marks-outside refused 3 1024\n", "marks-highest refused 3 65535\n", "init given 0\n", "draft given 0\n", "empty given 0\n",
             'uses "" given 0\n', 'project "" refused 15 ""\n', 'twice "" refused 15 ""\n',
             'uses "m" given 0\n', 'project "m" given 1 0\n', 'twice "m" refused 15 "m"\n',
-            "uses-outside given 0\n", 'project-outside refused 15 ""\n', "project-none given 0\n", "project-all given 1 0\n",
+            "uses-outside given 0\n", "project-outside refused 15 1024\n", "project-highest refused 15 65535\n", "project-none given 0\n", "project-all given 1 0\n",
             "project-all-short needs 1 refused 16 -\n", 'project-every refused 15 ""\n')))
         self.assertEqual(replay.lines("a", answers.outcomes(b"")), [
             "a layout refused 1 -\n", 'a name given 2 "" ""\n',
-            *(f"a {word} refused 1 -\n" for word in "check init-check list marks marks-back marks-outside init draft empty".split())])
+            *(f"a {word} refused 1 -\n" for word in "check init-check list marks marks-back marks-outside marks-highest init draft empty".split())])
 
     def test_tally(self):
         """By hand: P10's lines and those of a broken book."""
         lines = list(replay.printed([("a", answers.outcomes(LIST_BOOKS["p10"])), ("b", answers.outcomes(b""))]))
-        refused = {1: 10, 3: 1, 15: 5, 16: 1}
+        refused = {1: 11, 3: 2, 15: 6, 16: 1}
         given = {"layout": 1, "name": 2, "check": 1, "init-check": 1, "project": 2}
         words = "layout name check init-check list marks init draft empty uses project".split()
         self.assertEqual(lines[-29:], [
@@ -496,10 +497,12 @@ class Replay(unittest.TestCase):
         self.assertEqual(found, {
             "layout": {"whole", 1}, "name": {"given"},
             "check": {"passed", *check}, "init-check": {"passed", 11, *check},
-            "list": {17, *check, *given}, "marks": {*check, *given}, "marks-back": {*check, *given}, "marks-outside": check,
+            "list": {17, *check, *given}, "marks": {*check, *given}, "marks-back": {*check, *given},
+            "marks-outside": check, "marks-highest": check,
             "init": {11, *check, *given}, "draft": {1, 2, 3, 17, *given}, "empty": {*check, *given},
             "uses": {16, 17, *check, *given} - {1}, "project": {15, 17, "given", *check} - {1}, "twice": {15, 17, "given", *check} - {1},
-            "uses-outside": {17, "none", *check} - {1}, "project-outside": {15, 17, *check} - {1}, "project-none": {17, "none", *check} - {1},
+            "uses-outside": {17, "none", *check} - {1}, "project-outside": {15, 17, *check} - {1}, "project-highest": {15, 17, *check} - {1},
+            "project-none": {17, "none", *check} - {1},
             "project-all": {17, *check, *given} - {1}, "project-every": {15, 17, "given", *check} - {1},
             **{question: {"needs"} for question in SHORT}})
 
@@ -595,8 +598,8 @@ class Replay(unittest.TestCase):
             return found, {which: sum(words.values()) for which, words in told.items()}
 
         self.assertEqual(joined(rust), (right, {
-            "the Rust's": 34, "the oracle's own, 16": 6, "the oracle's own, 3 for a number outside": 1,
-            "the oracle's own, its reader of books": 2, "the oracle's own, layout broken": 11}))
+            "the Rust's": 35, "the oracle's own, 16": 6, "the oracle's own, 3 for a number outside": 2,
+            "the oracle's own, its reader of books": 2, "the oracle's own, layout broken": 12}))
         silent = [line if not line.startswith("a list ") else "a list unanswered ring\n" for line in rust if " list-short" not in line]
         self.assertEqual(joined(silent)[0], right)
         self.assertEqual(joined(silent)[1]["unanswered ring"], 2)

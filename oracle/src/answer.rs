@@ -28,8 +28,9 @@ const MOST_USES: usize = 4096;
 const MOST_NAMES: usize = 514;
 const FIRST_AND_LAST: usize = 8;
 
-/// The first number outside every name table. In the Rust it is a text that no name of the book has.
+/// The first and the last number outside every name table. In the Rust each is a text that no name of the book has.
 const OUTSIDE: usize = 1024;
+const HIGHEST: usize = 65535;
 
 /// Why there is no result.
 #[derive(Clone, PartialEq)]
@@ -203,13 +204,14 @@ impl Texts<'_> {
         }
     }
 
-    /// A name's number, or one outside the table.
+    /// A name's number, or the one that a text of `outside` is for.
     fn number(&self, name: &str) -> usize {
-        self.names.binary_search_by(|found| found.as_str().cmp(name)).unwrap_or(OUTSIDE)
+        let found = self.names.binary_search_by(|found| found.as_str().cmp(name));
+        found.unwrap_or_else(|_| name.trim_end_matches('_').parse().expect("a number outside"))
     }
 
-    fn outside(&self) -> String {
-        let mut text = String::from("outside");
+    fn outside(&self, number: usize) -> String {
+        let mut text = number.to_string();
         while self.names.contains(&text) {
             text.push('_');
         }
@@ -451,9 +453,9 @@ impl Texts<'_> {
 
 // Lines
 
-/// A name as it is printed: nothing for a number outside the table.
+/// What is named as it is printed: a number outside the table as it is.
 fn named(book: &Book, name: usize) -> String {
-    quoted(book.names.get(name).map_or(&[][..], |name| name))
+    book.names.get(name).map_or_else(|| name.to_string(), |name| quoted(name))
 }
 
 fn given(book: &Book, outcome: &Found<Vec<String>>) -> String {
@@ -525,13 +527,14 @@ const DRAFT: &str = "draft";
 
 /// The questions that the Rust is asked, in the order of their lines, and whether each is asked again, with one place fewer than the entries
 /// that were given.
-const QUESTIONS: [(&str, Of, bool); 17] = [
+const QUESTIONS: [(&str, Of, bool); 19] = [
     ("check", Of::Book, false),
     ("init-check", Of::Book, false),
     ("list", Of::Book, true),
     ("marks", Of::Book, true),
     ("marks-back", Of::Book, false),
     ("marks-outside", Of::Book, false),
+    ("marks-highest", Of::Book, false),
     ("init", Of::Book, true),
     (DRAFT, Of::Book, true),
     ("empty", Of::Book, true),
@@ -540,6 +543,7 @@ const QUESTIONS: [(&str, Of, bool); 17] = [
     ("twice", Of::Name, false),
     ("uses-outside", Of::Whole, false),
     ("project-outside", Of::Whole, false),
+    ("project-highest", Of::Whole, false),
     ("project-none", Of::Whole, false),
     ("project-all", Of::Whole, true),
     ("project-every", Of::Whole, false),
@@ -626,7 +630,7 @@ fn lines_of(texts: &Texts) -> Vec<Line> {
         let checked = known.clone()?;
         chase_actor(&checked.env, checked.actor()?).map_err(|e| texts.row(e))
     });
-    let outside = texts.outside();
+    let [outside, highest] = [OUTSIDE, HIGHEST].map(|number| texts.outside(number));
     say("list", None, listed.clone().map(|found| texts.entries(&found)));
     let list = match &listed {
         Ok(list) => Ok(list.clone()),
@@ -636,7 +640,8 @@ fn lines_of(texts: &Texts) -> Vec<Line> {
     let marks = |list: Found<Vec<&str>>| guarded(STEPS, || texts.marks(known.clone()?, &list?));
     say("marks", None, marks(list.clone()));
     say("marks-back", None, marks(list.clone().map(|list| list.into_iter().rev().collect())));
-    say("marks-outside", None, marks(list.map(|list| [&list[..], &[&outside]].concat())));
+    say("marks-outside", None, marks(list.clone().map(|list| [&list[..], &[&outside]].concat())));
+    say("marks-highest", None, marks(list.map(|list| [&list[..], &[&highest]].concat())));
     let init_list = guarded(STEPS, || {
         let (env, args) = init.as_ref().map_err(|fail| fail.clone())?;
         Ok(texts.entries(&chase_types(env, args).map_err(|e| texts.row(e))?))
@@ -670,6 +675,7 @@ fn lines_of(texts: &Texts) -> Vec<Line> {
     }
     say("uses-outside", None, uses_of(&outside));
     say("project-outside", None, project(vec![outside.clone()]));
+    say("project-highest", None, project(vec![highest.clone()]));
     say("project-none", None, project(vec![]));
     say("project-all", None, projected.and_then(|names| project(names.into_iter().rev().collect())));
     say("project-every", None, project(texts.names.iter().rev().cloned().collect()));

@@ -151,7 +151,7 @@ pub fn compared(batch: &[u8], ours: &str, rust: &str) -> (Counts, Vec<Difference
             marked |= line.word == "marks" && is_given;
             if ["layout", "name"].contains(&line.word) {
                 *counts.own.entry("layout and names").or_default() += 1;
-            } else if line.word == "marks-outside" && marked {
+            } else if ["marks-outside", "marks-highest"].contains(&line.word) && marked {
                 *counts.own.entry("3 for a number outside").or_default() += 1;
             } else if line.asked_before().is_some() {
                 *counts.own.entry("16 for a list too short").or_default() += 1;

@@ -29,11 +29,13 @@ pub struct Said<'a> {
 
 impl Said<'_> {
     fn name(&self, number: usize) -> String {
-        self.book.and_then(|book| book.names.get(number)).map_or("\"\"".into(), |name| quoted(name))
+        self.book.and_then(|book| book.names.get(number)).map_or_else(|| number.to_string(), |name| quoted(name))
     }
 
     fn refused(&self, number: u32, low: usize) -> String {
         match (number, low) {
+            // These always name a number, even the highest.
+            (3 | 15, _) => format!("refused {number} {}", self.name(low)),
             (SHORT, _) | (_, NO_NAME) => format!("refused {number} -"),
             _ => format!("refused {number} {}", self.name(low)),
         }
@@ -148,7 +150,7 @@ impl Said<'_> {
         self.lines.insert(word.into(), line);
     }
 
-    /// Numbers outside the book's table other than 1,024, which the lines have.
+    /// Numbers outside the book's table other than 1,024, which the lines have; marks and projection have 65,535 as well.
     fn outside(&self) -> Vec<u16> {
         let names = self.book.map_or(0, |book| book.names.len());
         [names, NO_NAME].into_iter().filter(|number| *number != NAMES).map(|number| number as u16).collect()
@@ -160,6 +162,7 @@ impl Said<'_> {
         let back: Vec<u16> = list.iter().rev().copied().collect();
         self.say("marks-back", "", Question::Marks(&back), true);
         let and = |number: u16| [list, &[number]].concat();
+        self.say("marks-highest", "", Question::Marks(&and(NO_NAME as u16)), true);
         let (answer, _) = self.say("marks-outside", "", Question::Marks(&and(NAMES as u16)), true);
         for number in self.outside() {
             let right = match answer {
@@ -202,6 +205,7 @@ impl Said<'_> {
         for number in self.outside() {
             self.hold("uses-outside", Question::Uses(number), answer);
         }
+        self.say("project-highest", "", Question::Project(&[NO_NAME as u16]), true);
         let (answer, _) = self.say("project-outside", "", Question::Project(&[NAMES as u16]), true);
         for number in self.outside() {
             let right = match answer {

@@ -8,7 +8,7 @@ use refusals::Answer;
 use refusals::Refusal;
 
 // Which names a book is asked about: all, but of a book with more than MOST_NAMES of which none is listed the first and the last ones alone,
-// since none has uses there; and then the first number outside every table.
+// since none has uses there; and then the first and the last number outside every table.
 pub struct Asked {}
 
 impl Asked {
@@ -17,6 +17,8 @@ impl Asked {
     pub const FIRST_AND_LAST: u16 = 8;
 
     pub const OUTSIDE: u16 = 1024;
+
+    pub const HIGHEST: u16 = 65535;
 }
 
 // Those whose answers are lists. Marks are made over names, uses asked of one, projection for names.
@@ -203,7 +205,7 @@ fn ask_list(source: &[u8], book: &[u8], tally: &mut [u32]) -> usize {
     listed
 }
 
-// The marks over a list, over it from its end, and over it and then a number that is no name's.
+// The marks over a list, over it from its end, and over it and then each number that is no name's.
 fn ask_marks(source: &[u8], book: &[u8], list: &[u16], tally: &mut [u32]) {
     crate::asking::ask_again(source, b"marks", Question::Marks, false, book, list, tally);
     ask_marks_turned(source, book, list, tally);
@@ -221,15 +223,39 @@ fn ask_marks_turned(source: &[u8], book: &[u8], list: &[u16], tally: &mut [u32])
         &back[..end],
         tally,
     );
-    let mut more = crate::asking::room_for_names();
-    let next = crate::asking::put_backwards(&back[..end], &mut more);
-    let last = crate::asking::within(
-        crate::asking::put(true, Asked::OUTSIDE, &mut more, next),
-        &more,
-    );
-    crate::asking::ask(
+    ask_marks_and(
         source,
         b"marks-outside",
+        book,
+        &back[..end],
+        Asked::OUTSIDE,
+        tally,
+    );
+    ask_marks_and(
+        source,
+        b"marks-highest",
+        book,
+        &back[..end],
+        Asked::HIGHEST,
+        tally,
+    );
+}
+
+// The marks over a list from its end and then this number.
+fn ask_marks_and(
+    source: &[u8],
+    word: &[u8],
+    book: &[u8],
+    back: &[u16],
+    number: u16,
+    tally: &mut [u32],
+) {
+    let mut more = crate::asking::room_for_names();
+    let next = crate::asking::put_backwards(back, &mut more);
+    let last = crate::asking::within(crate::asking::put(true, number, &mut more, next), &more);
+    crate::asking::ask(
+        source,
+        word,
         Question::Marks,
         false,
         book,
@@ -270,7 +296,7 @@ fn ask_others(source: &[u8], book: &[u8], tally: &mut [u32]) {
     );
 }
 
-// The questions about each name and about a number that is no name's; the methods projected for none, for all names that have one, and for
+// The questions about each name and about numbers that are no name's; the methods projected for none, for all names that have one, and for
 // all names. A broken book has none and is not asked.
 fn ask_of_names(source: &[u8], book: &[u8], names: u16, listed: usize, tally: &mut [u32]) {
     if names == 0 {
@@ -306,6 +332,16 @@ fn ask_outside(source: &[u8], book: &[u8], tally: &mut [u32]) {
         false,
         book,
         &outside,
+        tally,
+    );
+    let highest = [Asked::HIGHEST];
+    crate::asking::ask(
+        source,
+        b"project-highest",
+        Question::Projection,
+        false,
+        book,
+        &highest,
         tally,
     );
     crate::asking::ask(

@@ -173,7 +173,7 @@ pub(crate) fn judge(found: Verdict, place: usize, book: &[u8], tally: &mut [u32]
 }
 
 pub(crate) fn refuse(why: Refusal, book: &[u8], tally: &mut [u32]) {
-    crate::lines::refusal(why, book::name(book, why.name()));
+    crate::lines::refusal(why, book);
     crate::tally::count_refusal(why, tally);
 }
 

@@ -78,10 +78,10 @@ pub(crate) fn whole(c: Contents) {
     write(b"\n");
 }
 
-// A refusal, which ends the line. `name` is the book's for the refusal's number.
-pub(crate) fn refusal(why: Refusal, name: &[u8]) {
+// A refusal of a book, which ends the line.
+pub(crate) fn refusal(why: Refusal, book: &[u8]) {
     let mut out = room_for_piece();
-    let end = print::refusal(why, name, &mut out, 0);
+    let end = print::refusal(why, book, &mut out, 0);
     write_piece(&out, end);
 }
 

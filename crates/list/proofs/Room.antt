@@ -1,43 +1,23 @@
 -- How long what is printed can be: at most 512 names are listed, a name has at most 255 bytes, and a byte prints as three at most. Assumes
 -- nothing.
-use mathlib.Core.Path.{_≡_, refl}
-use mathlib.Core.Bool.{Bool, true, false}
+use mathlib.Core.Path.{_≡_, sym, ap}
 use mathlib.Core.List.{List, [], _∷_}
-use Prim.Native.Nat.{ℕ, zero, suc, _+_, _*_, _≤_, _<_}
+use Prim.Native.Nat.{ℕ, suc, _+_, _*_, _≤_, _<_}
 use native.Mathlib.Omega.{arith}
 use native.Mathlib.Decide.{decLe}
 use borrow.Author.Tests.{le-leb, lt-leb}
-use lib.Dec.{T}
-use lib.ListN.{length, getD, take, length-append}
-use Rattle.format.specs.Fits.{every, isName}
-use Rattle.format.specs.Layout.{Layout, broken, whole, layout, nameIn}
-use Rattle.format.proofs.Encoded.{fit-parts}
-use Rattle.format.proofs.Logic.{says}
-use Rattle.format.proofs.Theorems.{found}
-use Rattle.refusals.specs.declared.Refusal.{Refusal}
-use Rattle.refusals.specs.Refusal.{numberOf, nameOf}
+use lib.ListN.{length, take, length-append}
+use Rattle.format.specs.Layout.{nameIn}
 use Rattle.refusals.specs.Outcome.{Outcome, refused, given, fit}
-use Rattle.refusals.proofs.Refusals.{number-few}
-use Rattle.print.specs.Laid.{Laid}
-use Rattle.print.specs.Refused.{nameOrDash, refusedLine, isNamed, refusal, refusalOf}
-use Rattle.print.specs.Laws.{decimal-length, quoted-length}
-use Rattle.print.proofs.Laid.{alias, all-before}
-use Rattle.list.specs.Printed.{heading, markOf, line, lines, listIn, marksIn, markedText, listedText, printed, marksAsked, listAsked}
-
--- ---- A name
-names-short : (names : List (List ℕ)) (n : ℕ) → T (every isName names) → length (getD names n []) ≤ 255
-unfolding every isName
-names-short [] n h = omega arith
-names-short (a ∷ names) zero h = simp says at h .0 .0
-names-short (a ∷ names) (suc n) h = names-short names n (simp says at h .1)
-
-name-length : (bs : List ℕ) (n : ℕ) → length (nameIn bs n) ≤ 255
-unfolding nameIn
-name-length bs n = go (layout bs) refl
-  where
-    go : (l : Layout) → layout bs ≡ l → length (nameIn bs n) ≤ 255
-    go broken e = rw e (omega arith)
-    go (whole b) e = rw e (names-short (b .names) n (fit-parts (found bs b .0 e .0) .names))
+use Rattle.print.specs.Laid.{Laid, LaidWithin}
+use Rattle.print.specs.Laws.{decimal-length, quoted-length, name-length}
+use Rattle.print.proofs.Laid.{alias, wider, all-before}
+use Rattle.refusals.specs.declared.Answer.{Answer}
+use Rattle.refusals.specs.declared.Answer.the-variants.{Given}
+use Rattle.refusals.specs.Handed.{HandedAs}
+use Rattle.list.specs.Printed.{heading, markOf, line, lines, marksIn, markedText, printed, marksAsked}
+use Rattle.list.proofs.Answered.{given-is}
+use Rattle.list.proofs.Listed.{marks-given}
 
 -- ---- The lines
 heading-length : (a b : ℕ) → a ≤ 512 → b ≤ 1024 → length (heading a b) ≤ 21
@@ -60,17 +40,6 @@ lines-length bs marked p (n ∷ l) h =
       lines-length bs marked (suc p) l (omega arith),
     )
 
-dash-length : (named : Bool) (name : List ℕ) → length name ≤ 255 → length (nameOrDash named name) ≤ 767
-unfolding nameOrDash
-dash-length true name h = omega (arith, quoted-length name)
-dash-length false name h = omega arith
-
-refusal-length : (bs : List ℕ) (why : Refusal) → length (refusalOf bs why) < 409600
-unfolding refusalOf refusal refusedLine
-refusal-length bs why =
-    let name = nameIn bs (nameOf why) in
-    simp length-append (omega (arith, decimal-length 1 (numberOf why) (number-few why), dash-length (isNamed (nameOf why)) name (name-length bs (nameOf why))))
-
 -- ---- All of it: what is given fits
 abbrev lengthOf : Outcome (List ℕ) → ℕ
 lengthOf (refused r) = 0
@@ -85,10 +54,12 @@ fit-length places (given l) = go (decLe (length l) places)
     go (yes h) = rw (le-leb (length l) places h) h
     go (no h) = rw (lt-leb (length l) places (omega arith)) (omega arith)
 
-marked-length : (bs l : List ℕ) (o : Outcome (List ℕ)) → length l ≤ 512 → lengthOf o ≤ 1024 → length (markedText bs l o) < 409600
+pub given-few : {o : Outcome (List ℕ)} {old new : List ℕ} {r : Answer} (h : HandedAs o old new r) {places : ℕ} (n : places ≡ length old) {count : ℕ} → r ≡ Given count → length (take count new) ≤ places
+given-few {o} h {places} n e = omega (arith, fit-length places o, ap lengthOf (given-is h n e))
+
+given-length : (bs l marked : List ℕ) → length l ≤ 512 → length marked ≤ 1024 → length (markedText bs l (given marked)) < 409600
 unfolding markedText
-marked-length bs l (refused why) h k = refusal-length bs why
-marked-length bs l (given marked) h k =
+given-length bs l marked h k =
     omega (
       arith,
       length-append (heading (length l) (length marked)) (lines bs marked 1 l),
@@ -96,25 +67,19 @@ marked-length bs l (given marked) h k =
       lines-length bs marked 1 l (omega arith),
     )
 
-marks-few : (bs l : List ℕ) → lengthOf (marksIn bs l) ≤ 1024
-unfolding marksIn
-marks-few bs l = fit-length 1024 (marksAsked bs l)
+-- So the marks that are given are laid whole where there is that much room,
+module _ (bs l : List ℕ) {old new : List ℕ} {r : Answer} (h : HandedAs (marksAsked bs l) old new r) (n : 1024 ≡ length old) where
+  pub marks-laid : {count next : ℕ} {out out′ : List ℕ} → length l ≤ 512 → r ≡ Given count → Laid (markedText bs l (given (take count new))) out 0 next out′ →
+      LaidWithin 409600 (markedText bs l (marksIn bs l)) out 0 next out′
+  marks-laid {count} f e p =
+      record {
+        laid = alias (marks-given bs l h n e) p;
+        few = rw (sym (marks-given bs l h n e)) (given-length bs l (take count new) f (given-few h n e));
+      }
 
-list-few : (bs : List ℕ) → lengthOf (listIn bs) ≤ 512
-unfolding listIn
-list-few bs = fit-length 512 (listAsked bs)
-
-printed-length : (bs : List ℕ) → length (printed bs) < 409600
-unfolding printed listedText
-printed-length bs = go (listIn bs) (list-few bs)
-  where
-    go : (o : Outcome (List ℕ)) → lengthOf o ≤ 512 → length (listedText bs o) < 409600
-    go (refused why) h = refusal-length bs why
-    go (given l) h = marked-length bs l (marksIn bs l) h (marks-few bs l)
-
--- So it is laid whole where there is that much room.
-pub printed-laid : (bs : List ℕ) {text old new : List ℕ} {next : ℕ} → 409600 ≤ length old → text ≡ printed bs → Laid text old 0 next new →
+-- and so is all that is printed.
+pub printed-laid : (bs : List ℕ) {text old new : List ℕ} {next k : ℕ} → 409600 ≤ length old → k ≤ 409600 → text ≡ printed bs → LaidWithin k text old 0 next new →
     (take next new ≡ printed bs) × (next < 409600)
-printed-laid bs h e q =
-    let p = alias e q in
-    (all-before p (omega (arith, printed-length bs)), omega (arith, p .place, printed-length bs))
+printed-laid bs h g e q =
+    let p = wider g e q in
+    (all-before (p .laid) (omega (arith, p .few)), omega (arith, p .few, p .laid .place))

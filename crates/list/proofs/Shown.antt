@@ -32,7 +32,7 @@ use Rattle.listing.proofs.Demand3.{asked as sent-on, sent}
 use Rattle.print.specs.Ascii.{ascii}
 use Rattle.print.specs.Decimal.{digit, digits, decimal}
 use Rattle.print.specs.Quoted.{plain, escape, escapes, quoted}
-use Rattle.print.specs.Refused.{nameOrDash, refusedLine, refusal, refusalOf}
+use Rattle.print.specs.Refused.{namedOrDash, refusalOf}
 use Rattle.list.specs.Printed.{heading, markOf, line, lines, listIn, marksIn, markedText, listedText, printed}
 use Rattle.format.specs.Admission.{admitted, admittedBy}
 use Rattle.format.proofs.Admission.{admitted-fits}
@@ -74,7 +74,7 @@ module _ (bs : List ℕ) (b : Book) (read : admitted bs ≡ given b) (passed : c
 
 -- ---- A broken layout, as that of every input that is longer than a book may be
 pub broken-shown : (bs : List ℕ) → layout bs ≡ broken → printed bs ≡ ascii "refused 1 -\n"
-unfolding asked admitted admittedBy fit listIn listedText printed refusalOf refusal refusedLine nameOrDash decimal digits digit
+unfolding asked admitted admittedBy fit listIn listedText printed refusalOf namedOrDash decimal digits digit
 broken-shown bs e = rw e
 
 pub long-shown : (bs : List ℕ) → 65536 < length bs → printed bs ≡ ascii "refused 1 -\n"

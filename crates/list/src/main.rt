@@ -4,21 +4,12 @@ ghost use mathlib.Core.Path.{_≡_};
 ghost use lib.ListN.{length, take};
 ghost use Rattle.judgement.specs.Check.{member};
 ghost use Rattle.refusals.specs.Outcome.{given};
-ghost use Rattle.print.specs.Laid.{Laid};
-ghost use Rattle.print.specs.Refused.{refusalOf};
+ghost use Rattle.print.specs.Laid.{Laid, LaidWithin};
 ghost use Rattle.list.specs.Printed.{heading, markOf, line, lines, marksIn, markedText, printed};
 use book::kinds::Limits;
 use libc::STDIN_FILENO;
 use libc::STDOUT_FILENO;
 use refusals::Answer;
-use refusals::Refusal;
-
-// The line of a refusal.
-fn refusal(why: Refusal, book: &[u8], out: &mut [u8]) -> usize
-    ensures { λ r. ⌜ Laid (refusalOf (now (book .entry)) why) (now (out .entry)) 0 r (now (out .exit)) ⌝ }
-{
-    print::refusal(why, book::name(book, why.name()), out, 0)
-}
 
 // The first line.
 fn heading(listed: usize, marked: usize, out: &mut [u8]) -> usize
@@ -97,13 +88,14 @@ fn room_for_marks() -> [u16; Limits::NAMES]
     [0; Limits::NAMES]
 }
 
-// What is printed where the names are listed.
+// What is printed where so many names as this are listed.
 fn marked(book: &[u8], listed: &[u16], out: &mut [u8]) -> usize
-    ensures { λ r. ⌜ Laid (markedText (now (book .entry)) (now (listed .entry)) (marksIn (now (book .entry)) (now (listed .entry)))) (now (out .entry)) 0 r (now (out .exit)) ⌝ }
+    requires { ⌜ length (now listed) ≤ 512 ⌝ }
+    ensures { λ r. ⌜ LaidWithin 409600 (markedText (now (book .entry)) (now (listed .entry)) (marksIn (now (book .entry)) (now (listed .entry)))) (now (out .entry)) 0 r (now (out .exit)) ⌝ }
 {
     let mut places = room_for_marks();
     match questions::marks(book, listed, &mut places) {
-        Answer::Refused(why) => refusal(why, book, out),
+        Answer::Refused(why) => print::refusal(why, book, out, 0),
         Answer::Given(count) => table(book, listed, &places[..count], out),
     }
 }
@@ -122,7 +114,7 @@ fn print(book: &[u8], out: &mut [u8]) -> usize
 {
     let mut places = room_for_list();
     match questions::list(book, &mut places) {
-        Answer::Refused(why) => refusal(why, book, out),
+        Answer::Refused(why) => print::refusal(why, book, out, 0),
         Answer::Given(count) => marked(book, &places[..count], out),
     }
 }

@@ -8,7 +8,7 @@ use native.Mathlib.Omega.{arith}
 use native.Mathlib.Decide.{decLe}
 use lib.ListN.{length, getD, set, take, drop, length-append}
 use lib.Seq.{sets, length-sets, sets-eq, length-take-le, take-at, set-out, take-suc, take-all}
-use Rattle.print.specs.Laid.{over, Laid}
+use Rattle.print.specs.Laid.{over, Laid, LaidWithin}
 
 -- A buffer keeps its length.
 pub length-over : (old : List ℕ) (at : ℕ) (text : List ℕ) → length (over old at text) ≡ length old
@@ -49,6 +49,9 @@ then {x} {y} {old} {mid} {new} {at} {m} p q =
 -- The same text in other words.
 pub alias : {x y old new : List ℕ} {at next : ℕ} → x ≡ y → Laid x old at next new → Laid y old at next new
 alias e p = rw e at p
+
+pub wider : {x y old new : List ℕ} {at next j k : ℕ} → j ≤ k → x ≡ y → LaidWithin j x old at next new → LaidWithin k y old at next new
+wider h e p = record { laid = alias e (p .laid); few = omega (arith, h, p .few, ap length e) }
 
 -- What was lent comes back as long as it was.
 pub same : {x old new : List ℕ} {at next : ℕ} → Laid x old at next new → length new ≡ length old

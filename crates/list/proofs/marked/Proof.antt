@@ -1,9 +1,11 @@
 -- `marked` meets its contract: the marks' answer says which of the two texts is laid. Assumes nothing.
 use mathlib.Core.Path.{sym}
 use lib.Seq.{length-take-le}
-use Rattle.print.proofs.Laid.{alias}
+use Rattle.print.proofs.Laid.{wider}
 use Rattle.list.proofs.Answered.{given-within}
-use Rattle.list.proofs.Listed.{marks-refused, marks-given}
+use Rattle.list.proofs.Listed.{marks-refused}
+use Rattle.list.proofs.Room.{marks-laid}
+use native.Mathlib.Omega.{arith}
 use borrow.Author.Needs.{needs}
 use Rattle.list.proofs.marked.Statement.{statement}
 use Rattle.list.proofs.marked.Tie as tie
@@ -41,7 +43,7 @@ same-length c = search needs
 returns : tie.Need-returns
 returns c =
     let asked : tie.After-marks = c .before .before .before .before .before .before .before .before in
-    alias (marks-refused _ _ (asked .marks .ensures) (asked .before .before .room-for-marks .ensures) (c .before .before .before .before .before .why .given .1)) (c .before .before .refusal .ensures)
+    wider (omega arith) (marks-refused _ _ (asked .marks .ensures) (asked .before .before .room-for-marks .ensures) (c .before .before .before .before .before .why .given .1)) (c .before .before .refusal .ensures)
 
 same-length-2 : tie.Need-same-length-2
 same-length-2 c = search needs
@@ -49,7 +51,7 @@ same-length-2 c = search needs
 returns-2 : tie.Need-returns-2
 returns-2 c =
     let asked : tie.After-marks = c .before .before .before .before .before .before .before .before .before in
-    alias (marks-given _ _ (asked .marks .ensures) (asked .before .before .room-for-marks .ensures) (c .before .before .before .before .before .before .count .given .1)) (c .before .before .table .ensures)
+    marks-laid _ _ (asked .marks .ensures) (asked .before .before .room-for-marks .ensures) (asked .before .before .before .before .before .before .pre) (c .before .before .before .before .before .before .count .given .1) (c .before .before .table .ensures)
 
 pub marked-spec : {M : Type 1} → statement M
 marked-spec =
