@@ -42,6 +42,8 @@ ask() { try questions "$1" 0 "$(python3 tools/answers.py "$@")" "${@:2}"; }
 
 ask tests/list/p01.did 6 4 4096
 ask tests/list/p01.did 5 6 4096
+ask tests/list/p01.did 1024 1024 4096
+ask tests/list/p01.did 65535 65535 4096
 ask tests/list/p01.did 6 4 3
 ask tests/list/p01.did 6 4 2
 ask tests/list/p01.did 6 4 0

@@ -7,11 +7,14 @@
 
 #include "ask.h"
 
+/* Whether a refusal names something. A method that is absent is named by the number asked for, even if that is LUDZEPIN_NO_NAME. */
+static int is_named(uint32_t refusal, uint32_t name) { return refusal == LUDZEPIN_ABSENT || name != LUDZEPIN_NO_NAME; }
+
 /* The refusal, or the entries of so many numbers each. `low` is the name or the entries. */
 static void print(const struct question *question, uint32_t refusal, uint32_t low, const uint16_t *out) {
     if (refusal == LUDZEPIN_SHORT)
         printf("%s refused %u needs %u\n", question->word, refusal, low);
-    else if (refusal && low == LUDZEPIN_NO_NAME)
+    else if (refusal && !is_named(refusal, low))
         printf("%s refused %u -\n", question->word, refusal);
     else if (refusal)
         printf("%s refused %u %u\n", question->word, refusal, low);

@@ -320,6 +320,8 @@ class Answers(unittest.TestCase):
         for (name, *asked), right in {
             ("p01", 6, 4, 4096): p1,
             ("p01", 5, 6, 4096): p1 | {"uses": "given 0", "project": "refused 15 6"},
+            ("p01", 1024, 1024, 4096): p1 | {"uses": "given 0", "project": "refused 15 1024"},
+            ("p01", 65535, 65535, 4096): p1 | {"uses": "given 0", "project": "refused 15 65535"},
             ("p01", 6, 4, 3): p1,
             ("p01", 6, 4, 2): p1 | {"uses": f"{short} 1"},
             ("p01", 6, 4, 0): p1 | {"list": f"{short} 2", "draft": f"{short} 2",

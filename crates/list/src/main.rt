@@ -88,7 +88,7 @@ fn room_for_marks() -> [u16; Limits::NAMES]
     [0; Limits::NAMES]
 }
 
-// What is printed where so many names as this are listed.
+// What is printed where the names are listed, of which there are no more than definitions.
 fn marked(book: &[u8], listed: &[u16], out: &mut [u8]) -> usize
     requires { ⌜ length (now listed) ≤ 512 ⌝ }
     ensures { λ r. ⌜ LaidWithin 409600 (markedText (now (book .entry)) (now (listed .entry)) (marksIn (now (book .entry)) (now (listed .entry)))) (now (out .entry)) 0 r (now (out .exit)) ⌝ }

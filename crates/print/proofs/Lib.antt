@@ -1,5 +1,5 @@
--- Laws that the proofs of the functions cite; `Laid` and `Refusals` serve the crates above as well.
+-- Laws that the proofs of the functions cite; `Laid` serves the crates above as well.
 pub mod Laid
-pub mod Refusals
+mod Refusals
 mod Escapes
 mod Digits

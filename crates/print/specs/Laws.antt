@@ -1,5 +1,5 @@
--- What the definitions come to: a text that fits is laid whole, how long a quoted name can be, that a number's digits are that number, and
--- examples by computation. Assumes nothing.
+-- What the definitions come to: a text that fits is laid whole, how long a quoted name can be, that a number's digits are that number, that
+-- a name, a number and a dash differ, and examples by computation. Assumes nothing.
 use mathlib.Core.Path.{_≡_, refl, ap, _∙_}
 use mathlib.Core.Bool.{Bool, true, false, cond}
 use mathlib.Core.List.{List, [], _∷_, _++_}

@@ -1,6 +1,6 @@
--- How a refusal prints (document 01, "Listed, marked, refused"), with one choice of this project's: a number that is named and is outside the
--- book's table prints as it is. A quoted name begins with a quote and no number is `-`, so none is mistaken for another. Definitions; assumes
--- nothing.
+-- How a refusal prints (document 01, "Listed, marked, refused"). That a number which is named and is outside the book's table prints as it is,
+-- is this project's choice: a quoted name begins with its quote, so none of the two and `-` is mistaken for another (Laws.antt). Definitions;
+-- assumes nothing.
 use mathlib.Core.Bool.{Bool, false, cond}
 use mathlib.Core.List.{List, _++_}
 use Prim.Native.Nat.{ℕ}
