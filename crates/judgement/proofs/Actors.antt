@@ -3,7 +3,7 @@
 --     imports-say                 12: a service import has an actor
 --     hashes-say                  14: methods of the same hash
 --     main-say, imported-say      10 and 13, and 3 on the way: the main actor and each import stand for a service
---     actor-walk, walk-says       the walk of an actor or of init arguments
+--     actor-walk                  the walk of an actor or of init arguments
 --     actor-say                   an actor that is walked and has to be a service
 --     merged-stands, merged-fits  main with other methods is a service, and fits where these do
 --     together-fits               the methods of types that fit do
@@ -29,20 +29,20 @@ use Rattle.format.proofs.Logic.{is-false}
 use Rattle.refusals.specs.declared.Refusal.{Refusal}
 use Rattle.refusals.specs.declared.Refusal.the-variants.{Unbound, NoService, ImportWithoutActor, ImportNoService, SameHash}
 use Rattle.refusals.specs.declared.Verdict.{Verdict}
-use Rattle.refusals.specs.declared.Verdict.the-variants.{Passed, Refused}
+use Rattle.refusals.specs.declared.Verdict.the-variants.{Refused}
 use Rattle.refusals.specs.Verdict.{unless}
 use Rattle.refusals.proofs.Verdicts.{refused-passed, passed-refused}
 use Rattle.judgement.specs.Environment.{head, headKind, isServKind, kidsOf}
 use Rattle.judgement.specs.Aliases.{End, unbound, circle, ends, aliasEnd, rootPasses, asService}
 use Rattle.judgement.specs.Actor.{isClassKind, isClass, lastTree, classArguments, belowClass, serviceOf, classOf, mergedOf}
 use Rattle.judgement.specs.Check.{checkForest, isCircle, importsVerdict, serviceVerdict, importedVerdict, hashesVerdict, mainVerdict, actorVerdict}
-use Rattle.judgement.specs.WellFormed.{definedName, arrived, RootIs, StandsFor, Bound, WellFormedTrees, belowTop}
-use Rattle.judgement.specs.Rust.{OneMode, hashOf, hashesOf}
+use Rattle.judgement.specs.WellFormed.{definedName, arrived, RootIs, StandsFor, Bound, belowTop}
+use Rattle.judgement.specs.Rust.{hashOf, hashesOf}
 use Rattle.judgement.specs.Meaning.{MeetsUnbound, LeadsElsewhere, Together, none, more}
 use Rattle.judgement.specs.Order.{First, Sound, Fault, DefinitionsPass, Unserved, elsewhere}
 use Rattle.judgement.specs.Order as order
 use Rattle.judgement.proofs.Chains.{circle-never, unbound-meets, end-leads, leads-end, meets-end, leads-unique, no-circle, circle-says, root-says, service-says, bound-leads, leads-keeps}
-use Rattle.judgement.proofs.Walks.{service-is, walk-say, sound-formed}
+use Rattle.judgement.proofs.Walks.{service-is, walk-say}
 use Rattle.judgement.proofs.Says.{Says, says-unless, says-if, says-then, says-as}
 use Rattle.judgement.proofs.Each.{each, says-each, repeats, says-repeats}
 use Rattle.judgement.proofs.Fitting.{Fitting, methods-fit, arguments-fit, service-fits}
@@ -97,13 +97,6 @@ pub actor-walk : (ds : List Definition) (once : Distinct (map definedName ds)) (
     Says (checkForest false false ds f) (Sound ds true f) (Fault ds true false f)
 actor-walk ds once names f x =
     says-as (walk-say ds once names (x .place) false false f (x .fit)) (λ g. g .0, λ s. (s, λ (z : ⊥). absurd z)) (λ r. (λ h. h, λ h. h))
-
-pub walk-says : (ds : List Definition) (once : Distinct (map definedName ds)) (names : ℕ) (f : Forest Node) → Fitting names f →
-    (checkForest false false ds f ≡ Passed) ↔ (WellFormedTrees ds f × OneMode f)
-walk-says ds once names f x =
-    let w = actor-walk ds once names f x .passed in
-    let s = sound-formed ds f in
-    (λ e. s .0 (w .0 e), λ h. w .1 (s .1 h))
 
 -- ---- Where definitions pass
 module _ (ds : List Definition) (pass : DefinitionsPass ds) where

@@ -10,7 +10,7 @@
 --     bound-stands                 where all names are bound, a chain that runs in no circle ends at a type
 use mathlib.Core.Path.{_≡_, refl, sym, ap, subst, _∙_}
 use mathlib.Core.Logic.{_↔_, _⊎_, inl, inr, ⊎-elim, ⊎-map}
-use mathlib.Core.Bool.{Bool, true, false, not}
+use mathlib.Core.Bool.{Bool, true, false}
 use mathlib.Core.List.{List, [], _∷_, map, List·Memᴰ, List·Memᴰ·cases-cons, List·Memᴰ·not-nil}
 use Prim.Native.Nat.{ℕ, zero, suc, _+_, _≤_, _<_}
 use native.Mathlib.Omega.{arith}
@@ -238,7 +238,7 @@ module _ (ds : List Definition) where
         let p : g .1 .body ≡ u = cc (f, s .is-type) in
         run-over r (subst (GoesOn ds (suc (length ns))) p (g .5))
 
-    pub never-circle : (t : Forest Node) → NeverEnds ds t → aliasEnd ds t ≡ circle
+    never-circle : (t : Forest Node) → NeverEnds ds t → aliasEnd ds t ≡ circle
     unfolding aliasEnd chain
     never-circle t h =
         ⊎-elim (λ (r : Run t (chain ds t .crossed) (aliasEnd ds t)). absurd (run-over r (h (suc (length (chain ds t .crossed)))))) (λ p. p .0) (outcome (length ds) t .either)
@@ -254,10 +254,6 @@ module _ (ds : List Definition) where
         let s = ends′ (g .1) (g .3) in
         let r = leads-run (onward {u = s .type} (g .2) (g .3) (g .4) (s .leads)) in
         run-over (r .1) (h (suc (length (r .0))))
-
-    pub leads-no-circle : {t u : Forest Node} → Leads ds t u → T (not (isCircle (aliasEnd ds t)))
-    unfolding isCircle
-    leads-no-circle l = rw (leads-end l) tt
 
     pub leads-unique : {t u v : Forest Node} → Leads ds t u → Leads ds t v → u ≡ v
     leads-unique {t} {u} {v} l m = let e : ends u ≡ ends v = sym (leads-end l) ∙ leads-end m in cc

@@ -20,7 +20,7 @@ use Rattle.refusals.specs.declared.Refusal.{Refusal}
 use Rattle.refusals.specs.declared.Refusal.the-variants.{Twice, Circle, NoFunction}
 use Rattle.refusals.specs.declared.Verdict.the-variants.{Passed}
 use Rattle.refusals.specs.Verdict.{unless}
-use Rattle.refusals.proofs.Verdicts.{passed-refused, not-says}
+use Rattle.refusals.proofs.Verdicts.{passed-refused}
 use Rattle.judgement.specs.Environment.{Found, missing, body, findType}
 use Rattle.judgement.specs.Aliases.{aliasEnd}
 use Rattle.judgement.specs.Check.{checkForest, onceVerdict, bodiesVerdict, eachName, isCircle, circleVerdict, methodsFit, bodiesFit, decsVerdict}
@@ -28,7 +28,7 @@ use Rattle.judgement.specs.WellFormed.{definedName, MethodsAreFunctions}
 use Rattle.judgement.specs.Rows.{Repeated, NeverEnds, HasMethod, InBodies, CircleFrom}
 use Rattle.judgement.specs.Order.{First, Sound, Fault, SoundBodies, DefinitionsRefuse, DefinitionsPass, twice, body as inBody, circle, noFunction}
 use Rattle.judgement.proofs.Lookup.{find-body, find-named, find-missing, listed-defined}
-use Rattle.judgement.proofs.Chains.{circle-says, leads-no-circle, bound-stands}
+use Rattle.judgement.proofs.Chains.{circle-says, no-circle, bound-stands}
 use Rattle.judgement.proofs.Walks.{one-fails, walk-say, sound-formed, sound-methods, methods-fit, methods-unfit}
 use Rattle.judgement.proofs.Says.{Says, says-unless, says-if, says-then, says-as}
 use Rattle.judgement.proofs.Each.{each, says-each, all-cons, says-names, repeats, says-repeats}
@@ -188,8 +188,7 @@ module _ (names : ℕ) (ds : List Definition) (fits : FitDefinitions names ds) w
           let once = w .0 .once in
           let parts : (d : Definition) → List·Memᴰ d ds → Sound ds false (d .body) × MethodsAreFunctions ds (d .body) = λ d m.
           sound-methods ds (d .body) .1 (sound-formed ds (d .body) .1 (w .0 .trees d m, w .1 d m)) in
-          let open′ : NoCircle ds = λ n c. not-says (isCircle (aliasEnd ds (c .0 .body))) .0 (leads-no-circle ds once (w .0 .chains (c .0) (c .1) .leads)) (circle-says ds once (c .0 .body) .1 (c .3)) in
-          (once, (λ d m. parts d m .0, (open′, λ d m. parts d m .1)))
+          (once, (λ d m. parts d m .0, (λ n c. no-circle ds once (w .0 .chains) (c .0 .body) (c .3), λ d m. parts d m .1)))
 
   abbrev Refuses : Refusal → Type 0
   Refuses r =

@@ -114,8 +114,11 @@ module _ (f : ℕ → Verdict) (refuse : ℕ → Refusal) (Bad : ℕ → Type 0)
   Low n k r = (x : LowestBad Bad n k) × (r ≡ refuse (x .number))
 
   lowest-on : (n k : ℕ) (r : Refusal) → (((r ≡ refuse n) × Bad n) ⊎ ((Bad n → ⊥) × Low (suc n) k r)) ↔ Low n (suc k) r
-  lowest-on n k r = (⊎-elim (λ h. (record { number = n; from = omega arith; under = omega arith; bad = h .1; lower = λ i l u. let z : ⊥ = omega arith in absurd z }, h .0)) on, λ h. back h (ℕ-discrete n (h .0 .number)))
+  lowest-on n k r = (⊎-elim now on, λ h. back h (ℕ-discrete n (h .0 .number)))
     where
+      now : (r ≡ refuse n) × Bad n → Low n (suc k) r
+      now h = (record { number = n; from = omega arith; under = omega arith; bad = h .1; lower = λ i l u. let z : ⊥ = omega arith in absurd z }, h .0)
+
       on : (Bad n → ⊥) × Low (suc n) k r → Low n (suc k) r
       on h = let x = h .1 .0 in (
         record {
@@ -247,10 +250,13 @@ module _ {A : Type 0} (key : A → ℕ) (refuse : A → Refusal) where
       says-as (says-then (says-if (member (key b) seen) (refuse b) (member-says (key b) seen)) (λ g. says-repeats-from (key b ∷ seen) l))
       (fresh-cons (key b) seen (map key l)) (repeat-cons seen b l)
 
+  unseen : {l : List ℕ} → Distinct l → Fresh [] l
+  unseen d = record { distinct = d; apart = λ n m s. List·Memᴰ·not-nil s }
+
   pub says-repeats : (l : List A) → Says (repeats [] l) (Distinct (map key l)) (λ r. (a : A) × (r ≡ refuse a) × FirstRepeat key l a)
-  says-repeats l = says-as (says-repeats-from [] l) (λ x. x .distinct, λ d. record { distinct = d; apart = λ n m s. List·Memᴰ·not-nil s }) (λ r. (
+  says-repeats l = says-as (says-repeats-from [] l) (λ x. x .distinct, unseen) (λ r. (
     λ h. let x = h .2 in
         (h .0, h .1, record { before = x .before; following = x .following; parts = x .parts; distinct = x .fresh .distinct; again = ⊎-elim (λ m. absurd (List·Memᴰ·not-nil m)) (λ m. m) (x .known) }),
     λ h. let x = h .2 in
-        (h .0, h .1, record { before = x .before; following = x .following; parts = x .parts; fresh = record { distinct = x .distinct; apart = λ n m s. List·Memᴰ·not-nil s }; known = inr (x .again) }),
+        (h .0, h .1, record { before = x .before; following = x .following; parts = x .parts; fresh = unseen (x .distinct); known = inr (x .again) }),
   ))

@@ -120,7 +120,8 @@ no-decs n = pass-both (eachName (λ k. Passed) 0 n) Passed (passed-names (λ k. 
 pub init-verdict : (b : Book) → NoInit (b .files) → initVerdict b ≡ Passed
 unfolding initVerdict mergeVerdict sameVerdict findType kidsOf checkForest
 init-verdict b h =
-    rw (no-init-definitions b h, no-init-tree (b .files) h, no-decs (length (b .names))) (pass-both (eachName (λ k. Passed) 0 (length (b .names))) Passed (passed-names (λ k. Passed) 0 (length (b .names)) (λ i l u. refl)) refl)
+    rw (no-init-definitions b h, no-init-tree (b .files) h, no-decs (length (b .names)))
+    (pass-both (eachName (λ k. Passed) 0 (length (b .names))) Passed (passed-names (λ k. Passed) 0 (length (b .names)) (λ i l u. refl)) refl)
 
 pub without-init : (b : Book) → NoInit (b .files) → initCheck b ≡ check b
 unfolding initCheck

@@ -50,14 +50,19 @@ pub data Fault (ds : List Definition) (tests : Bool) : (method : Bool) → Fores
   -- 4: a class, unopened
   class : {method : Bool} {x : Node} {kids next : Forest Node} → x .kind ≡ ClassT → Fault ds tests method (tree x kids next) Class
   -- below a node
-  below : {method : Bool} {x : Node} {kids next : Forest Node} {r : Refusal} → (x .kind ≡ ClassT → ⊥) → Fault ds tests (tests && isServKind (x .kind)) kids r → Fault ds tests method (tree x kids next) r
+  below : {method : Bool} {x : Node} {kids next : Forest Node} {r : Refusal} → (x .kind ≡ ClassT → ⊥) → Fault ds tests (tests && isServKind (x .kind)) kids r →
+      Fault ds tests method (tree x kids next) r
   -- 5 and 6: a function's modes, after its arguments and results
-  modes : {method : Bool} {x : Node} {kids next : Forest Node} {a : ℕ} {ms : List FuncMode} → x .kind ≡ FuncT a ms → Sound ds tests kids → 1 < length ms → Fault ds tests method (tree x kids next) Modes
-  oneway : {method : Bool} {x : Node} {kids next : Forest Node} {a : ℕ} → x .kind ≡ FuncT a (Oneway ∷ []) → Sound ds tests kids → a < breadth kids → Fault ds tests method (tree x kids next) OnewayResults
+  modes : {method : Bool} {x : Node} {kids next : Forest Node} {a : ℕ} {ms : List FuncMode} → x .kind ≡ FuncT a ms → Sound ds tests kids → 1 < length ms →
+      Fault ds tests method (tree x kids next) Modes
+  oneway : {method : Bool} {x : Node} {kids next : Forest Node} {a : ℕ} → x .kind ≡ FuncT a (Oneway ∷ []) → Sound ds tests kids → a < breadth kids →
+      Fault ds tests method (tree x kids next) OnewayResults
   -- 9: a method that is no function, after all of its own type
-  noFunction : {method : Bool} {x : Node} {kids next : Forest Node} → T method → Sound ds tests (tree x kids end) → (StandsFor isFuncKind ds (tree x kids end) → ⊥) → Fault ds tests method (tree x kids next) (MethodNoFunction (labelValue (x .label)))
+  noFunction : {method : Bool} {x : Node} {kids next : Forest Node} → T method → Sound ds tests (tree x kids end) → (StandsFor isFuncKind ds (tree x kids end) → ⊥) →
+      Fault ds tests method (tree x kids next) (MethodNoFunction (labelValue (x .label)))
   -- in the trees after it
-  later : {method : Bool} {x : Node} {kids next : Forest Node} {r : Refusal} → Sound ds tests (tree x kids end) → (T method → StandsFor isFuncKind ds (tree x kids end)) → Fault ds tests method next r → Fault ds tests method (tree x kids next) r
+  later : {method : Bool} {x : Node} {kids next : Forest Node} {r : Refusal} → Sound ds tests (tree x kids end) → (T method → StandsFor isFuncKind ds (tree x kids end)) →
+      Fault ds tests method next r → Fault ds tests method (tree x kids next) r
 
 -- ---- Definitions: 2, then 3 to 6 body by body, then 7, then 8
 abbrev pub Once : List Definition → Type 0

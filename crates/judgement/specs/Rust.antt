@@ -1,14 +1,14 @@
 -- What the Rust asks beyond Candid.md. Predicates: none of them knows of the check, its verdicts or fuel. Definitions; assumes nothing.
 use mathlib.Core.Path.{_≡_}
 use mathlib.Core.Logic.{_⊎_}
-use mathlib.Core.List.{List, [], _∷_, map, List·Memᴰ}
+use mathlib.Core.List.{List, [], map, List·Memᴰ}
 use Prim.Native.Nat.{ℕ, _≤_}
 use lib.ListN.{length, getD}
 use lib.Dec.{T}
 use Rattle.labels.specs.Number.{labelNumber}
 use Rattle.format.specs.declared.Place.the-variants.{Root}
-use Rattle.format.specs.Forest.{Forest, end, tree}
-use Rattle.format.specs.Node.{FuncT, FuncMode, Node, labelValue}
+use Rattle.format.specs.Forest.{Forest, end}
+use Rattle.format.specs.Node.{FuncT, FuncMode, Node}
 use Rattle.format.specs.Book.{Definition, File, Book}
 use Rattle.format.specs.Occurs.{Occurs}
 use Rattle.format.specs.Distinct.{Distinct}
@@ -38,11 +38,6 @@ pub record Hashed (b : Book) : Type 0 where
   pub methods : Forest Node
   pub together : Together (mainDefinitions b) (services b) methods
   pub distinct : Distinct (hashesOf (b .names) methods)
-
--- The methods of a service, by their hashes.
-unfoldable pub methodHashes : List (List ℕ) → Forest Node → List ℕ
-methodHashes names end = []
-methodHashes names (tree n kids next) = labelNumber (getD names (labelValue (n .label)) []) ∷ methodHashes names next
 
 -- At most one mode; a service import has an actor, and it is no class; with service imports all methods differ by hash.
 pub record Rust (b : Book) : Type 0 where
