@@ -11,7 +11,6 @@ use mathlib.Core.Logic.{_↔_, _⊎_, inl, inr, ⊎-elim}
 use mathlib.Core.List.{List, [], map, List·Memᴰ, _++_, List·Memᴰ·head, List·Memᴰ·tail}
 use Prim.Native.Nat.{ℕ, _+_, _≤_}
 use native.Mathlib.Omega.{arith}
-use borrow.Author.Tests.{lt-leb}
 use lib.ListN.{length}
 use Rattle.format.specs.Forest.{end}
 use Rattle.format.specs.Book.{Definition, Book}
@@ -42,7 +41,7 @@ use Rattle.format.proofs.Admission.{asked-row, row-numbers}
 use Rattle.refusals.specs.Refusal.{numberOf}
 use Rattle.format.specs.Admission.{onBytes, admissionRows, InRow, Source}
 use Rattle.refusals.proofs.Outcomes.{given-refused, after-given, after-passed, after-refused, after-stops, same-refusal}
-use Rattle.listing.proofs.Room.{passed-actor, actor-passed, actor-refused, fit-row, fit-most, bytes-most}
+use Rattle.listing.proofs.Room.{passed-actor, actor-passed, actor-refused, fit-row, short-refuses, fit-most, bytes-most}
 use Rattle.listing.specs.DraftList as rows
 
 module _ (b : Book) (fits : Fits b) where
@@ -161,9 +160,7 @@ module _ (b : Book) (fits : Fits b) where
   draft-row-refused (short {k = k} x) h = absurd (h k refl)
 
   pub draft-row-short : {places k : ℕ} → DraftRow b places (Short k) → fit places (draftList b) ≡ refused (Short k)
-  unfolding fit
-  draft-row-short {places} (short x) =
-      rw (x .is-given, lt-leb (length (x .entries)) places (omega (arith, x .needed, x .short))) (ap (λ (k : ℕ). refused (Short k)) (x .needed))
+  draft-row-short {places} (short x) = short-refuses places (draftList b) x
 
 -- The rows that there are.
 pub draft-numbers : {b : Book} {places : ℕ} {r : Refusal} → DraftRow b places r → List·Memᴰ (numberOf r) draftRows

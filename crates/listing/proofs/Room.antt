@@ -2,7 +2,7 @@
 --     actor-passed, actor-refused, ..    17
 --     check-stops, actor-lacks, ..       a question that needs an actor
 --     after-check, after-actor           a refusal lies in a row of the check, or is of what follows
---     fit-row                            .. or the list does not fit
+--     fit-row, short-refuses             .. or the list does not fit
 --     check-short, init-short            no check refuses with 16
 --     fit-most, bytes-most               entries given or needed are no more than so many
 use mathlib.Core.Path.{_≡_, refl, sym, _∙_, subst, ap}
@@ -28,12 +28,20 @@ use Rattle.refusals.proofs.Verdicts.{both-pass, pass-both, passed-refused, whic
 use Rattle.judgement.proofs.Rows.{check-row, check-numbers, init-numbers}
 use Rattle.refusals.specs.Outcome.{Outcome, refused, given, after, fit, asked}
 use Rattle.listing.specs.Room.{needsActor, ShortRow, NoActorRow, Most}
-use borrow.Author.Tests.{leb-false}
+use borrow.Author.Tests.{lt-leb, leb-false}
 use Rattle.refusals.proofs.Outcomes.{given-refused, after-passed, after-given, after-refused, same-refusal, fit-given}
 use Rattle.judgement.proofs.Lookup.{member-says}
 use Rattle.format.specs.Fits.{Fits}
 use Rattle.format.specs.Admission.{admitted, onBytes, admissionRows, Source}
 use Rattle.format.proofs.Admission.{admitted-fits, not-admitted, row-numbers}
+
+-- ---- 16
+module _ {A : Type 0} (places : ℕ) where
+  pub short-refuses : (o : Outcome (List A)) {Result : List A → Type 0} {k : ℕ} → ShortRow places o Result k → fit places o ≡ refused (Short k)
+  unfolding fit
+  short-refuses o x =
+      let h : leb (length (x .entries)) places ≡ false = lt-leb (length (x .entries)) places (omega (arith, x .short, x .needed)) in
+      rw (x .is-given, h, x .needed)
 
 -- ---- 17
 pub actor-passed : (t : Forest Node) → (t ≡ end → ⊥) → needsActor t ≡ Passed

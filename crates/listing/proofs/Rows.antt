@@ -1,16 +1,11 @@
 -- The other side of the questions' rows: what lies in a row is not answered. Assumes that the book fits; one that was read from bytes does.
---     short-refuses                            16, of any question
 --     list-refuses, init-list-refuses, ..      a row of the question, and no list is given
 --     bytes-unanswered                         the same on bytes, of any question
 use mathlib.Core.Path.{_≡_, refl, sym, _∙_}
 use mathlib.Core.Logic.{_⊎_, inl, inr}
-use mathlib.Core.Bool.{false}
 use mathlib.Core.List.{List}
 use Prim.Native.Nat.{ℕ}
 use native.Mathlib.Omega.{arith}
-use lib.Dec.{leb}
-use lib.ListN.{length}
-use borrow.Author.Tests.{lt-leb}
 use Rattle.format.specs.Forest.{Forest, end, tree}
 use Rattle.format.specs.Node.{Node}
 use Rattle.format.specs.Book.{Book}
@@ -18,16 +13,15 @@ use Rattle.format.specs.Fits.{Fits}
 use Rattle.format.specs.Admission.{InRow, Source, onBytes}
 use Rattle.format.proofs.Admission.{admitted-fits, admission-refuses, asked-is}
 use Rattle.refusals.specs.declared.Refusal.{Refusal}
-use Rattle.refusals.specs.declared.Refusal.the-variants.{Short}
 use Rattle.refusals.specs.declared.Verdict.{Verdict}
 use Rattle.refusals.specs.declared.Verdict.the-variants.{Passed, Refused}
-use Rattle.refusals.specs.Outcome.{Outcome, refused, given, asked, fit}
+use Rattle.refusals.specs.Outcome.{Outcome, refused, asked}
 use Rattle.refusals.proofs.Outcomes.{given-refused, fit-given}
 use Rattle.judgement.specs.Resolve.{resolveActor}
 use Rattle.judgement.specs.Check.{check}
 use Rattle.judgement.specs.Rows.{CheckRow}
 use Rattle.judgement.proofs.Rows.{row-refuses, init-row-refuses}
-use Rattle.listing.specs.Room.{ShortRow, AfterCheck}
+use Rattle.listing.specs.Room.{ShortRow, AfterCheck, Unanswered}
 use Rattle.listing.specs.List.{list, ListRow}
 use Rattle.listing.specs.InitList.{initList, InitListRow}
 use Rattle.listing.specs.Marks.{marksOver, MarksRow}
@@ -40,7 +34,7 @@ use Rattle.listing.specs.Marks as marks
 use Rattle.listing.specs.Uses as used
 use Rattle.listing.specs.Project as projected
 use Rattle.listing.specs.Empty as empty
-use Rattle.listing.proofs.Room.{actor-lacks}
+use Rattle.listing.proofs.Room.{short-refuses, actor-lacks}
 use Rattle.listing.proofs.List.{list-after}
 use Rattle.listing.proofs.InitList.{init-says}
 use Rattle.listing.proofs.Marks.{marks-unbound, marks-after}
@@ -48,23 +42,13 @@ use Rattle.listing.proofs.Uses.{uses-after}
 use Rattle.listing.proofs.Project.{project-absent, project-after}
 use Rattle.listing.proofs.Empty.{emptiness-after}
 
--- No list is given in so many places.
-abbrev pub Unanswered : {A : Type 0} → ℕ → Outcome (List A) → Type 0
-Unanswered {A} places o = (l : List A) → fit places o ≡ given l → ⊥
-
 module _ {A : Type 0} (places : ℕ) where
-  pub short-refuses : (o : Outcome (List A)) {Result : List A → Type 0} {k : ℕ} → ShortRow places o Result k → fit places o ≡ refused (Short k)
-  unfolding fit
-  short-refuses o x =
-      let h : leb (length (x .entries)) places ≡ false = lt-leb (length (x .entries)) places (omega (arith, x .short, x .needed)) in
-      rw (x .is-given, h, x .needed)
-
   -- what is refused, whatever the places
   refused-unanswered : (o : Outcome (List A)) {r : Refusal} → o ≡ refused r → Unanswered places o
   refused-unanswered o e l g = given-refused (sym e ∙ fit-given places o g)
 
   short-unanswered : (o : Outcome (List A)) {Result : List A → Type 0} {k : ℕ} → ShortRow places o Result k → Unanswered places o
-  short-unanswered o x l g = given-refused (sym (short-refuses o x) ∙ g)
+  short-unanswered o x l g = given-refused (sym (short-refuses places o x) ∙ g)
 
   -- a row of the check
   checked-unanswered : (question : Book → Outcome (List A)) → AfterCheck question → (b : Book) → Fits b → {r : Refusal} → CheckRow b r → Unanswered places (question b)

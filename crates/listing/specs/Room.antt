@@ -10,7 +10,7 @@ use Rattle.refusals.specs.declared.Refusal.the-variants.{Short, NoActor}
 use Rattle.refusals.specs.declared.Verdict.{Verdict}
 use Rattle.refusals.specs.declared.Verdict.the-variants.{Passed, Refused}
 use Rattle.refusals.specs.Verdict.{unless}
-use Rattle.refusals.specs.Outcome.{Outcome, refused, given}
+use Rattle.refusals.specs.Outcome.{Outcome, refused, given, fit}
 use Rattle.format.specs.Forest.{Forest, end}
 use Rattle.format.specs.Node.{Node}
 use Rattle.format.specs.Book.{Book}
@@ -47,3 +47,7 @@ pub record Most {A : Type 0} (most : ℕ) (o : Outcome (List A)) : Type 0 where
 -- A result of names: each of which P holds, once, and no other.
 abbrev pub EachOnce : (ℕ → Type 0) → List ℕ → Type 0
 EachOnce P l = Distinct l × ((n : ℕ) → List·Memᴰ n l ↔ P n)
+
+-- No list is given in so many places.
+abbrev pub Unanswered : {A : Type 0} → ℕ → Outcome (List A) → Type 0
+Unanswered {A} places o = (l : List A) → fit places o ≡ given l → ⊥
