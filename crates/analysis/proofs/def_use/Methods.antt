@@ -23,7 +23,7 @@ use Rattle.format.proofs.References.{kind-alone}
 use Rattle.format.proofs.Rows.{Opened, opens, kids-whole, node-within, siblings-none, siblings-opens, count-siblings}
 use Rattle.format.proofs.Stored.{tree-opens}
 use Rattle.judgement.specs.Environment.{End, unbound, circle, ends, aliasEnd}
-use Rattle.environment.specs.Tables.{EndAt, Ended, endNode}
+use Rattle.environment.specs.Tables.{EndAt, endNode}
 use Rattle.syntax.specs.Interfaces.{methodsIn}
 use Rattle.syntax.proofs.Stored.{siblings-join}
 use Rattle.refusals.specs.Handed.{Use}

@@ -1,5 +1,5 @@
 -- `read::Node::label` meets its contract: a return for each label kind. Assumes nothing.
-use mathlib.Core.Path.{_≡_, refl, sym, _∙_}
+use mathlib.Core.Path.{_≡_, refl, _∙_}
 use Prim.Native.Nat.{ℕ, zero, suc, _≤_, _<_}
 use native.Mathlib.Omega.{arith}
 use Rattle.labels.specs.declared.Label.the-variants.{Id, Named, Unnamed}
