@@ -20,9 +20,11 @@ ghost use Rattle.syntax.specs.Resolving.{serviceAt, ServiceAs, MainAs, M
 use crate::class::Top;
 use crate::files::Files;
 use crate::files::Imports;
+use crate::interface::ByFile;
 use crate::interface::Interface;
 use book::kinds::Contents;
 use book::kinds::Kind;
+use book::kinds::Limits;
 use book::read::Entry;
 use book::read::Node;
 use environment::Alias;
@@ -154,7 +156,7 @@ fn written(rows: &[u8], ends: &[u16], root: u16, top: Top) -> Interface
         from: top.from,
         until: top.until,
         count,
-        services: [e; 16],
+        services: [e; Limits::FILES],
     }
 }
 
@@ -170,7 +172,7 @@ fn refused(verdict: Verdict) -> Resolved
 struct Services {
     verdict: Verdict,
     count: usize,
-    nodes: [u16; 16],
+    nodes: ByFile,
 }
 
 // The service of each import in file order (3, 13), behind main's.

@@ -7,6 +7,7 @@ ghost use lib.Dec.{eqb};
 ghost use Rattle.format.specs.Layout.{filesPart};
 ghost use Rattle.book.specs.Reading.{Admitted, EntryWithin};
 ghost use Rattle.syntax.specs.Files.{FileRoots, FileTable, initAt, SplitAs, ImportsAs, FilesAs};
+use crate::interface::ByFile;
 use book::kinds::Contents;
 use book::kinds::Role;
 use book::read::Entry;
@@ -17,7 +18,7 @@ use refusals::Verdict;
 pub struct Imports {
     pub verdict: Verdict,
     pub count: usize,
-    pub files: [u16; 16],
+    pub files: ByFile,
 }
 
 // What is found of the files: main's root, the service imports, and the number of the init file, which is that of all files where there is

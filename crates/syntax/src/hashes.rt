@@ -9,9 +9,13 @@ ghost use Rattle.judgement.specs.Check.{member, hashesVerdict};
 ghost use Rattle.book.specs.Tables.{HashesAgree};
 ghost use Rattle.syntax.specs.Interfaces.{methodsIn};
 ghost use Rattle.syntax.specs.Hashed.{ServicesIn, LastIn, LinksIn};
+use crate::interface::ByFile;
 use book::read::Node;
 use refusals::Refusal;
 use refusals::Verdict;
+
+// How many buckets hashes fall into.
+const BUCKETS: u32 = 1024;
 
 // Whether a hash is among those met, by the links from the last one of its bucket.
 fn has(met: &[u32], link: &[u16], last: u16, hash: u32) -> bool
@@ -30,7 +34,7 @@ fn has(met: &[u32], link: &[u16], last: u16, hash: u32) -> bool
 }
 
 // 14: a method whose hash an earlier one has, of the first `count` services in order. The table has the hash of each name.
-pub(crate) fn hashes(rows: &[u8], table: &[u32], services: [u16; 16], count: usize) -> Verdict
+pub(crate) fn hashes(rows: &[u8], table: &[u32], services: ByFile, count: usize) -> Verdict
     requires { ⌜ ServicesIn (now rows) services count × (length (now table) ≡ 1024) × ((names : List (List ℕ)) × HashesAgree (now table) names) ⌝ }
     ensures { λ r. ⌜ ((names : List (List ℕ)) → HashesAgree (now (table .entry)) names →
         r ≡ hashesVerdict names [] (methodsIn (now (rows .entry)) (take count services))) ⌝ }
@@ -49,7 +53,7 @@ pub(crate) fn hashes(rows: &[u8], table: &[u32], services: [u16; 16], count: usi
             let m = Node::at(rows, i);
             let name = m.label as usize;
             let hash = table[name];
-            let bucket = (hash % 1024) as usize;
+            let bucket = (hash % BUCKETS) as usize;
             let head = last[bucket];
             if has(&met[..k], &link, head, hash) {
                 return Verdict::Refused(Refusal::SameHash(m.label as u16));

@@ -3,6 +3,7 @@ ghost use mathlib.Core.Path.{_≡_};
 ghost use mathlib.Core.Bool.{_||_, not};
 ghost use lib.Dec.{eqb};
 ghost use Rattle.syntax.specs.Interfaces.{noServices, noInterface};
+use book::kinds::Limits;
 use book::read::Entry;
 
 // The actor that a book means: main's root as written, or NO_ROOT; where `merged`, the methods are those of several files' services. The
@@ -14,7 +15,7 @@ pub struct Interface {
     pub from: usize,
     pub until: usize,
     pub count: usize,
-    pub services: [u16; 16],
+    pub services: ByFile,
 }
 
 // Whether there is an actor.
@@ -28,13 +29,13 @@ pub fn has_actor(interface: Interface) -> bool
 }
 
 // A number for each file.
-pub type ByFile = [u16; 16];
+pub type ByFile = [u16; Limits::FILES];
 
 // None of a service.
 pub(crate) fn no_services() -> ByFile
     ensures { λ r. ⌜ r ≡ noServices ⌝ }
 {
-    [0u16; 16]
+    [0; Limits::FILES]
 }
 
 // No actor.

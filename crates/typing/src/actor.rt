@@ -18,6 +18,7 @@ use book::read::Entry;
 use book::read::Node;
 use refusals::Refusal;
 use refusals::Verdict;
+use syntax::interface::ByFile;
 use syntax::interface::Interface;
 
 // The children of a class, or another type.
@@ -39,7 +40,7 @@ fn check_services(
     rows: &[u8],
     roots: &[u16],
     ends: &[u16],
-    services: [u16; 16],
+    services: ByFile,
     count: usize,
 ) -> Verdict
     requires { ⌜ ServicesStored (now rows) (now roots) (now ends) services count × ((ds : List Definition) × Env (now rows) (now roots) (now ends) false ds) ⌝ }

@@ -39,7 +39,7 @@ fn check_var(roots: &[u16], v: u32) -> Verdict
 fn check_modes(value: u32, kids: usize) -> Verdict
     ensures { λ r. ⌜ r ≡ valueVerdict value kids ⌝ }
 {
-    let modes = value / 65536;
+    let modes = value / Node::HALF;
     let first = modes % Mode::BASE;
     if first == Mode::NONE {
         return Verdict::Passed;
@@ -50,7 +50,7 @@ fn check_modes(value: u32, kids: usize) -> Verdict
     if first != Mode::ONEWAY {
         return Verdict::Passed;
     }
-    let arguments = (value % 65536) as usize;
+    let arguments = (value % Node::HALF) as usize;
     if arguments < kids {
         return Verdict::Refused(Refusal::Oneway);
     }

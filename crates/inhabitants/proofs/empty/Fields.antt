@@ -1,5 +1,6 @@
 -- The walk of `visit_fields`: what is left of the rows, and then what waits, answers as all of them do. Assumes nothing.
 --     names-start, names-on, name-found, names-end     the next type that is a name that may be empty
+--     unchanged-some                                   of what that says something
 --     resume, resume-empty                             what becomes of an answer once the names that wait are gone on from
 --     new-less, new-same                               the number of unvisited names: it is the measure, and keeps the walk from going too deep
 --     RowsLeft, rows-start, rows-next, ..              the loop
@@ -11,7 +12,7 @@ use mathlib.Core.List.{List, [], _∷_}
 use Prim.Native.Nat.{ℕ, zero, suc, _+_, _-_, _≤_, _<_}
 use native.Mathlib.Decide.{ℕ-discrete, decLt}
 use native.Mathlib.Omega.{arith}
-use borrow.Author.Tests.{eq-eqb, ne-eqb, lt-ltb, ltb-true}
+use borrow.Author.Tests.{eq-eqb, ne-eqb, lt-ltb, le-ltb, ltb-true}
 use lib.Dec.{eqb, ltb}
 use lib.ListN.{length, getD, set, take, length-set, length-replicate}
 use lib.Seq.{getD-set-same, getD-set-other, take-set-lt, getD-take, length-take-le}
@@ -106,6 +107,11 @@ module _ {ns bytes : List ℕ} {from until i : ℕ} (p : PassedOver ns bytes fro
               let o = opens (p .whole) h in
               ap (λ (q : Head). visitField visit q (visitFields visit (siblings ns (i + rowAt ns i .size) until)) marks)
               (sym (head-at (o .here)) ∙ head-other (o .here) r is k)
+
+-- For all bytes there is a visit of which `PassedOver` speaks: by it all other names are empty, so it tells which are passed over.
+pub unchanged-some : (ns bytes : List ℕ) (until : ℕ) (marks : List Mark) →
+    Unchanged ns bytes until (λ n m. cond (ltb (getD bytes n 0) 3) (record { empty = true; marks = m }) (notEmpty m)) marks
+unchanged-some ns bytes until marks n h k l = rw (le-ltb (getD bytes (rowAt ns n .value) 0) 3 l)
 
 -- ---- What waits
 

@@ -103,8 +103,8 @@ returns-2 : tie.Need-returns-2
 returns-2 c =
     let at-if1 = c .before .before .before .before .before .before .before in
     λ b. handed-as
-        (marks-given (b .passed) (at-if1 .before .before .before .nodes .ensures) (at-if1 .before .before .no-marks .ensures) _ _ (at-if1 .before .infer-rec .ensures) (at-if1 .if1 .left) (c .before .before .before .before .names-of .ensures .0))
-        (c .before .before .hand-names .ensures)
+    (marks-given (b .passed) (at-if1 .before .before .before .nodes .ensures) (at-if1 .before .before .no-marks .ensures) _ _ (at-if1 .before .infer-rec .ensures) (at-if1 .if1 .left) (c .before .before .before .before .names-of .ensures .0))
+    (c .before .before .hand-names .ensures)
 
 pub marks-passed-spec : {M : Type 1} → statement M
 marks-passed-spec =
