@@ -25,7 +25,7 @@ use Rattle.format.specs.Admission.{Source, admissionRows}
 use Rattle.judgement.specs.Check.{member, checkBytes, initCheckBytes}
 use Rattle.judgement.specs.Rows.{checkRows}
 use Rattle.judgement.proofs.Lookup.{member-says}
-use Rattle.judgement.proofs.Theorems.{check-bytes-numbers, init-check-bytes-numbers}
+use Rattle.judgement.proofs.Rows.{check-bytes-numbers, init-check-bytes-numbers}
 use Rattle.exports.specs.Coded.{lowOf, refusalIn, nameIn, entriesIn, usesRefusalIn, usesNameIn, usesEntriesIn, SaysVerdict, SaysWhy, SaysAnswer, ReadVerdict, ReadAnswer, ReadUses}
 use Rattle.exports.proofs.Codes.{low-needed, low-name}
 
