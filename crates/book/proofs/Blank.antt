@@ -10,7 +10,7 @@ use native.Mathlib.Omega.{arith}
 use lib.ListN.{length, getD, set, take, drop, length-set, length-replicate, List·getD-eq-default}
 use lib.Seq.{getD-set-same, getD-set-other}
 use Rattle.labels.specs.Number.{labelNumber}
-use Rattle.labels.specs.Laws.{labelNumber-empty}
+use Rattle.labels.proofs.Laws.{labelNumber-empty}
 use Rattle.format.specs.Layout.{namesOf}
 use Rattle.format.proofs.References.{everywhere}
 use Rattle.format.proofs.Names.{Filled, names-step, filled-step}

@@ -1,4 +1,3 @@
--- What the contracts cite: Number and Label are definitions, Laws are theorems over them.
+-- What the contracts cite: definitions.
 pub mod Number
 pub mod Label
-pub mod Laws

@@ -10,7 +10,7 @@ use lib.ListN.{length, take, length-append}
 use Rattle.format.specs.Layout.{nameIn}
 use Rattle.refusals.specs.Outcome.{Outcome, refused, given, fit}
 use Rattle.print.specs.Laid.{Laid, LaidWithin}
-use Rattle.print.specs.Laws.{decimal-length, quoted-length, name-length}
+use Rattle.print.proofs.Laws.{decimal-length, quoted-length, name-length}
 use Rattle.print.proofs.Laid.{alias, wider, all-before}
 use Rattle.refusals.specs.declared.Answer.{Answer}
 use Rattle.refusals.specs.declared.Answer.the-variants.{Given}

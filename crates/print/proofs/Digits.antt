@@ -5,7 +5,7 @@ use Prim.Native.Nat.{ℕ, zero, suc, _+_, _/_, _≤_, _<_}
 use native.Mathlib.Omega.{arith}
 use native.Mathlib.Decide.{decLt}
 use Rattle.print.specs.Decimal.{digit, digits, decimal}
-use Rattle.print.specs.Laws.{digits-one, digits-more}
+use Rattle.print.proofs.Laws.{digits-one, digits-more}
 
 -- Any room that is enough gives the same digits.
 digits-enough : (k j n : ℕ) → n < k → n < j → digits k n ≡ digits j n

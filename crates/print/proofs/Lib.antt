@@ -1,4 +1,5 @@
--- Laws that the proofs of the functions cite; `Laid` serves the crates above as well.
+-- Laws that the proofs of the functions cite; `Laws` and `Laid` serve the crates above as well.
+pub mod Laws
 pub mod Laid
 mod Refusals
 mod Escapes

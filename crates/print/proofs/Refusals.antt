@@ -19,7 +19,7 @@ use Rattle.print.specs.Laid.{Laid, LaidWithin}
 use Rattle.print.specs.Quoted.{quoted}
 use Rattle.print.specs.Decimal.{decimal}
 use Rattle.print.specs.Refused.{inTable, nameOrNumber, namedOrDash, refusalOf}
-use Rattle.print.specs.Laws.{decimal-length, named-length}
+use Rattle.print.proofs.Laws.{decimal-length, named-length}
 
 -- ---- The table of names: none of a broken book, and that of a whole one
 pub table-none : (bs : List ℕ) (n : ℕ) → Broken ≡ reading bs → false ≡ inTable bs n

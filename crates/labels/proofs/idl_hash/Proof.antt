@@ -10,7 +10,7 @@ use borrow.Author.Needs.{needs}
 use lib.ListN.{length, getD, drop, drop-of-length-le}
 use lib.Seq.{drop-cons}
 use Rattle.labels.specs.Number.{labelNumber, foldFrom, labelFold}
-use Rattle.labels.specs.Laws.{labelFold-labelNumber}
+use Rattle.labels.proofs.Laws.{labelFold-labelNumber}
 use Rattle.labels.proofs.idl_hash.Statement.{statement}
 use Rattle.labels.proofs.idl_hash.Tie as tie
 

@@ -1,0 +1,2 @@
+-- The laws of the label number.
+pub mod Laws
