@@ -1,9 +1,10 @@
 -- The files of a book, as the code reads them. Definitions; assumes nothing.
 --     filesIn, FileTable        the table of files
 --     initAt, SplitAs           the init file, and the definitions before its own
+--     importsNone               a refused table has no imports
 --     ImportsAs, FilesAs        what is found of them
 use mathlib.Core.Path.{_≡_}
-use mathlib.Core.Bool.{true, cond}
+use mathlib.Core.Bool.{true, false, cond}
 use mathlib.Core.List.{List, map}
 use Prim.Native.Nat.{ℕ, suc, _-_, _≤_, _<_}
 use lib.Dec.{eqb}
@@ -11,6 +12,7 @@ use lib.ListN.{length, getD, take}
 use Rattle.format.specs.Book.{File}
 use Rattle.format.specs.Layout.{run, entryAt, filesPart}
 use Rattle.format.specs.Whole.{WholeAt, fileAt}
+use Rattle.refusals.specs.declared.Verdict.{Verdict}
 use Rattle.refusals.specs.Verdict.{isPassed}
 use Rattle.book.specs.declared.kinds.Contents.{Contents}
 use Rattle.book.specs.Reading.{EntryWithin, Admitted}
@@ -18,6 +20,7 @@ use Rattle.judgement.specs.Actor.{serviceImports}
 use Rattle.judgement.specs.Check.{importsVerdict}
 use Rattle.syntax.specs.declared.files.Imports.{Imports}
 use Rattle.syntax.specs.declared.files.Files.{Files}
+use Rattle.syntax.specs.Interfaces.{noServices}
 
 -- ---- The table of files
 
@@ -63,9 +66,14 @@ pub record Listed (fs : List ℕ) (count : ℕ) (numbers : List ℕ) (k : ℕ) :
   pub rooted : (j : ℕ) → j < k → entryAt fs (getD numbers j 0) .root ≡ 65535 → ⊥
   pub are : (ns : List ℕ) → serviceImports (filesIn ns fs count) ≡ listedFiles ns fs (take k numbers)
 
+-- A refused table has none.
+abbrev pub importsNone : Verdict → Imports
+importsNone v = record { verdict = v; count = 0; files = noServices }
+
 pub record ImportsAs (fs : List ℕ) (count : ℕ) (r : Imports) : Type 0 where
   pub verdict : (ns : List ℕ) → FileRoots ns fs count → r .verdict ≡ importsVerdict (serviceImports (filesIn ns fs count))
   pub listed : isPassed (r .verdict) ≡ true → Listed fs count (r .files) (r .count)
+  pub refused : isPassed (r .verdict) ≡ false → r ≡ importsNone (r .verdict)
 
 -- ---- All of it
 
@@ -74,6 +82,7 @@ pub record FilesAs {bs : List ℕ} {c : Contents} (a : Admitted bs c) (r : Files
   pub root : r .root ≡ entryAt (filesPart bs) 0 .root
   pub init : r .init ≡ initAt (filesPart bs) (c .files)
   pub listed : isPassed (r .imports .verdict) ≡ true → Listed (filesPart bs) (c .files) (r .imports .files) (r .imports .count)
+  pub refused : isPassed (r .imports .verdict) ≡ false → r .imports ≡ importsNone (r .imports .verdict)
 
 -- Where nothing is refused.
 pub record FilesPassed {bs : List ℕ} {c : Contents} (a : Admitted bs c) (r : Files) : Type 0 where

@@ -23,7 +23,7 @@ use Rattle.environment.specs.Tables.{Tabled}
 use Rattle.syntax.specs.declared.actor.Service.{Service}
 use Rattle.syntax.specs.declared.actor.Services.{Services}
 use Rattle.syntax.specs.declared.actor.Resolved.{Resolved}
-use Rattle.syntax.specs.Interfaces.{IsService, methodsIn, noInterface, ActorAs}
+use Rattle.syntax.specs.Interfaces.{IsService, methodsIn, noServices, noInterface, ActorAs}
 
 -- ---- One service
 
@@ -40,6 +40,7 @@ pub record ServiceAs (ns roots : List ℕ) (count definitions : ℕ) (said : Lis
   pub one : s .count ≤ 1
   pub node : s .count ≡ 1 → IsService ns count (s .node)
   pub methods : isPassed (s .verdict) ≡ true → (ds : List Definition) → Tabled ns roots definitions ds → methodsIn ns (take (s .count) (s .node ∷ [])) ≡ held ds
+  pub refused : isPassed (s .verdict) ≡ false → s ≡ noService (s .verdict)
 
 -- That of the main actor, which has this root or 65,535.
 abbrev pub MainAs : List ℕ → List ℕ → ℕ → ℕ → ℕ → Service → Type 0
@@ -64,9 +65,14 @@ pub record Gathered (ns roots : List ℕ) (count definitions root : ℕ) (import
   pub methods : (ds : List Definition) → Tabled ns roots definitions ds →
       methodsIn ns (take k nodes) ≡ beside (methodsOf ds (belowClass (actorAt ns root))) (importedMethods ds imports)
 
+-- Where one is refused there are none.
+abbrev pub servicesNone : Verdict → Services
+servicesNone v = record { verdict = v; count = 0; nodes = noServices }
+
 pub record ServicesAs (ns roots : List ℕ) (count definitions root : ℕ) (imports : List File) (r : Services) : Type 0 where
   pub verdict : (ds : List Definition) → Tabled ns roots definitions ds → r .verdict ≡ andThen (mainVerdict ds (actorAt ns root)) (importedVerdict ds imports)
   pub gathered : isPassed (r .verdict) ≡ true → Gathered ns roots count definitions root imports (r .nodes) (r .count)
+  pub refused : isPassed (r .verdict) ≡ false → r ≡ servicesNone (r .verdict)
 
 -- ---- The actor
 

@@ -168,7 +168,7 @@ fn refused(verdict: Verdict) -> Resolved
     Resolved { verdict, interface }
 }
 
-// The services of main and of the imports, of which the first `count` are there.
+// The services of main and of the imports, of which the first `count` are there. Where one is refused there are none.
 struct Services {
     verdict: Verdict,
     count: usize,
@@ -212,7 +212,7 @@ fn import_services(
             return Services {
                 verdict: w,
                 count: 0,
-                nodes,
+                nodes: crate::interface::no_services(),
             };
         }
         nodes[k] = s.node;

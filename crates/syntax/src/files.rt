@@ -63,7 +63,7 @@ fn list_imports(files: &[u8], count: usize) -> Imports
             return Imports {
                 verdict: Verdict::Refused(Refusal::ImportWithoutActor(e.name)),
                 count: 0,
-                files: numbers,
+                files: crate::interface::no_services(),
             };
         }
         numbers[k] = f as u16;

@@ -1,6 +1,6 @@
 -- One service: by its alias end, and main's. Assumes nothing.
 use mathlib.Core.Path.{_≡_, refl, sym, ap, _∙_}
-use mathlib.Core.Bool.{false≢true}
+use mathlib.Core.Bool.{true≢false, false≢true}
 use mathlib.Core.List.{List, [], _∷_}
 use Prim.Native.Nat.{ℕ, _-_}
 use native.Mathlib.Decide.{ℕ-discrete}
@@ -54,6 +54,7 @@ module _ (ns roots : List ℕ) (count definitions : ℕ) (said : List Definition
         one = omega arith;
         node = λ e. absurd (let f : ⊥ = omega arith in f);
         methods = λ e. absurd (false≢true e);
+        refused = λ e. refl;
       }
 
   pub none-passed : ((ds : List Definition) → Passed ≡ said ds) → ((ds : List Definition) → end ≡ held ds) → ServiceAs ns roots count definitions said held (noService Passed)
@@ -64,6 +65,7 @@ module _ (ns roots : List ℕ) (count definitions : ℕ) (said : List Definition
         one = omega arith;
         node = λ e. absurd (let f : ⊥ = omega arith in f);
         methods = λ e ds t. g ds;
+        refused = λ e. refl;
       }
 
   -- the same said in other words
@@ -75,6 +77,7 @@ module _ (ns roots : List ℕ) (count definitions : ℕ) (said : List Definition
         one = x .one;
         node = x .node;
         methods = λ e ds t. x .methods e ds t ∙ g ds;
+        refused = x .refused;
       }
 
 -- ---- the service at the end of a chain
@@ -120,6 +123,7 @@ module _ {ns roots : List ℕ} {names count definitions node : ℕ} (nodes : Nod
               one = omega arith;
               node = λ z. (x .within, k);
               methods = λ z ds t. methods-end k ds t;
+              refused = λ z. absurd (true≢false z);
             })
         go (no k) = rw (ne-eqb (rowAt ns e .kind) 24 k) (none-refused ns roots count definitions (said ns node else′) (held ns node) else′ (λ ds t. rw (ne-eqb (rowAt ns e .kind) 24 k) at (at-end ds t)))
 

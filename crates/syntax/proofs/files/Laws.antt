@@ -214,4 +214,4 @@ module _ {fs : List ℕ} {count nodes : ℕ} (x : FileTable fs count nodes) wher
 pub files-as : {bs : List ℕ} {c : Contents} (a : Admitted bs c) {root : ℕ} {i : Imports} {init : ℕ} → root ≡ entryAt (filesPart bs) 0 .root → ImportsAs (filesPart bs) (c .files) i →
     init ≡ initAt (filesPart bs) (c .files) → FilesAs a (record { root = root; imports = i; init = init })
 files-as {bs} a r x e =
-    record { verdict = x .verdict (nodesPart bs) (file-roots a) ∙ ap (λ (l : List File). importsVerdict (serviceImports l)) (sym (files-in a)); root = r; init = e; listed = x .listed }
+    record { verdict = x .verdict (nodesPart bs) (file-roots a) ∙ ap (λ (l : List File). importsVerdict (serviceImports l)) (sym (files-in a)); root = r; init = e; listed = x .listed; refused = x .refused }

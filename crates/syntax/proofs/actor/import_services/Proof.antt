@@ -59,12 +59,18 @@ chase-service-requires c κs = let p = c .before .before .before .before .before
 passed-requires : tie.Need-passed-requires Inv-loop μ-loop
 passed-requires c κs = search needs
 
+no-services-requires-2 : tie.Need-no-services-requires-2 Inv-loop μ-loop
+no-services-requires-2 c κs = search needs
+
 returns : tie.Need-returns Inv-loop μ-loop
 returns c =
     λ a root x m.
+    let d = c .before in
+    let stopped = sym (d .before .passed .ensures) ∙ not-true _ (d .if1 .taken) in
     record {
-      verdict = import-refused (c .before .before .before .before .before .before .loop .inv root (services-start m (c .before .before .before .before .before .before .before .no-services .ensures))) (c .before .before .before .before .before .loop-test .taken) (omega (arith, x .few, x .held)) (x .few) _ (rw (c .before .before .before .before .before .before .before .before .before .files .ensures) at (c .before .before .before .before .at .ensures)) (x .rooted _ (c .before .before .before .before .before .loop-test .taken)) (c .before .before .chase-service .ensures) (sym (c .before .passed .ensures) ∙ not-true _ (c .if1 .taken));
-      gathered = λ e. absurd (true≢false (sym e ∙ sym (c .before .passed .ensures) ∙ not-true _ (c .if1 .taken)));
+      verdict = import-refused (d .before .before .before .before .before .before .loop .inv root (services-start m (d .before .before .before .before .before .before .before .no-services .ensures))) (d .before .before .before .before .before .loop-test .taken) (omega (arith, x .few, x .held)) (x .few) _ (rw (d .before .before .before .before .before .before .before .before .before .files .ensures) at (d .before .before .before .before .at .ensures)) (x .rooted _ (d .before .before .before .before .before .loop-test .taken)) (d .before .before .chase-service .ensures) stopped;
+      gathered = λ e. absurd (true≢false (sym e ∙ stopped));
+      refused = λ e. rw (c .no-services2 .ensures);
     }
 
 mul-nodes : tie.Need-mul-nodes Inv-loop μ-loop
@@ -100,7 +106,11 @@ returns-2 : tie.Need-returns-2 Inv-loop μ-loop
 returns-2 c =
     λ a root x m.
     let l = c .before .loop .inv root (services-start m (c .before .before .no-services .ensures)) in
-    record { verdict = services-passed l (c .loop-test .left) (omega (arith, x .few, x .held)); gathered = λ e. services-gathered l (c .loop-test .left) (omega (arith, x .few, x .held)) (x .few) }
+    record {
+      verdict = services-passed l (c .loop-test .left) (omega (arith, x .few, x .held));
+      gathered = λ e. services-gathered l (c .loop-test .left) (omega (arith, x .few, x .held)) (x .few);
+      refused = λ e. absurd (true≢false e);
+    }
 
 pub import-services-spec : {M : Type 1} → statement M
 import-services-spec =
@@ -119,6 +129,7 @@ import-services-spec =
     cast-chase-service
     chase-service-requires
     passed-requires
+    no-services-requires-2
     returns
     mul-nodes
     array-write-nodes-2

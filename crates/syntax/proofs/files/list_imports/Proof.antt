@@ -1,6 +1,6 @@
 -- `files::list_imports` meets its contract: the files that are left give the verdict. Assumes nothing.
 use mathlib.Core.Path.{sym, _∙_}
-use mathlib.Core.Bool.{false≢true}
+use mathlib.Core.Bool.{true≢false, false≢true}
 use Prim.Native.Nat.{_-_}
 use native.Mathlib.Omega.{arith}
 use Rattle.syntax.proofs.files.Laws.{ImportsLeft, imports-start, imports-room, imports-end, imports-listed, imports-stop, count-one, imports-on}
@@ -26,8 +26,17 @@ at-requires c κs = let t = c .before .before .before .before .pre .1 .held in r
 lacks-actor-requires : tie.Need-lacks-actor-requires Inv-loop μ-loop
 lacks-actor-requires c κs = search needs
 
+no-services-requires-2 : tie.Need-no-services-requires-2 Inv-loop μ-loop
+no-services-requires-2 c κs = search needs
+
 returns : tie.Need-returns Inv-loop μ-loop
-returns c = record { verdict = imports-stop (c .before .before .before .before .before .before .before .pre .1) (c .before .before .before .before .loop .inv) (c .before .before .before .loop-test .taken) _ (c .before .before .at .ensures) (sym (c .before .lacks-actor .ensures) ∙ c .if1 .taken); listed = λ e. absurd (false≢true e) }
+returns c =
+    let d = c .before in
+    record {
+      verdict = imports-stop (d .before .before .before .before .before .before .before .pre .1) (d .before .before .before .before .loop .inv) (d .before .before .before .loop-test .taken) _ (d .before .before .at .ensures) (sym (d .before .lacks-actor .ensures) ∙ d .if1 .taken);
+      listed = λ e. absurd (false≢true e);
+      refused = λ e. rw (c .no-services2 .ensures);
+    }
 
 cast-numbers : tie.Need-cast-numbers Inv-loop μ-loop
 cast-numbers c = omega (arith, c .before .before .before .loop-test .taken, c .before .before .before .before .before .before .before .pre .1 .few)
@@ -54,7 +63,7 @@ loop-again : tie.Need-loop-again Inv-loop μ-loop
 loop-again c = imports-on (c .before .before .before .before .before .before .before .before .pre .1) (c .before .before .before .before .before .loop .inv) (c .before .before .before .before .loop-test .taken) _ (c .before .before .before .at .ensures) (sym (c .before .before .lacks-actor .ensures) ∙ c .before .if1 .left) (c .import-count .ensures)
 
 returns-2 : tie.Need-returns-2 Inv-loop μ-loop
-returns-2 c = record { verdict = imports-end (c .before .before .before .before .pre .1) (c .before .loop .inv) (c .loop-test .left); listed = λ e. imports-listed (c .before .before .before .before .pre .1) (c .before .loop .inv) (c .loop-test .left) }
+returns-2 c = record { verdict = imports-end (c .before .before .before .before .pre .1) (c .before .loop .inv) (c .loop-test .left); listed = λ e. imports-listed (c .before .before .before .before .pre .1) (c .before .loop .inv) (c .loop-test .left); refused = λ e. absurd (true≢false e) }
 
 pub list-imports-spec : {M : Type 1} → statement M
 list-imports-spec =
@@ -66,6 +75,7 @@ list-imports-spec =
     loop-holds
     at-requires
     lacks-actor-requires
+    no-services-requires-2
     returns
     cast-numbers
     mul-numbers
