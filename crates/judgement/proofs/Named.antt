@@ -5,7 +5,7 @@
 --     row-names, init-row-names         a row's refusal names a place in the table of names
 --     check-names, init-check-names     so does what is refused
 --     check-bytes-names, ..             the same on bytes, which are broken or a book
-use mathlib.Core.Path.{_≡_, refl, sym, subst, _∙_}
+use mathlib.Core.Path.{_≡_, refl, sym, subst}
 use mathlib.Core.Logic.{_⊎_, ⊎-elim}
 use mathlib.Core.Bool.{true, false}
 use mathlib.Core.List.{List, List·Memᴰ, List·Memᴰ·head, List·Memᴰ·tail, List·Memᴰ·cases-cons, List·Memᴰ·not-nil, Memᴰ·of-map}
@@ -17,7 +17,7 @@ use Rattle.format.specs.declared.Place.{Place}
 use Rattle.format.specs.declared.Place.the-variants.{Root, Method}
 use Rattle.format.specs.Forest.{Forest, end, tree, breadth}
 use Rattle.format.specs.Node.{Kind, Labelled, unlabelled, labelled, Node, labelValue}
-use Rattle.format.specs.Book.{Definition, File, Book}
+use Rattle.format.specs.Book.{Definition, Book}
 use Rattle.format.specs.Fits.{placeBelow, kindFits, kindAllowed, labelFits, nodeFits, forestFits, Fits}
 use Rattle.format.specs.References.{references}
 use Rattle.format.specs.Occurs.{Occurs, here, below, after, Beside, first, later}
@@ -28,13 +28,12 @@ use Rattle.format.proofs.Occurs.{reference-occurs}
 use Rattle.format.proofs.Admission.{judged-row}
 use Rattle.refusals.specs.declared.Refusal.{Refusal}
 use Rattle.refusals.specs.declared.Verdict.the-variants.{Refused}
-use Rattle.judgement.specs.Environment.{mainDefinitions, initDefinitions, mergeDefinitions, kidsOf}
-use Rattle.judgement.specs.Actor.{serviceImports, initTree}
+use Rattle.judgement.specs.Actor.{initTree}
 use Rattle.judgement.specs.Check.{check, initCheck, checkBytes, initCheckBytes}
-use Rattle.judgement.specs.WellFormed.{definedName, Defined, belowTop}
+use Rattle.judgement.specs.WellFormed.{definedName, Defined}
 use Rattle.judgement.specs.Meaning.{ComesTo}
 use Rattle.judgement.specs.Meaning as meaning
-use Rattle.judgement.specs.Rows.{Repeated, HasMethod, WalkRow, DefinitionsRow, TreesRow, ActorRow, CheckRow, MergeRow, InitRow, NamesPlace}
+use Rattle.judgement.specs.Rows.{HasMethod, WalkRow, DefinitionsRow, TreesRow, ActorRow, CheckRow, MergeRow, InitRow, NamesPlace}
 use Rattle.judgement.specs.Rows as rows
 use Rattle.judgement.proofs.Heads.{head-refers}
 use Rattle.judgement.proofs.Decs.{FitDefinitions}

@@ -1,5 +1,6 @@
 -- Document 01's table of refusals, rows 2 to 14: for each the condition of its row, from the table's words. No walk, fuel, mark or order
--- is named here (proofs/Rows.antt: a refusal lies in its row, and a row holds only of what is refused). Definitions; assumes nothing.
+-- is named here (proofs/Rows.antt: a refusal lies in its row, and a row holds only of what is refused). Last, what a refusal names
+-- (proofs/Named.antt). Definitions; assumes nothing.
 use mathlib.Core.Path.{_≡_}
 use mathlib.Core.Logic.{_⊎_}
 use mathlib.Core.Bool.{true}

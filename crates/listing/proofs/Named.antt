@@ -3,7 +3,7 @@
 --     reachable-named                     a reachable name is one of the book
 --     list-names, init-list-names, ..     of each question
 --     list-bytes-names, ..                the same on bytes, which are broken or a book
-use mathlib.Core.Path.{_≡_, refl, sym, subst}
+use mathlib.Core.Path.{_≡_, refl, subst}
 use mathlib.Core.Logic.{inl, inr}
 use mathlib.Core.List.{List, List·Memᴰ}
 use Prim.Native.Nat.{ℕ, _<_}
@@ -125,27 +125,23 @@ module _ (b : Book) (fits : Fits b) (places : ℕ) where
 
 -- ---- On bytes
 module _ (bs : Source) (places : ℕ) {r : Refusal} where
-  -- what holds of the number of names, and of the refusal
-  abbrev OfNames : (ℕ → Refusal → Type 0) → Type 0
-  OfNames P = InRow bs (λ b. P (length (b .names))) r
-
-  pub list-bytes-names : fit places (onBytes list bs) ≡ refused r → OfNames NamesPlace
+  pub list-bytes-names : fit places (onBytes list bs) ≡ refused r → InRow bs (λ b. NamesPlace (length (b .names))) r
   list-bytes-names = asked-row bs places list (λ b. NamesPlace (length (b .names))) (λ b fits. list-names b fits places)
 
-  pub init-list-bytes-names : fit places (onBytes initList bs) ≡ refused r → OfNames NamesPlace
+  pub init-list-bytes-names : fit places (onBytes initList bs) ≡ refused r → InRow bs (λ b. NamesPlace (length (b .names))) r
   init-list-bytes-names = asked-row bs places initList (λ b. NamesPlace (length (b .names))) (λ b fits. init-list-names b fits places)
 
-  pub draft-bytes-names : fit places (onBytes draftList bs) ≡ refused r → OfNames NamesPlace
+  pub draft-bytes-names : fit places (onBytes draftList bs) ≡ refused r → InRow bs (λ b. NamesPlace (length (b .names))) r
   draft-bytes-names = asked-row bs places draftList (λ b. NamesPlace (length (b .names))) (λ b fits. draft-names b fits places)
 
-  pub emptiness-bytes-names : fit places (onBytes emptiness bs) ≡ refused r → OfNames NamesPlace
+  pub emptiness-bytes-names : fit places (onBytes emptiness bs) ≡ refused r → InRow bs (λ b. NamesPlace (length (b .names))) r
   emptiness-bytes-names = asked-row bs places emptiness (λ b. NamesPlace (length (b .names))) (λ b fits. emptiness-names b fits places)
 
-  pub uses-bytes-names : (n : ℕ) → fit places (onBytes (λ b. uses b n) bs) ≡ refused r → OfNames NamesPlace
+  pub uses-bytes-names : (n : ℕ) → fit places (onBytes (λ b. uses b n) bs) ≡ refused r → InRow bs (λ b. NamesPlace (length (b .names))) r
   uses-bytes-names n = asked-row bs places (λ b. uses b n) (λ b. NamesPlace (length (b .names))) (λ b fits. uses-names b fits places n)
 
-  pub marks-bytes-names : (l : List ℕ) → fit places (onBytes (λ b. marksOver b l) bs) ≡ refused r → OfNames (λ k. NamesAsked Unbound k l)
+  pub marks-bytes-names : (l : List ℕ) → fit places (onBytes (λ b. marksOver b l) bs) ≡ refused r → InRow bs (λ b. NamesAsked Unbound (length (b .names)) l) r
   marks-bytes-names l = asked-row bs places (λ b. marksOver b l) (λ b. NamesAsked Unbound (length (b .names)) l) (λ b fits. marks-names b fits places l)
 
-  pub project-bytes-names : (asked : List ℕ) → fit places (onBytes (λ b. project b asked) bs) ≡ refused r → OfNames (λ k. NamesAsked Absent k asked)
+  pub project-bytes-names : (asked : List ℕ) → fit places (onBytes (λ b. project b asked) bs) ≡ refused r → InRow bs (λ b. NamesAsked Absent (length (b .names)) asked) r
   project-bytes-names asked = asked-row bs places (λ b. project b asked) (λ b. NamesAsked Absent (length (b .names)) asked) (λ b fits. project-names b fits places asked)
