@@ -46,7 +46,6 @@ pub nameless : {A : Type 0} → false ≡ true → A
 nameless e = clash cc
 
 -- ---- Names in trees that fit
-
 module _ (names : ℕ) where
   -- A node of these trees fits at its place, and so do its children.
   abbrev NodeFits : Node → Forest Node → Type 0
@@ -64,8 +63,8 @@ module _ (names : ℕ) where
       let o = reference-occurs f m in
       let n = o .0 in
       let p = occurs-fits (o .2) x in
-      let κ = both₃ (kindFits names (n .kind) (breadth (o .1))) (kindAllowed (p .0) (n .kind)) (labelFits names (p .0) (n .label)) (p .1) .0 in
-      le-says (suc k) names .0 (both (ltb k names) (eqb (breadth (o .1)) 0) (subst (λ (κ : Kind). T (kindFits names κ (breadth (o .1)))) (o .3) κ) .0)
+      let own = both₃ (kindFits names (n .kind) (breadth (o .1))) (kindAllowed (p .0) (n .kind)) (labelFits names (p .0) (n .label)) (p .1) .0 in
+      le-says (suc k) names .0 (both (ltb k names) (eqb (breadth (o .1)) 0) (subst (λ (κ : Kind). T (kindFits names κ (breadth (o .1)))) (o .3) own) .0)
 
   -- a method's label
   label-named : (l : Labelled) → T (labelFits names Method l) → labelValue l < names
@@ -78,7 +77,7 @@ module _ (names : ℕ) where
   pub method-named : (f : Forest Node) {k : ℕ} → T (forestFits names Method f) → List·Memᴰ k (methodNames f) → k < names
   unfolding nodeFits methodNames
   method-named end t m = absurd (List·Memᴰ·not-nil m)
-  method-named (tree n kids next) {k} t m =
+  method-named (tree n kids next) t m =
       let p = tree-fits names Method n kids next t in
       let own = both₃ (kindFits names (n .kind) (breadth kids)) (kindAllowed Method (n .kind)) (labelFits names Method (n .label)) (p .0) .2 in
       ⊎-elim (λ e. subst (λ (j : ℕ). j < names) (sym e) (label-named (n .label) own)) (method-named next (p .2)) (List·Memᴰ·cases-cons m)
