@@ -1,23 +1,28 @@
 -- A book that fits: its definitions, its actors and its init arguments do. Assumes nothing.
 use mathlib.Core.Path.{_≡_, refl, subst, sym}
-use mathlib.Core.Logic.{_⊎_, ⊎-elim}
+use mathlib.Core.Logic.{inr, ⊎-elim}
 use mathlib.Core.Bool.{Bool, true, false, cond}
 use mathlib.Core.List.{List, [], _∷_, List·Memᴰ, List·Memᴰ·head, List·Memᴰ·tail, List·Memᴰ·cases-cons, List·Memᴰ·not-nil}
 use Prim.Native.Nat.{ℕ, _≤_, _<_}
 use native.Mathlib.Omega.{arith}
 use lib.Dec.{T}
 use lib.ListN.{length}
-use Rattle.format.specs.declared.Place.the-variants.{Root}
-use Rattle.format.specs.Forest.{end, breadth}
+use Rattle.format.specs.declared.Place.the-variants.{Root, Method}
+use Rattle.format.specs.Forest.{Forest, end, breadth}
+use Rattle.format.specs.Node.{Node}
 use Rattle.format.specs.Book.{Definition, File, Book}
 use Rattle.format.specs.Fits.{every, isInitRole, definitionFits, fileFits, forestFits, Fits}
 use Rattle.format.proofs.Logic.{both, says}
 use Rattle.format.proofs.Encoded.{fit-parts}
 use Rattle.judgement.specs.Environment.{keep, mainDefinitions, initDefinitions}
 use Rattle.judgement.specs.Actor.{isServiceImport, serviceImports, firstActor, mainActor, initTree}
+use Rattle.judgement.specs.WellFormed.{belowTop}
+use Rattle.judgement.specs.Meaning.{Together, services, ActorOf, written, merged}
 use Rattle.judgement.proofs.Lookup.{keep-says}
-use Rattle.judgement.proofs.Fitting.{Fitting, Written}
 use Rattle.judgement.proofs.Decs.{FitDefinitions}
+use Rattle.judgement.proofs.Meaning.{all-services}
+use Rattle.judgement.proofs.Fitting.{Fitting, Written, fitting-class, fitting-top}
+use Rattle.judgement.proofs.Actors.{merged-fits, together-fits}
 
 every-listed : {A : Type 0} (test : A → Bool) (l : List A) → T (every test l) → (a : A) → List·Memᴰ a l → T (test a)
 unfolding every
@@ -32,11 +37,22 @@ pub definition-fits : (names files : ℕ) (d : Definition) → T (definitionFits
 unfolding definitionFits
 definition-fits names files d t = let p = simp says at t in (p .0 .0 .0 .0, p .0 .0 .1, p .1)
 
-pub file-fits : (names : ℕ) (f : File) → T (fileFits names f) → (breadth (f .actor) ≤ 1) × T (forestFits names Root (f .actor))
+-- A file's name, its tree if there is one, and that it fits.
+file-fits : (names : ℕ) (f : File) → T (fileFits names f) → (f .name < names) × (breadth (f .actor) ≤ 1) × T (forestFits names Root (f .actor))
 unfolding fileFits
-file-fits names f t = let p = simp says at t in (p .0 .0 .1, p .1)
+file-fits names f t = let p = simp says at t in (p .0 .0 .0, p .0 .0 .1, p .1)
 
--- The actor that stands first, the service imports, and the init arguments.
+-- A service import is a file.
+import-file : (fs : List File) {f : File} → List·Memᴰ f (serviceImports fs) → List·Memᴰ f fs
+unfolding serviceImports
+import-file [] m = m
+import-file (g ∷ fs) {f} m = go (isServiceImport (g .role)) m (import-file fs)
+  where
+    go : (c : Bool) → List·Memᴰ f (cond c (g ∷ serviceImports fs) (serviceImports fs)) → (List·Memᴰ f (serviceImports fs) → List·Memᴰ f fs) → List·Memᴰ f (g ∷ fs)
+    go true m h = ⊎-elim (λ e. List·Memᴰ·head e) (λ k. List·Memᴰ·tail (h k)) (List·Memᴰ·cases-cons m)
+    go false m h = List·Memᴰ·tail (h m)
+
+-- The actor that stands first, and the init arguments.
 module _ (names : ℕ) where
   abbrev AllFit : List File → Type 0
   AllFit fs = (f : File) → List·Memᴰ f fs → Written names (f .actor)
@@ -50,15 +66,6 @@ module _ (names : ℕ) where
   first-fits [] h = no-tree
   first-fits (f ∷ fs) h = h f (List·Memᴰ·head refl)
 
-  services-fit : (fs : List File) → AllFit fs → AllFit (serviceImports fs)
-  unfolding serviceImports
-  services-fit [] h = h
-  services-fit (f ∷ fs) h = go (isServiceImport (f .role)) (services-fit fs (λ g m. h g (List·Memᴰ·tail m)))
-    where
-      go : (c : Bool) → AllFit (serviceImports fs) → AllFit (cond c (f ∷ serviceImports fs) (serviceImports fs))
-      go true rest = λ g m. ⊎-elim (λ e. h g (List·Memᴰ·head e)) (rest g) (List·Memᴰ·cases-cons m)
-      go false rest = rest
-
   init-fits : (fs : List File) → AllFit fs → Written names (initTree fs)
   unfolding initTree
   init-fits [] h = no-tree
@@ -69,7 +76,7 @@ module _ (names : ℕ) where
       go false rest = rest
 
 module _ (b : Book) (fits : Fits b) where
-  kept-fit : (test : Definition → Bool) → FitDefinitions (length (b .names)) (keep test (b .definitions))
+  pub kept-fit : (test : Definition → Bool) → FitDefinitions (length (b .names)) (keep test (b .definitions))
   kept-fit test =
       let one : (d : Definition) → List·Memᴰ d (keep test (b .definitions)) →
       (d .name < length (b .names)) × (breadth (d .body) ≡ 1) × T (forestFits (length (b .names)) Root (d .body)) = λ d m.
@@ -85,10 +92,11 @@ module _ (b : Book) (fits : Fits b) where
   unfolding initDefinitions
   init-definitions-fit = kept-fit _
 
+  files-fit : (f : File) → List·Memᴰ f (b .files) → (f .name < length (b .names)) × (breadth (f .actor) ≤ 1) × T (forestFits (length (b .names)) Root (f .actor))
+  files-fit f m = file-fits (length (b .names)) f (every-listed (fileFits (length (b .names))) (b .files) (fit-parts fits .files) f m)
+
   actors-fit : AllFit (length (b .names)) (b .files)
-  actors-fit f m =
-      let p = file-fits (length (b .names)) f (every-listed (fileFits (length (b .names))) (b .files) (fit-parts fits .files) f m) in
-      record { fits = record { place = Root; fit = p .1 }; few = p .0 }
+  actors-fit f m = let p = files-fit f m in record { fits = record { place = Root; fit = p .2 }; few = p .1 }
 
   pub main-actor-written : Written (length (b .names)) (mainActor b)
   unfolding mainActor
@@ -98,10 +106,29 @@ module _ (b : Book) (fits : Fits b) where
   main-actor-fits = main-actor-written .fits
 
   pub imports-written : (f : File) → List·Memᴰ f (serviceImports (b .files)) → Written (length (b .names)) (f .actor)
-  imports-written = services-fit (length (b .names)) (b .files) actors-fit
+  imports-written f m = actors-fit f (import-file (b .files) m)
 
   pub imports-fit : (f : File) → List·Memᴰ f (serviceImports (b .files)) → Fitting (length (b .names)) (f .actor)
   imports-fit f m = imports-written f m .fits
 
+  pub imports-named : (f : File) → List·Memᴰ f (serviceImports (b .files)) → f .name < length (b .names)
+  imports-named f m = files-fit f (import-file (b .files) m) .0
+
   pub init-tree-fits : Fitting (length (b .names)) (initTree (b .files))
   init-tree-fits = init-fits (length (b .names)) (b .files) actors-fit .fits
+
+  -- ---- The actor: the types that are to be services, their methods together, and what is walked of it
+  pub bodies-fit : (d : Definition) → List·Memᴰ d (mainDefinitions b) → Fitting (length (b .names)) (d .body)
+  bodies-fit d m = record { place = Root; fit = main-definitions-fit .fit d m }
+
+  pub services-fit : (t : Forest Node) → List·Memᴰ t (services b) → Fitting (length (b .names)) t
+  unfolding services
+  services-fit =
+      all-services (Fitting (length (b .names))) (mainActor b) (serviceImports (b .files)) (inr (fitting-class (length (b .names)) (mainActor b) main-actor-fits)) imports-fit
+
+  pub together-methods-fit : {methods : Forest Node} → Together (mainDefinitions b) (services b) methods → T (forestFits (length (b .names)) Method methods)
+  together-methods-fit t = together-fits (length (b .names)) bodies-fit t services-fit
+
+  pub actor-fits : {t : Forest Node} → ActorOf b t → Fitting (length (b .names)) (belowTop t)
+  actor-fits (written e) = fitting-top (length (b .names)) (mainActor b) main-actor-fits
+  actor-fits (merged {methods = methods} h t) = merged-fits (length (b .names)) (mainActor b) methods main-actor-fits (together-methods-fit t)

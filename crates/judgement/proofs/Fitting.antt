@@ -1,4 +1,5 @@
 -- Trees that fit, at whatever place, and the trees of them that are walked. Assumes nothing.
+--     tree-fits                                   a tree that fits: its node, its children and the trees after it
 --     fitting-kids, fitting-class, fitting-top    the children, what stands below a class's top, and what is walked of an actor
 --     Written, written-class, named-leaf          one tree or none, as a file has it; a name has no children
 --     methods-fit, service-fits                   a service's methods, and a service of methods
@@ -41,7 +42,7 @@ no-breadth end e = refl
 no-breadth (tree n kids next) e = absurd (omega arith)
 
 module _ (names : ℕ) where
-  tree-fits : (p : Place) (n : Node) (kids next : Forest Node) → T (forestFits names p (tree n kids next)) →
+  pub tree-fits : (p : Place) (n : Node) (kids next : Forest Node) → T (forestFits names p (tree n kids next)) →
       T (nodeFits names p n (breadth kids)) × T (forestFits names (placeBelow (n .kind)) kids) × T (forestFits names p next)
   unfolding forestFits
   tree-fits p n kids next = both₃ (nodeFits names p n (breadth kids)) (forestFits names (placeBelow (n .kind)) kids) (forestFits names p next)

@@ -21,3 +21,4 @@ pub mod Steps
 pub mod Theorems
 pub mod Order
 pub mod Rows
+pub mod Named

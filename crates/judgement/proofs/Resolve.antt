@@ -5,10 +5,9 @@
 use mathlib.Core.Path.{_≡_, refl, sym, subst}
 use mathlib.Core.Logic.{_↔_, _⊎_, inl, inr, ⊎-elim, ⊎-map}
 use mathlib.Core.Bool.{true, false}
-use mathlib.Core.List.{List, [], _∷_, map, List·Memᴰ, List·Memᴰ·not-nil}
+use mathlib.Core.List.{List, [], _∷_, map, List·Memᴰ·not-nil}
 use Prim.Native.Nat.{ℕ}
 use lib.ListN.{length}
-use Rattle.format.specs.declared.Place.the-variants.{Root}
 use Rattle.format.specs.Forest.{Forest, end}
 use Rattle.format.specs.Node.{Node}
 use Rattle.format.specs.Book.{Definition, File, Book}
@@ -31,10 +30,9 @@ use Rattle.judgement.specs.Order.{First, Sound, Fault, DefinitionsPass, 
 use Rattle.judgement.specs.Order as order
 use Rattle.judgement.proofs.Walks.{sound-formed}
 use Rattle.judgement.proofs.Says.{Says, says-then, says-as}
-use Rattle.judgement.proofs.Fitting.{Fitting, fitting-class, fitting-top}
-use Rattle.judgement.proofs.Meaning.{MainStands, ImportsStand, foundMethods, together-main, together-imports, all-services, merged-together, none-imported, resolved-written, resolved-merged, resolved-methods, actor-unique, actor-of}
-use Rattle.judgement.proofs.Actors.{hashes-say, main-say, imported-say, NoServer, stands-elsewhere, actor-say, merged-stands, merged-fits, together-fits}
-use Rattle.judgement.proofs.Books.{main-definitions-fit, main-actor-fits, imports-fit}
+use Rattle.judgement.proofs.Meaning.{MainStands, ImportsStand, foundMethods, together-main, together-imports, merged-together, none-imported, resolved-written, resolved-merged, resolved-methods, actor-unique, actor-of}
+use Rattle.judgement.proofs.Actors.{hashes-say, main-say, imported-say, NoServer, stands-elsewhere, actor-say, merged-stands}
+use Rattle.judgement.proofs.Books.{actor-fits}
 
 -- What both verdicts ask of the resolved actor.
 pub record Resolved (b : Book) : Type 0 where
@@ -64,9 +62,6 @@ module _ (b : Book) (fits : Fits b) (pass : DefinitionsPass (mainDefinitions b))
 
   abbrev imports : List File
   imports = serviceImports (b .files)
-
-  abbrev names : ℕ
-  names = length (b .names)
 
   abbrev once : Distinct (map definedName ds)
   once = pass .0 .once
@@ -152,20 +147,6 @@ module _ (b : Book) (fits : Fits b) (pass : DefinitionsPass (mainDefinitions b))
     is-actor =
         ⊎-elim (λ e. subst (ActorOf b) (sym (is-written e)) (written e)) (λ h. actor-of b once (resolves h .0) (resolves h .1 .0)) (none-imported imports)
 
-    bodies-fit : (d : Definition) → List·Memᴰ d ds → Fitting names (d .body)
-    bodies-fit d m = record { place = Root; fit = main-definitions-fit b fits .fit d m }
-
-    services-fit : (t : Forest Node) → List·Memᴰ t (services b) → Fitting names t
-    unfolding services
-    services-fit = all-services (Fitting names) main imports (inr (fitting-class names main (main-actor-fits b fits))) (imports-fit b fits)
-
-    walked-fits : Fitting names (belowTop (resolveActor b))
-    walked-fits =
-        ⊎-elim (λ e. rw (is-written e) (fitting-top names main (main-actor-fits b fits)))
-        (λ h. rw (is-merged h) (merged-fits names main (foundMethods ds main imports) (main-actor-fits b fits)
-        (together-fits names bodies-fit (together (resolves h .0) (resolves h .1 .0)) services-fit)))
-        (none-imported imports)
-
     merged-serves : Imported b → StandsFor isServKind ds (belowClass (resolveActor b))
     merged-serves h = rw (is-merged h) (merged-stands ds main (foundMethods ds main imports))
 
@@ -186,7 +167,7 @@ module _ (b : Book) (fits : Fits b) (pass : DefinitionsPass (mainDefinitions b))
         back (order.noService e m s l) = let q = is-written e in inr (rw q s, (refl, rw q (m, l)))
 
     walked-say : Says (actorVerdict ds (resolveActor b)) (Sound ds true (belowTop (resolveActor b)) × MainStands ds (resolveActor b)) (ActorRefuses b)
-    walked-say = says-as (actor-say ds pass names (resolveActor b) walked-fits) (λ h. h, λ h. h) unwalked
+    walked-say = says-as (actor-say ds pass (length (b .names)) (resolveActor b) (actor-fits b fits is-actor)) (λ h. h, λ h. h) unwalked
 
   -- ---- Both
   resolved-says : (Resolves × (Sound ds true (belowTop (resolveActor b)) × MainStands ds (resolveActor b))) ↔ Resolved b

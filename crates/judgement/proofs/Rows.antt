@@ -103,8 +103,11 @@ trees-row {ds} {f} x =
     ]
 
 -- ---- What is refused lies in its row
+pub middle : {A : Type 0} {a : A} {l : List A} (xs ys : List A) → l ≡ xs ++ (a ∷ ys) → List·Memᴰ a l
+middle {A} {a} xs ys e = subst (λ (l : List A). List·Memᴰ a l) (sym e) (Memᴰ·append-right xs (List·Memᴰ·head refl))
+
 first-listed : {A : Type 0} {Fine Bad : A → Type 0} {l : List A} → (x : First Fine Bad l) → List·Memᴰ (x .it) l
-first-listed {A} x = subst (λ (l : List A). List·Memᴰ (x .it) l) (sym (x .parts)) (Memᴰ·append-right (x .before) (List·Memᴰ·head refl))
+first-listed x = middle (x .before) (x .following) (x .parts)
 
 definitions-row : {ds : List Definition} {r : Refusal} → DefinitionsRefuse ds r → DefinitionsRow ds r
 definitions-row (order.twice x) = rows.twice (first-repeated x)

@@ -1,7 +1,9 @@
 -- Document 01's table of refusals, rows 2 to 14: for each the condition of its row, from the table's words. No walk, fuel, mark or order
--- is named here (proofs/Rows.antt: a refusal lies in its row, and a row holds only of what is refused). Definitions; assumes nothing.
+-- is named here (proofs/Rows.antt: a refusal lies in its row, and a row holds only of what is refused). Last, what a refusal names
+-- (proofs/Named.antt). Definitions; assumes nothing.
 use mathlib.Core.Path.{_≡_}
 use mathlib.Core.Logic.{_⊎_}
+use mathlib.Core.Bool.{true}
 use mathlib.Core.List.{List, [], _∷_, _++_, map, List·Memᴰ}
 use Prim.Native.Nat.{ℕ, zero, suc, _<_}
 use lib.ListN.{length}
@@ -12,6 +14,7 @@ use Rattle.format.specs.Book.{Definition, File, Book}
 use Rattle.format.specs.References.{references}
 use Rattle.refusals.specs.declared.Refusal.{Refusal}
 use Rattle.refusals.specs.declared.Refusal.the-variants.{Twice, Unbound, Class, Modes, Oneway as OnewayResults, Circle, NoFunction, MethodNoFunction, NoService, Differs, ImportWithoutActor, ImportNoService, SameHash}
+use Rattle.refusals.specs.Refusal.{namesOf, nameOf}
 use Rattle.judgement.specs.Environment.{mainDefinitions, initDefinitions, mergeDefinitions, named, head, isFuncKind, kidsOf}
 use Rattle.judgement.specs.Actor.{serviceImports, mainActor, belowClass, initTree}
 use Rattle.format.specs.Occurs.{Occurs, Beside}
@@ -128,3 +131,9 @@ abbrev pub InitRow : Book → Refusal → Type 0
 InitRow b r =
     DefinitionsRow (initDefinitions b) r
     ⊎ (MergeRow b r ⊎ TreesRow (mergeDefinitions (initDefinitions b) (mainDefinitions b)) (kidsOf (initTree (b .files))) r)
+
+-- ---- What a refusal names
+
+-- The number that it names, where it names one, is a place in a table of so many names.
+abbrev pub NamesPlace : ℕ → Refusal → Type 0
+NamesPlace names r = namesOf r ≡ true → nameOf r < names

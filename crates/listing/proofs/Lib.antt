@@ -19,5 +19,6 @@ pub mod Uses
 pub mod DefUse
 pub mod Project
 pub mod Rows
+pub mod Named
 pub mod Examples
 pub mod Demand3

@@ -1,6 +1,7 @@
--- What the questions' rooms share: the check before them, 17, 16, how many entries there are at most, and a result of names. Definitions; assumes nothing.
+-- What the questions' rooms share: the check before them, 17, 16, how many entries there are at most, a result of names, and what a refusal
+-- names. Definitions; assumes nothing.
 use mathlib.Core.Path.{_≡_}
-use mathlib.Core.Logic.{_↔_}
+use mathlib.Core.Logic.{_↔_, _⊎_}
 use mathlib.Core.Bool.{true, false, cond}
 use mathlib.Core.List.{List, List·Memᴰ}
 use Prim.Native.Nat.{ℕ, _≤_, _<_}
@@ -18,6 +19,7 @@ use Rattle.format.specs.Distinct.{Distinct}
 use Rattle.format.specs.Rules.{noTrees}
 use Rattle.judgement.specs.Resolve.{resolveActor}
 use Rattle.judgement.specs.Check.{check}
+use Rattle.judgement.specs.Rows.{NamesPlace}
 
 -- The check comes before the question.
 abbrev pub AfterCheck : {A : Type 0} → (Book → Outcome A) → Type 0
@@ -51,3 +53,7 @@ EachOnce P l = Distinct l × ((n : ℕ) → List·Memᴰ n l ↔ P n)
 -- No list is given in so many places.
 abbrev pub Unanswered : {A : Type 0} → ℕ → Outcome (List A) → Type 0
 Unanswered {A} places o = (l : List A) → fit places o ≡ given l → ⊥
+
+-- What a refusal names is a place in a table of so many names; or it is this refusal of a number that was asked with.
+abbrev pub NamesAsked : (ℕ → Refusal) → ℕ → List ℕ → Refusal → Type 0
+NamesAsked of names asked r = NamesPlace names r ⊎ ((n : ℕ) × (r ≡ of n) × List·Memᴰ n asked)
