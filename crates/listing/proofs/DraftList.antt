@@ -37,7 +37,7 @@ use Rattle.listing.proofs.Leaves.{LeafyBodies, main-leafy, kept-leafy}
 use Rattle.listing.proofs.Chases.{Listed, misses-lost}
 use Rattle.listing.specs.References.{Lost, Misses, Reachable, direct}
 use Rattle.listing.proofs.Chase.{walk-lost, lost-says, Answered, going-answered, kept-few, listed-once, walked-listed, walked-missed, walked-refused, answered-few}
-use Rattle.format.proofs.Admission.{asked-row, row-numbers}
+use Rattle.format.proofs.Admission.{asked-refuses, asked-row, row-numbers}
 use Rattle.refusals.specs.Refusal.{numberOf}
 use Rattle.format.specs.Admission.{onBytes, admissionRows, InRow, Source}
 use Rattle.refusals.proofs.Outcomes.{given-refused, after-given, after-passed, after-refused, after-stops, same-refusal}
@@ -183,6 +183,9 @@ pub draft-most : (b : Book) → Fits b → (places : ℕ) → Most 512 (fit plac
 draft-most b fits places = fit-most 512 places (draftList b) (draft-few b fits) (λ k e. draft-short b (draft-in-row b fits places e))
 
 -- ---- On bytes
+pub draft-bytes-refuses : (bs : Source) (r : Refusal) → (onBytes draftList bs ≡ refused r) ↔ InRow bs DraftRefuses r
+draft-bytes-refuses bs r = asked-refuses bs draftList DraftRefuses (λ b fits. draft-refuses b fits r)
+
 module _ (bs : Source) (places : ℕ) {r : Refusal} (e : fit places (onBytes draftList bs) ≡ refused r) where
   pub draft-bytes-in-row : InRow bs (λ b. DraftRow b places) r
   draft-bytes-in-row = asked-row bs places draftList (λ b. DraftRow b places) (λ b fits. draft-in-row b fits places) e
