@@ -91,7 +91,9 @@ slice-aggregate-names-of c = search needs
 names-of-requires : tie.Need-names-of-requires
 names-of-requires c κs =
     let at-if1 = c .before .before in
-    let x = at-if1 .before .before .before .before .before .before .before .before .before .before .pre .passed in marks-ready x (at-if1 .before .before .before .nodes .ensures) (at-if1 .before .before .no-marks .ensures) _ _ (at-if1 .before .infer-rec .ensures) (at-if1 .if1 .left)
+    let at-infer = at-if1 .before in
+    let x = at-infer .before .before .before .before .before .before .before .before .before .pre .passed in
+    marks-ready x (at-infer .before .before .nodes .ensures) (at-infer .before .no-marks .ensures) _ _ (at-infer .infer-rec .ensures) (at-if1 .if1 .left)
 
 hand-names-requires : tie.Need-hand-names-requires
 hand-names-requires c κs = search needs
