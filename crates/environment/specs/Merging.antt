@@ -19,7 +19,7 @@ use Rattle.environment.specs.Tables.{Nodes, Roots}
 -- ---- Two forests
 
 -- A table of the label numbers of some names.
-pub record Hashed (hashes : List ℕ) : Type 0 where
+pub record HashTable (hashes : List ℕ) : Type 0 where
   pub spelt : List (List ℕ)
   pub are : HashesOf hashes spelt
 
@@ -43,7 +43,7 @@ pub record Compared (ns hashes : List ℕ) (a a-until b b-until : ℕ) : Type 0 
   pub names : ℕ
   pub count : ℕ
   pub nodes : Nodes ns names count
-  pub hashed : Hashed hashes
+  pub hashed : HashTable hashes
   pub first : Whole ns a a-until
   pub first-in : a-until ≤ count
   pub second : Whole ns b b-until
@@ -55,7 +55,7 @@ pub record Compared (ns hashes : List ℕ) (a a-until b b-until : ℕ) : Type 0 
 pub record Mergeable (ns hashes init main : List ℕ) (names : ℕ) : Type 0 where
   pub count : ℕ
   pub nodes : Nodes ns names count
-  pub hashed : Hashed hashes
+  pub hashed : HashTable hashes
   pub counted : length (hashed .spelt) ≡ names
   pub first : Roots init count
   pub second : Roots main count
@@ -65,7 +65,7 @@ pub record ComparedRoots (ns hashes : List ℕ) (a b : ℕ) : Type 0 where
   pub names : ℕ
   pub count : ℕ
   pub nodes : Nodes ns names count
-  pub hashed : Hashed hashes
+  pub hashed : HashTable hashes
   pub first : (a ≡ 65535 → ⊥) → a < count
   pub second : (b ≡ 65535 → ⊥) → b < count
 

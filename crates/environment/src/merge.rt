@@ -14,7 +14,7 @@ ghost use Rattle.judgement.specs.Environment.{sameForest};
 ghost use Rattle.judgement.specs.Check.{mergeVerdict};
 ghost use Rattle.environment.specs.Tables.{Binds};
 ghost use Rattle.book.specs.Tables.{HashesAgree};
-ghost use Rattle.environment.specs.Merging.{Hashed, NameIn, hashIn, sameNode, Compared, Mergeable, ComparedRoots, sameRoots, eitherRoot, MergedAs};
+ghost use Rattle.environment.specs.Merging.{HashTable, NameIn, hashIn, sameNode, Compared, Mergeable, ComparedRoots, sameRoots, eitherRoot, MergedAs};
 use crate::Table;
 use book::kinds::Kind;
 use book::kinds::Limits;
@@ -38,7 +38,7 @@ fn hash_of(hashes: &[u32], label: Label) -> u32
 
 // Whether two labels at a place are the same: fields by number, methods by name.
 fn same_label(hashes: &[u32], place: Place, a: Label, b: Label) -> bool
-    requires { ⌜ Hashed (now hashes) × NameIn a × NameIn b ⌝ }
+    requires { ⌜ HashTable (now hashes) × NameIn a × NameIn b ⌝ }
     ensures { λ r. ⌜ ((names : List (List ℕ)) → HashesAgree (now (hashes .entry)) names → r ≡ sameLabel names place (labelled a) (labelled b)) ⌝ }
 {
     match place {
@@ -51,7 +51,7 @@ fn same_label(hashes: &[u32], place: Place, a: Label, b: Label) -> bool
 
 // Whether two nodes at a place are the same but for what is below them.
 fn same_node(hashes: &[u32], place: Place, a: Node, b: Node) -> bool
-    requires { ⌜ Hashed (now hashes) × RowFits 1024 (asRow a) × RowFits 1024 (asRow b) ⌝ }
+    requires { ⌜ HashTable (now hashes) × RowFits 1024 (asRow a) × RowFits 1024 (asRow b) ⌝ }
     ensures { λ r. ⌜ ((names : List (List ℕ)) → HashesAgree (now (hashes .entry)) names → r ≡ sameNode names place (nodeOf (asRow a)) (nodeOf (asRow b))) ⌝ }
 {
     if a.kind != b.kind {

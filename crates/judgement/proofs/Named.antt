@@ -33,7 +33,7 @@ use Rattle.judgement.specs.Check.{check, initCheck, checkBytes, initChec
 use Rattle.judgement.specs.WellFormed.{definedName, Defined}
 use Rattle.judgement.specs.Meaning.{ComesTo}
 use Rattle.judgement.specs.Meaning as meaning
-use Rattle.judgement.specs.Rows.{HasMethod, WalkRow, DefinitionsRow, TreesRow, ActorRow, CheckRow, MergeRow, InitRow, NamesPlace}
+use Rattle.judgement.specs.Rows.{HasMethod, WalkRow, DefinitionsRow, TreesRow, ActorRow, CheckRow, InitRow, NamesPlace}
 use Rattle.judgement.specs.Rows as rows
 use Rattle.judgement.proofs.Heads.{head-refers}
 use Rattle.judgement.proofs.Decs.{FitDefinitions}
@@ -138,14 +138,13 @@ module _ (b : Book) (fits : Fits b) where
   row-names (rows.walk a x) = trees-names names (actor-fits b fits a) x
   row-names (rows.actor x) = actor-names x
 
-  merge-names : {r : Refusal} → MergeRow b r → NamesPlace names r
-  merge-names (rows.differs ((d, e, i, m, p, q, h), least)) = λ u. subst (λ (j : ℕ). j < names) p (init-definitions-fit b fits .exists d i)
+  init-names : {r : Refusal} → InitRow b r → NamesPlace names r
+  init-names (rows.definitions x) = definitions-names names (init-definitions-fit b fits) x
+  init-names (rows.differs (d, e, i, m, p, q, h) least) = λ u. subst (λ (j : ℕ). j < names) p (init-definitions-fit b fits .exists d i)
+  init-names (rows.walk x) = trees-names names (fitting-kids names (initTree (b .files)) (init-tree-fits b fits)) x
 
   pub init-row-names : {r : Refusal} → CheckRow b r ⊎ InitRow b r → NamesPlace names r
-  init-row-names =
-      ⊎-elim row-names
-      (⊎-elim (definitions-names names (init-definitions-fit b fits))
-      (⊎-elim merge-names (trees-names names (fitting-kids names (initTree (b .files)) (init-tree-fits b fits)))))
+  init-row-names = ⊎-elim row-names init-names
 
 -- ---- What is refused
 pub check-names : (b : Book) → Fits b → {r : Refusal} → check b ≡ Refused r → NamesPlace (length (b .names)) r

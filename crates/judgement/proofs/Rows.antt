@@ -35,7 +35,7 @@ use Rattle.judgement.specs.Rust.{hashOf, hashesOf}
 use Rattle.judgement.specs.Meaning.{mainService, actorOf, services}
 use Rattle.judgement.specs.Order.{First, Sound, Fault, DefinitionsRefuse, DefinitionsPass, Unserved, ImportsHaveActors, CheckRefuses, InitRefuses}
 use Rattle.judgement.specs.Order as order
-use Rattle.judgement.specs.Rows.{Repeated, HasMethod, WalkRow, DefinitionsRow, TreesRow, HashRepeated, ActorRow, CheckRow, checkRows, Disagree, MergeRow, InitRow}
+use Rattle.judgement.specs.Rows.{Repeated, HasMethod, WalkRow, DefinitionsRow, TreesRow, HashRepeated, ActorRow, CheckRow, checkRows, InitRow}
 use Rattle.judgement.specs.Rows as rows
 use Rattle.judgement.proofs.Lookup.{member-says}
 use Rattle.judgement.proofs.Chains.{no-circle}
@@ -44,7 +44,7 @@ use Rattle.judgement.proofs.Decs.{stands-again, first-repeated, has-no-
 use Rattle.judgement.proofs.Meaning.{all-services, none-stands, resolved-methods, actor-unique}
 use Rattle.judgement.proofs.Actors.{stands-elsewhere, stands-meets}
 use Rattle.judgement.proofs.Resolve.{Resolved}
-use Rattle.judgement.proofs.Steps.{check-say, init-check-say}
+use Rattle.judgement.proofs.Steps.{InitSteps, check-say, init-check-say}
 use Rattle.judgement.proofs.Order.{check-refuses, init-refuses}
 
 -- ---- Faults of trees
@@ -148,9 +148,9 @@ module _ (b : Book) where
   refuses-row (order.actor actors pass hashed (order.noService e some sound l)) = rows.actor (rows.noService some l)
 
   init-refuses-row : {r : Refusal} → InitRefuses b r → InitRow b r
-  init-refuses-row (order.definitions x) = inl (definitions-row x)
-  init-refuses-row (order.differs pass d l) = inr (inl (rows.differs (d, l)))
-  init-refuses-row (order.arguments pass agree f) = inr (inr (trees-row f))
+  init-refuses-row (order.definitions x) = rows.definitions (definitions-row x)
+  init-refuses-row (order.differs pass d l) = rows.differs d l
+  init-refuses-row (order.arguments pass agree f) = rows.walk (trees-row f)
 
 pub check-row : (b : Book) → Fits b → {r : Refusal} → check b ≡ Refused r → CheckRow b r
 check-row b fits {r} e = refuses-row b (check-refuses b fits r .0 e)
@@ -214,14 +214,15 @@ module _ (b : Book) (pass : DefinitionsPass (mainDefinitions b)) (resolved : Res
 pub row-refuses : (b : Book) → Fits b → {r : Refusal} → CheckRow b r → check b ≡ Passed → ⊥
 row-refuses b fits x e = let s = check-say b fits .passed .0 e in row-refused b (s .1 .0) (s .1 .1) x
 
-merge-refused : {b : Book} {r : Refusal} → MergeRow b r → ((n : ℕ) → Disagree b n → ⊥) → ⊥
-merge-refused (rows.differs {n = n} x) h = h n (x .0)
+init-refused : {b : Book} {r : Refusal} → InitRow b r → InitSteps b → ⊥
+init-refused (rows.definitions y) i = definitions-refused y (i .0)
+init-refused (rows.differs {n = n} d l) i = i .1 .0 n d
+init-refused (rows.walk y) i = trees-unsound y (i .1 .1)
 
 pub init-row-refuses : (b : Book) → Fits b → {r : Refusal} → CheckRow b r ⊎ InitRow b r → initCheck b ≡ Passed → ⊥
 init-row-refuses b fits x e =
     let s = init-check-say b fits .passed .0 e in
-    let i = s .1 in
-    ⊎-elim (row-refused b (s .0 .1 .0) (s .0 .1 .1)) (⊎-elim (λ y. definitions-refused y (i .0)) (⊎-elim (λ y. merge-refused y (i .1 .0)) (λ y. trees-unsound y (i .1 .1)))) x
+    ⊎-elim (row-refused b (s .0 .1 .0) (s .0 .1 .1)) (λ y. init-refused y (s .1)) x
 
 -- ---- The rows that there are: 2 to 10 and 12 to 14 in the check of a book, and 11 besides in the init check
 module _ {ds : List Definition} where
@@ -254,8 +255,10 @@ row-number (rows.actor (rows.importWithoutActor m e)) = tt
 row-number (rows.actor (rows.importNoService m s l)) = tt
 row-number (rows.actor (rows.sameHash s t x)) = tt
 
-merge-number : {b : Book} {r : Refusal} → MergeRow b r → numberOf r ≡ 11
-merge-number (rows.differs x) = refl
+init-number : {b : Book} {r : Refusal} → InitRow b r → T (member (numberOf r) checkRows) ⊎ (numberOf r ≡ 11)
+init-number (rows.definitions x) = inl (definitions-number x)
+init-number (rows.differs d l) = inr refl
+init-number (rows.walk x) = inl (trees-number x)
 
 module _ (b : Book) (r : Refusal) where
   among : T (member (numberOf r) checkRows) → List·Memᴰ (numberOf r) checkRows
@@ -266,8 +269,7 @@ module _ (b : Book) (r : Refusal) where
 
   pub init-numbers : CheckRow b r ⊎ InitRow b r → List·Memᴰ (numberOf r) (11 ∷ checkRows)
   init-numbers =
-      ⊎-elim (λ x. List·Memᴰ·tail (check-numbers x))
-      (⊎-elim (λ x. List·Memᴰ·tail (among (definitions-number x))) (⊎-elim (λ x. List·Memᴰ·head (merge-number x)) (λ x. List·Memᴰ·tail (among (trees-number x)))))
+      ⊎-elim (λ x. List·Memᴰ·tail (check-numbers x)) (λ x. ⊎-elim (λ t. List·Memᴰ·tail (among t)) List·Memᴰ·head (init-number x))
 
 -- ---- On bytes
 pub check-bytes-row : (bs : Source) {r : Refusal} → checkBytes bs ≡ Refused r → InRow bs CheckRow r

@@ -2,7 +2,6 @@
 -- is named here (proofs/Rows.antt: a refusal lies in its row, and a row holds only of what is refused). Last, what a refusal names
 -- (proofs/Named.antt). Definitions; assumes nothing.
 use mathlib.Core.Path.{_≡_}
-use mathlib.Core.Logic.{_⊎_}
 use mathlib.Core.Bool.{true}
 use mathlib.Core.List.{List, [], _∷_, _++_, map, List·Memᴰ}
 use Prim.Native.Nat.{ℕ, zero, suc, _<_}
@@ -123,14 +122,11 @@ Disagree b n =
     (d e : Definition) × List·Memᴰ d (initDefinitions b) × List·Memᴰ e (mainDefinitions b) × (d .name ≡ n) × (e .name ≡ n)
     × (Same (b .names) Root (d .body) (e .body) → ⊥)
 
--- The lowest name of which that holds.
-pub data MergeRow (b : Book) : Refusal → Type 0 where
-  differs : {n : ℕ} → Disagree b n × ((m : ℕ) → m < n → Disagree b m → ⊥) → MergeRow b (Differs n)
-
-abbrev pub InitRow : Book → Refusal → Type 0
-InitRow b r =
-    DefinitionsRow (initDefinitions b) r
-    ⊎ (MergeRow b r ⊎ TreesRow (mergeDefinitions (initDefinitions b) (mainDefinitions b)) (kidsOf (initTree (b .files))) r)
+-- A refusal of the init check: of the init file's own definitions, of the lowest name on which both disagree, or of the arguments' walk.
+pub data InitRow (b : Book) : Refusal → Type 0 where
+  definitions : {r : Refusal} → DefinitionsRow (initDefinitions b) r → InitRow b r
+  differs : {n : ℕ} → Disagree b n → ((m : ℕ) → m < n → Disagree b m → ⊥) → InitRow b (Differs n)
+  walk : {r : Refusal} → TreesRow (mergeDefinitions (initDefinitions b) (mainDefinitions b)) (kidsOf (initTree (b .files))) r → InitRow b r
 
 -- ---- What a refusal names
 
