@@ -1,5 +1,5 @@
 -- Two tables of roots: the loop that compares them, and the one that makes them one. Assumes nothing.
---     roots-none, roots-same               two roots
+--     roots-compared, roots-same           two roots
 --     merge-start, merge-on, ..            the loop that compares all
 --     merged-start, merged-on, ..          the loop that makes the table of both
 --     merged-roots, merged-binds           that table is one of roots, and has what the merged definitions say
