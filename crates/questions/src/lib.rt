@@ -12,10 +12,6 @@ ghost use Rattle.listing.specs.Marks.{marksOver};
 ghost use Rattle.listing.specs.Uses.{uses};
 ghost use Rattle.listing.specs.Project.{project};
 ghost use Rattle.listing.specs.Empty.{emptiness};
-
-mod passed;
-mod stages;
-
 use admission::Admission;
 use refusals::Answer;
 use refusals::Verdict;
@@ -26,7 +22,7 @@ pub fn check(book: &[u8]) -> Verdict
 {
     let mut roots = book::tables::blank();
     let mut ends = book::tables::blank();
-    let found = stages::pass(book, &mut roots, &mut ends);
+    let found = passed::pass(book, &mut roots, &mut ends);
     found.verdict
 }
 
@@ -36,7 +32,7 @@ pub fn init_check(book: &[u8]) -> Verdict
 {
     let mut roots = book::tables::blank();
     let mut ends = book::tables::blank();
-    let found = stages::pass(book, &mut roots, &mut ends);
+    let found = passed::pass(book, &mut roots, &mut ends);
     let v = found.verdict;
     if !v.passed() {
         return v;
@@ -53,7 +49,7 @@ pub fn list(book: &[u8], out: &mut [u16]) -> Answer
 {
     let mut roots = book::tables::blank();
     let mut ends = book::tables::blank();
-    let found = stages::pass(book, &mut roots, &mut ends);
+    let found = passed::pass(book, &mut roots, &mut ends);
     let v = found.verdict;
     let p = found.passed;
     match v {
@@ -69,7 +65,7 @@ pub fn init_list(book: &[u8], out: &mut [u16]) -> Answer
 {
     let mut roots = book::tables::blank();
     let mut ends = book::tables::blank();
-    let found = stages::pass(book, &mut roots, &mut ends);
+    let found = passed::pass(book, &mut roots, &mut ends);
     let v = found.verdict;
     let p = found.passed;
     match v {
@@ -95,7 +91,7 @@ pub fn marks(book: &[u8], list: &[u16], out: &mut [u16]) -> Answer
 {
     let mut roots = book::tables::blank();
     let mut ends = book::tables::blank();
-    let found = stages::pass(book, &mut roots, &mut ends);
+    let found = passed::pass(book, &mut roots, &mut ends);
     let v = found.verdict;
     let p = found.passed;
     match v {
@@ -111,7 +107,7 @@ pub fn uses(book: &[u8], name: u16, out: &mut [u16]) -> Answer
 {
     let mut roots = book::tables::blank();
     let mut ends = book::tables::blank();
-    let found = stages::pass(book, &mut roots, &mut ends);
+    let found = passed::pass(book, &mut roots, &mut ends);
     let v = found.verdict;
     let p = found.passed;
     match v {
@@ -127,7 +123,7 @@ pub fn project(book: &[u8], asked: &[u16], out: &mut [u16]) -> Answer
 {
     let mut roots = book::tables::blank();
     let mut ends = book::tables::blank();
-    let found = stages::pass(book, &mut roots, &mut ends);
+    let found = passed::pass(book, &mut roots, &mut ends);
     let v = found.verdict;
     let p = found.passed;
     match v {
@@ -142,7 +138,7 @@ pub fn emptiness(book: &[u8], out: &mut [u16]) -> Answer
 {
     let mut roots = book::tables::blank();
     let mut ends = book::tables::blank();
-    let found = stages::pass(book, &mut roots, &mut ends);
+    let found = passed::pass(book, &mut roots, &mut ends);
     let v = found.verdict;
     let p = found.passed;
     match v {

@@ -2,7 +2,7 @@
 use mathlib.Core.Path.{sym, _∙_}
 use Rattle.listing.specs.DraftList.{draftList}
 use Rattle.admission.proofs.Admitting.{admission-gives}
-use Rattle.questions.proofs.Asking.{unadmitted, answered, handed-refused, handed-as}
+use Rattle.passed.proofs.Asking.{unadmitted, answered, handed-refused, handed-as}
 use borrow.Author.Needs.{needs}
 use Rattle.questions.proofs.draft_list.Statement.{statement}
 use Rattle.questions.proofs.draft_list.Tie as tie

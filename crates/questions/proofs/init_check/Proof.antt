@@ -2,7 +2,7 @@
 use mathlib.Core.Path.{sym, _∙_}
 use borrow.Author.Tests.{not-true, not-false}
 use Rattle.refusals.proofs.Verdicts.{passed-is as is-passed}
-use Rattle.questions.proofs.Asking.{init-stops, init-goes}
+use Rattle.passed.proofs.Asking.{init-stops, init-goes}
 use borrow.Author.Needs.{needs}
 use Rattle.questions.proofs.init_check.Statement.{statement}
 use Rattle.questions.proofs.init_check.Tie as tie

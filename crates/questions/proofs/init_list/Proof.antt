@@ -1,7 +1,7 @@
 -- `init_list` meets its contract: admission, the check, and the question. Assumes nothing.
 use mathlib.Core.Path.{sym, _∙_}
 use Rattle.listing.specs.InitList.{initList}
-use Rattle.questions.proofs.Asking.{stops, answered, handed-refused, handed-as}
+use Rattle.passed.proofs.Asking.{stops, answered, handed-refused, handed-as}
 use Rattle.listing.proofs.InitList.{init-list-after}
 use borrow.Author.Needs.{needs}
 use Rattle.questions.proofs.init_list.Statement.{statement}

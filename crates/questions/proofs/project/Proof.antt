@@ -1,6 +1,6 @@
 -- `project` meets its contract: admission, the check, and the question. Assumes nothing.
 use mathlib.Core.Path.{sym, _∙_}
-use Rattle.questions.proofs.Asking.{stops, answered, handed-refused, handed-as}
+use Rattle.passed.proofs.Asking.{stops, answered, handed-refused, handed-as}
 use Rattle.listing.proofs.Project.{project-after}
 use borrow.Author.Needs.{needs}
 use Rattle.questions.proofs.project.Statement.{statement}

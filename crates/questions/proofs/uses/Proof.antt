@@ -1,6 +1,6 @@
 -- `uses` meets its contract: admission, the check, and the question. Assumes nothing.
 use mathlib.Core.Path.{sym, _∙_}
-use Rattle.questions.proofs.Asking.{stops, answered, uses-refused, uses-as}
+use Rattle.passed.proofs.Asking.{stops, answered, uses-refused, uses-as}
 use Rattle.listing.proofs.Uses.{uses-after}
 use borrow.Author.Needs.{needs}
 use Rattle.questions.proofs.uses.Statement.{statement}

@@ -1,0 +1,3 @@
+-- Laws that the proofs of several questions cite; `Asking` serves the crates above as well.
+pub mod Asking
+mod Walks

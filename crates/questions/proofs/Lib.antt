@@ -1,3 +1,0 @@
--- Laws that the proofs of several questions cite.
-mod Asking
-mod Walks
