@@ -1,6 +1,7 @@
 -- Tables that have nothing, and the loop that finds the label numbers of all names. Assumes nothing.
 --     blank-length, blank-at, zero-length, zero-at    what such tables have
---     hashes-start, hashes-on, hashes-end             the loop over names
+--     left-start, name-sought, left-on                a loop over the names that fills a table
+--     hashes-on, hashes-end                           with their label numbers
 use mathlib.Core.Path.{_≡_, sym, ap, _∙_}
 use mathlib.Core.List.{List, []}
 use Prim.Native.Nat.{ℕ, suc, _+_, _-_, _≤_, _<_}
@@ -33,18 +34,19 @@ pub zero-at : (n : ℕ) → getD zeroTable n 0 ≡ 0
 unfolding zeroTable
 zero-at n = everywhere {A = ℕ} 1024 n 0
 
--- ---- the loop: the names before name n have their numbers, and the bytes from place `at` on are the names from n on
-pub record HashesLeft (bs : List ℕ) (count : ℕ) (hashes : List ℕ) (at n : ℕ) : Type 0 where
+-- ---- a loop over the names that fills a table: what name m gets is Q m, the names before name n have it, and the bytes from place `at` on are
+-- the names from n on
+pub record TableLeft (bs : List ℕ) (count : ℕ) (Q : ℕ → ℕ → Type 0) (table : List ℕ) (at n : ℕ) : Type 0 where
   pub passed : n ≤ count
-  pub long : length hashes ≡ 1024
+  pub long : length table ≡ 1024
   pub filled : Filled (length bs) (drop at bs)
   pub left : n + length (namesOf (length bs) (drop at bs)) ≡ count
   pub same : (k : ℕ) → getD (namesOf (length bs) (drop at bs)) k [] ≡ getD (namesOf (length bs) bs) (n + k) []
-  pub done : (m : ℕ) → m < n → getD hashes m 0 ≡ labelNumber (getD (namesOf (length bs) bs) m [])
-  pub beyond : (m : ℕ) → n ≤ m → getD hashes m 0 ≡ 0
+  pub done : (m : ℕ) → m < n → Q m (getD table m 0)
+  pub beyond : (m : ℕ) → n ≤ m → getD table m 0 ≡ 0
 
-pub hashes-start : {bs : List ℕ} {count : ℕ} → NamesIn bs count → HashesLeft bs count zeroTable 0 0
-hashes-start {bs} x =
+pub left-start : {bs : List ℕ} {count : ℕ} {Q : ℕ → ℕ → Type 0} → NamesIn bs count → TableLeft bs count Q zeroTable 0 0
+left-start {bs} x =
     record {
       passed = omega arith;
       long = zero-length;
@@ -55,7 +57,37 @@ hashes-start {bs} x =
       beyond = λ m h. zero-at m;
     }
 
-module _ {bs : List ℕ} {count : ℕ} {hashes : List ℕ} {at n : ℕ} (x : NamesIn bs count) (l : HashesLeft bs count hashes at n) where
+module _ {bs : List ℕ} {count : ℕ} {Q : ℕ → ℕ → Type 0} {table : List ℕ} {at n : ℕ} (x : NamesIn bs count) (l : TableLeft bs count Q table at n) (h : n < count) where
+  pub name-sought : Sought bs n at 0
+  name-sought =
+      record {
+        filled = l .filled;
+        listed = omega (arith, l .left);
+        same = l .same 0 ∙ ap (λ (m : ℕ). getD (namesOf (length bs) bs) m []) (omega arith);
+      }
+
+  pub left-on : (v : ℕ) → Q n v → TableLeft bs count Q (set table n v) (at + 1 + getD bs at 0) (n + 1)
+  left-on v q =
+      let s = names-step bs at (sought-here name-sought) (length bs) (omega arith) in
+      record {
+        passed = omega arith;
+        long = simp length-set (l .long);
+        filled = filled-step bs at (length bs) (omega arith) (sought-fits name-sought) .0 (l .filled);
+        left = omega (arith, l .left, ap length s);
+        same = λ k. sym (ap (λ (ns : List (List ℕ)). getD ns (suc k) []) s) ∙ l .same (suc k) ∙ ap (λ (m : ℕ). getD (namesOf (length bs) bs) m []) (omega arith);
+        done = λ m i. done′ m i (ℕ-discrete m n);
+        beyond = λ m i. getD-set-other table n m v 0 (λ e. let f : ⊥ = omega arith in f) ∙ l .beyond m (omega arith);
+      }
+    where
+      done′ : (m : ℕ) → m < n + 1 → Dec (m ≡ n) → Q m (getD (set table n v) m 0)
+      done′ m i (yes e) = rw e (rw (getD-set-same table n v 0 (omega (arith, l .long, x .few))) q)
+      done′ m i (no e) = rw (getD-set-other table n m v 0 e) (l .done m (omega arith))
+
+-- ---- the label number of each name
+abbrev pub Hashed : List ℕ → ℕ → ℕ → Type 0
+Hashed bs m v = v ≡ labelNumber (getD (namesOf (length bs) bs) m [])
+
+module _ {bs : List ℕ} {count : ℕ} {hashes : List ℕ} {at n : ℕ} (x : NamesIn bs count) (l : TableLeft bs count (Hashed bs) hashes at n) where
   pub hashes-end : count ≤ n → HashesOf hashes (namesOf (length bs) bs)
   hashes-end h = record { long = l .long; agree = λ m. go m (decLt m n) }
     where
@@ -66,30 +98,6 @@ module _ {bs : List ℕ} {count : ℕ} {hashes : List ℕ} {at n : ℕ} (x : Nam
           ∙ sym labelNumber-empty
           ∙ ap labelNumber (sym (List·getD-eq-default (namesOf (length bs) bs) [] {n = m} (omega (arith, x .counted))))
 
-  module _ (h : n < count) where
-    pub name-sought : Sought bs n at 0
-    name-sought =
-        record {
-          filled = l .filled;
-          listed = omega (arith, l .left);
-          same = l .same 0 ∙ ap (λ (m : ℕ). getD (namesOf (length bs) bs) m []) (omega arith);
-        }
-
-    pub hashes-on : (v : ℕ) → v ≡ labelNumber (take (at + 1 + getD bs at 0 - (at + 1)) (drop (at + 1) bs)) →
-        HashesLeft bs count (set hashes n v) (at + 1 + getD bs at 0) (n + 1)
-    hashes-on v e =
-        let s = names-step bs at (sought-here name-sought) (length bs) (omega arith) in
-        record {
-          passed = omega arith;
-          long = simp length-set (l .long);
-          filled = filled-step bs at (length bs) (omega arith) (sought-fits name-sought) .0 (l .filled);
-          left = omega (arith, l .left, ap length s);
-          same = λ k. sym (ap (λ (ns : List (List ℕ)). getD ns (suc k) []) s) ∙ l .same (suc k) ∙ ap (λ (m : ℕ). getD (namesOf (length bs) bs) m []) (omega arith);
-          done = λ m i. done′ m i (ℕ-discrete m n);
-          beyond = λ m i. getD-set-other hashes n m v 0 (λ q. let f : ⊥ = omega arith in f) ∙ l .beyond m (omega arith);
-        }
-      where
-        done′ : (m : ℕ) → m < n + 1 → Dec (m ≡ n) → getD (set hashes n v) m 0 ≡ labelNumber (getD (namesOf (length bs) bs) m [])
-        done′ m i (yes q) =
-            rw q (getD-set-same hashes n v 0 (omega (arith, l .long, x .few)) ∙ e ∙ ap labelNumber (sought-found name-sought (omega arith)))
-        done′ m i (no q) = getD-set-other hashes n m v 0 q ∙ l .done m (omega arith)
+  pub hashes-on : (h : n < count) (v : ℕ) → v ≡ labelNumber (take (at + 1 + getD bs at 0 - (at + 1)) (drop (at + 1) bs)) →
+      TableLeft bs count (Hashed bs) (set hashes n v) (at + 1 + getD bs at 0) (n + 1)
+  hashes-on h v e = left-on x l h v (e ∙ ap labelNumber (sought-found (name-sought x l h) (omega arith)))

@@ -7,3 +7,4 @@ mod Parts
 pub mod Named
 pub mod Opened
 pub mod Blank
+pub mod Placed

@@ -14,6 +14,7 @@ use Rattle.format.proofs.Theorems.{found}
 use Rattle.book.specs.declared.kinds.Contents.{Contents}
 use Rattle.book.specs.declared.Reading.the-variants.{Broken, Whole}
 use Rattle.book.specs.Reading.{contentsOf, asReading, reading, Admitted, HasName}
+use Rattle.book.specs.Tables.{NamesIn}
 
 -- ---- the book of a reading
 pub broken-of : (bs : List ℕ) → Broken ≡ reading bs → layout bs ≡ broken
@@ -56,9 +57,12 @@ module _ {bs : List ℕ} {c : Contents} (o : Admitted bs c) where
   unfolding namesBytes
   names-listed = rw part-is (names-all (o .book .names))
 
-  pub has-name : (n : ℕ) → n < c .names → HasName (part 32 (c .«nodes_at») bs) n
+  pub names-in : NamesIn (part 32 (c .«nodes_at») bs) (c .names)
   unfolding namesBytes
-  has-name n h = record { filled = ap (flat nameBytes) names-listed ∙ sym part-is; listed = omega (arith, ap length names-listed, names-are) }
+  names-in = record { filled = ap (flat nameBytes) names-listed ∙ sym part-is; counted = ap length names-listed ∙ names-are; few = names-few }
+
+  pub has-name : (n : ℕ) → n < c .names → HasName (part 32 (c .«nodes_at») bs) n
+  has-name n h = record { filled = names-in .filled; listed = omega (arith, names-in .counted) }
 
   pub name-there : (n : ℕ) → getD (namesOf (length (part 32 (c .«nodes_at») bs)) (part 32 (c .«nodes_at») bs)) n [] ≡ nameIn bs n
   unfolding nameIn

@@ -1,14 +1,14 @@
--- Tables by name number, and the label numbers of all names. Definitions; assumes nothing.
+-- Tables by name number, the label numbers of all names, and where each begins. Definitions; assumes nothing.
 use mathlib.Core.Path.{_≡_}
 use mathlib.Core.Bool.{Bool, cond}
 use mathlib.Core.List.{List, [], _∷_}
-use Prim.Native.Nat.{ℕ, zero, suc, _≤_}
+use Prim.Native.Nat.{ℕ, zero, suc, _+_, _≤_, _<_}
 use lib.Dec.{eqb}
 use lib.ListN.{length, getD, replicate}
 use Rattle.labels.specs.Number.{labelNumber}
 use Rattle.refusals.specs.Lists.{flat}
 use Rattle.format.specs.Encode.{nameBytes}
-use Rattle.format.specs.Layout.{namesOf}
+use Rattle.format.specs.Layout.{part, namesOf, nameIn}
 
 -- A table that has nothing: 65,535 for each of the 1,024 names.
 unfoldable pub blankTable : List ℕ
@@ -47,3 +47,17 @@ HashesAgree hashes names = (n : ℕ) → getD hashes n 0 ≡ labelNumber (getD n
 pub record HashesOf (hashes : List ℕ) (names : List (List ℕ)) : Type 0 where
   pub long : length hashes ≡ 1024
   pub agree : HashesAgree hashes names
+
+-- ---- Where the names begin
+
+-- A name's length byte stands at a place of the bytes, and the name after it.
+pub record NameAt (bs : List ℕ) (n at : ℕ) : Type 0 where
+  pub within : at + 1 + getD bs at 0 ≤ length bs
+  pub is : part (at + 1) (at + 1 + getD bs at 0) bs ≡ nameIn bs n
+
+-- A table has the place of each of the book's `count` names.
+pub record PlacesOf (bs : List ℕ) (count : ℕ) (places : List ℕ) : Type 0 where
+  pub long : length places ≡ 1024
+  pub few : count ≤ 1024
+  pub at : (n : ℕ) → n < count → NameAt bs n (getD places n 0)
+  pub outside : (n : ℕ) → count ≤ n → nameIn bs n ≡ []

@@ -4,7 +4,7 @@ ghost use mathlib.Core.Path.{_≡_};
 ghost use Prim.Native.Nat.{_+_, _*_, _≤_, _<_};
 ghost use mathlib.Core.List.{[]};
 ghost use lib.ListN.{length, getD};
-ghost use Rattle.format.specs.Layout.{le16, le32, labelOf, rowAt, entryAt, namesOf};
+ghost use Rattle.format.specs.Layout.{le16, le32, part, labelOf, rowAt, entryAt, namesOf};
 ghost use Rattle.format.specs.Whole.{Within};
 ghost use Rattle.book.specs.Reading.{asRow, labelOr, asEntry, EntryWithin, HasName};
 use labels::Label;
@@ -127,4 +127,14 @@ pub(crate) fn name_at(names: &[u8], number: usize) -> &[u8]
     let from = at + 1;
     let end = from + names[at] as usize;
     &names[from..end]
+}
+
+// The name whose length byte stands at a place of the book.
+pub fn name_from(book: &[u8], at: usize) -> &[u8]
+    requires { ⌜ at + 1 + getD (now book) at 0 ≤ length (now book) ⌝ }
+    ensures { λ r. ⌜ now r ≡ part (at + 1) (at + 1 + getD (now (book .entry)) at 0) (now (book .entry)) ⌝ }
+{
+    let from = at + 1;
+    let end = from + book[at] as usize;
+    &book[from..end]
 }

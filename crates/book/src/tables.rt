@@ -1,8 +1,10 @@
-// Tables by name number, which there are 1,024 of: tables that have nothing, and the label numbers of all names.
+// Tables by name number, which there are 1,024 of: tables that have nothing, the label numbers of all names, and where each begins.
 ghost use mathlib.Core.Path.{_≡_};
 ghost use lib.ListN.{length};
 ghost use Rattle.format.specs.Layout.{namesOf};
-ghost use Rattle.book.specs.Tables.{blankTable, zeroTable, noFlags, NamesIn, HashesOf};
+ghost use Rattle.book.specs.Reading.{Admitted};
+ghost use Rattle.book.specs.Tables.{blankTable, zeroTable, noFlags, NamesIn, HashesOf, PlacesOf};
+use crate::kinds::Contents;
 use crate::kinds::Limits;
 use crate::read::Entry;
 
@@ -59,4 +61,23 @@ pub fn name_hashes(names: &[u8], count: usize) -> HashByName
         n += 1;
     }
     hashes
+}
+
+// Where each name of an admitted book begins in it, by its length byte, in one pass over the names: for who prints many of them, since
+// `book::name` reads the layout anew for each. Beyond the names it has 0.
+pub fn name_places(book: &[u8], c: Contents) -> ByName
+    requires { ⌜ Admitted (now book) c ⌝ }
+    ensures { λ r. ⌜ PlacesOf (now (book .entry)) (c .names) r ⌝ }
+{
+    let names = c.names(book);
+    let count = c.names;
+    let mut places = no_links();
+    let mut at = 0;
+    let mut n = 0;
+    while n < count {
+        places[n] = (Contents::SIZE + at) as u16;
+        at = at + 1 + names[at] as usize;
+        n += 1;
+    }
+    places
 }

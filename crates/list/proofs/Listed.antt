@@ -1,5 +1,5 @@
 -- The lines of the listed names one after another, and what the functions that are called ensure, as parts of what is printed. Assumes nothing.
-use mathlib.Core.Path.{_≡_, refl, sym, ap, ap₂, _∙_}
+use mathlib.Core.Path.{_≡_, refl, sym, ap, _∙_}
 use mathlib.Core.Bool.{Bool, true, false}
 use mathlib.Core.List.{List, [], _∷_, _++_, append-assoc, append-nil}
 use Prim.Native.Nat.{ℕ, suc, _+_, _≤_, _<_}
@@ -11,11 +11,19 @@ use lib.ListN.{length, getD, take, drop, drop-of-length-le}
 use lib.Seq.{take-suc, take-all, drop-cons, length-take-le}
 use Rattle.format.specs.Layout.{nameIn}
 use Rattle.refusals.specs.declared.Refusal.{Refusal}
-use Rattle.judgement.specs.Check.{member}
-use Rattle.refusals.specs.Outcome.{given}
+use Rattle.judgement.specs.Check.{member, checkBytes}
+use Rattle.refusals.specs.Outcome.{given, fit}
+use Rattle.refusals.specs.declared.Verdict.the-variants.{Refused as Refuses}
 use Rattle.refusals.specs.declared.Answer.{Answer}
 use Rattle.refusals.specs.declared.Answer.the-variants.{Given, Refused}
 use Rattle.refusals.specs.Handed.{HandedAs}
+use Rattle.listing.specs.List.{list}
+use Rattle.listing.specs.Marks.{marksOver}
+use Rattle.listing.proofs.List.{list-after}
+use Rattle.typing.specs.declared.prog.Passed.{Passed}
+use Rattle.typing.specs.Passing.{PassedBook}
+use Rattle.passed.specs.Stages.{BookPassed}
+use Rattle.passed.proofs.Asking.{stops, answered, handed-as}
 use Rattle.print.specs.Laid.{Laid}
 use Rattle.print.proofs.Laid.{nothing, then, alias}
 use Rattle.print.specs.Refused.{refusalOf}
@@ -83,10 +91,10 @@ module _ (bs marked : List ℕ) where
   unfolding lines
   lines-start old at = nothing old at
 
-  pub lines-on : (l : List ℕ) (i : ℕ) {old mid new name : List ℕ} {at m next mark : ℕ} → i < length l → Laid (lines bs marked 1 (take i l)) old at m mid →
-      mark ≡ markOf marked (getD l i 0) → name ≡ nameIn bs (getD l i 0) → Laid (line (i + 1) mark name) mid m next new →
+  pub lines-on : (l : List ℕ) (i : ℕ) {old mid new : List ℕ} {at m next mark : ℕ} → i < length l → Laid (lines bs marked 1 (take i l)) old at m mid →
+      mark ≡ markOf marked (getD l i 0) → Laid (line (i + 1) mark (nameIn bs (getD l i 0))) mid m next new →
       Laid (lines bs marked 1 (take (i + 1) l)) old at next new
-  lines-on l i h p e f q = rw (lines-suc l i h) (then p (alias (ap₂ (line (i + 1)) e f) q))
+  lines-on l i h p e q = rw (lines-suc l i h) (then p (alias (ap (λ (m : ℕ). line (i + 1) m (nameIn bs (getD l i 0))) e) q))
 
   pub lines-end : (l : List ℕ) (i : ℕ) {old new : List ℕ} {at next : ℕ} → length l ≤ i → Laid (lines bs marked 1 (take i l)) old at next new → Laid (lines bs marked 1 l) old at next new
   lines-end l i h p = rw (take-all i l h) at p
@@ -96,7 +104,19 @@ module _ (bs marked : List ℕ) where
   unfolding markedText
   table-is l = refl
 
--- ---- What is printed, by the answers to the questions
+-- ---- What is printed, by the verdict of the check
+pub check-refused : (bs : List ℕ) {why : Refusal} → checkBytes bs ≡ Refuses why → refusalOf bs why ≡ printed bs
+unfolding fit listIn listedText printed
+check-refused bs e = rw (stops list bs list-after e)
+
+-- ---- and by the answers to the questions on a book that passed, which are those on bytes
+module _ {bs roots ends′ : List ℕ} {p : Passed} (x : BookPassed bs roots ends′ p) {old new : List ℕ} {r : Answer} where
+  pub marks-handed : (l : List ℕ) → ((b : PassedBook bs roots ends′ p) → HandedAs (marksOver (b .admitted .book) l) old new r) → HandedAs (marksAsked bs l) old new r
+  marks-handed l h = handed-as (answered (λ b. marksOver b l) bs (x .is)) (h (x .book))
+
+  pub list-handed : ((b : PassedBook bs roots ends′ p) → HandedAs (list (b .admitted .book)) old new r) → HandedAs (listAsked bs) old new r
+  list-handed h = handed-as (answered list bs (x .is)) (h (x .book))
+
 module _ (bs l : List ℕ) {old new : List ℕ} {r : Answer} (h : HandedAs (marksAsked bs l) old new r) (n : 1024 ≡ length old) where
   pub marks-refused : {why : Refusal} → r ≡ Refused why → refusalOf bs why ≡ markedText bs l (marksIn bs l)
   unfolding marksIn markedText

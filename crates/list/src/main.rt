@@ -4,12 +4,19 @@ ghost use mathlib.Core.Path.{_≡_};
 ghost use lib.ListN.{length, take};
 ghost use Rattle.judgement.specs.Check.{member};
 ghost use Rattle.refusals.specs.Outcome.{given};
+ghost use Rattle.format.specs.Layout.{nameIn};
+ghost use Rattle.book.specs.Reading.{Admitted};
+ghost use Rattle.book.specs.Tables.{PlacesOf};
+ghost use Rattle.passed.specs.Stages.{BookPassed};
 ghost use Rattle.print.specs.Laid.{Laid, LaidWithin};
 ghost use Rattle.list.specs.Printed.{heading, markOf, line, lines, marksIn, markedText, printed};
+use book::kinds::Contents;
 use book::kinds::Limits;
 use libc::STDIN_FILENO;
 use libc::STDOUT_FILENO;
 use refusals::Answer;
+use refusals::Verdict;
+use typing::prog::Passed;
 
 // The first line.
 fn heading(listed: usize, marked: usize, out: &mut [u8]) -> usize
@@ -58,8 +65,38 @@ fn line(position: usize, mark: u8, name: &[u8], out: &mut [u8], at: usize) -> us
     print::byte(b'\n', out, next)
 }
 
+// The line of a listed name, whose place in the book the table has.
+fn named(
+    position: usize,
+    mark: u8,
+    book: &[u8],
+    count: usize,
+    places: &[u16],
+    name: u16,
+    out: &mut [u8],
+    at: usize,
+) -> usize
+    requires { ⌜ PlacesOf (now book) count (now places) ⌝ }
+    ensures { λ r. ⌜ Laid (line position mark (nameIn (now (book .entry)) name)) (now (out .entry)) at r (now (out .exit)) ⌝ }
+{
+    if count <= name as usize {
+        return line(position, mark, &book[0..0], out, at);
+    }
+    let place = places[name as usize] as usize;
+    line(position, mark, book::read::name_from(book, place), out, at)
+}
+
 // The lines of all listed names.
-fn lines(book: &[u8], listed: &[u16], marked: &[u16], out: &mut [u8], at: usize) -> usize
+fn lines(
+    book: &[u8],
+    count: usize,
+    places: &[u16],
+    listed: &[u16],
+    marked: &[u16],
+    out: &mut [u8],
+    at: usize,
+) -> usize
+    requires { ⌜ PlacesOf (now book) count (now places) ⌝ }
     ensures { λ r. ⌜ Laid (lines (now (book .entry)) (now (marked .entry)) 1 (now (listed .entry))) (now (out .entry)) at r (now (out .exit)) ⌝ }
 {
     let mut next = at;
@@ -67,18 +104,20 @@ fn lines(book: &[u8], listed: &[u16], marked: &[u16], out: &mut [u8], at: usize)
     while i < listed.len() {
         let name = listed[i];
         let mark = mark_of(name, marked);
-        next = line(i + 1, mark, book::name(book, name), out, next);
+        next = named(i + 1, mark, book, count, places, name, out, next);
         i += 1;
     }
     next
 }
 
 // What is printed where both questions are answered.
-fn table(book: &[u8], listed: &[u16], marked: &[u16], out: &mut [u8]) -> usize
+fn table(book: &[u8], c: Contents, listed: &[u16], marked: &[u16], out: &mut [u8]) -> usize
+    requires { ⌜ Admitted (now book) c ⌝ }
     ensures { λ r. ⌜ Laid (markedText (now (book .entry)) (now (listed .entry)) (given (now (marked .entry)))) (now (out .entry)) 0 r (now (out .exit)) ⌝ }
 {
+    let places = book::tables::name_places(book, c);
     let next = heading(listed.len(), marked.len(), out);
-    lines(book, listed, marked, out, next)
+    lines(book, c.names, &places, listed, marked, out, next)
 }
 
 // A place for each name.
@@ -89,14 +128,21 @@ fn room_for_marks() -> [u16; Limits::NAMES]
 }
 
 // What is printed where the names are listed, of which there are no more than definitions.
-fn marked(book: &[u8], listed: &[u16], out: &mut [u8]) -> usize
-    requires { ⌜ length (now listed) ≤ 512 ⌝ }
+fn marked(
+    book: &[u8],
+    p: Passed,
+    roots: &[u16],
+    ends: &[u16],
+    listed: &[u16],
+    out: &mut [u8],
+) -> usize
+    requires { ⌜ BookPassed (now book) (now roots) (now ends) p × (length (now listed) ≤ 512) ⌝ }
     ensures { λ r. ⌜ LaidWithin 409600 (markedText (now (book .entry)) (now (listed .entry)) (marksIn (now (book .entry)) (now (listed .entry)))) (now (out .entry)) 0 r (now (out .exit)) ⌝ }
 {
-    let mut places = room_for_marks();
-    match questions::marks(book, listed, &mut places) {
+    let mut room = room_for_marks();
+    match passed::marks::marks_passed(book, p, roots, ends, listed, &mut room) {
         Answer::Refused(why) => print::refusal(why, book, out, 0),
-        Answer::Given(count) => table(book, listed, &places[..count], out),
+        Answer::Given(count) => table(book, p.contents, listed, &room[..count], out),
     }
 }
 
@@ -107,15 +153,31 @@ fn room_for_list() -> [u16; Limits::DEFINITIONS]
     [0; Limits::DEFINITIONS]
 }
 
-// All that is printed for the bytes of a book: never as many bytes as are asked for.
+// What is printed of a book that passed.
+fn print_passed(book: &[u8], p: Passed, roots: &[u16], ends: &[u16], out: &mut [u8]) -> usize
+    requires { ⌜ BookPassed (now book) (now roots) (now ends) p ⌝ }
+    ensures { λ r. ⌜ LaidWithin 409600 (printed (now (book .entry))) (now (out .entry)) 0 r (now (out .exit)) ⌝ }
+{
+    let mut room = room_for_list();
+    match passed::list::list_passed(book, p, roots, ends, &mut room) {
+        Answer::Refused(why) => print::refusal(why, book, out, 0),
+        Answer::Given(count) => marked(book, p, roots, ends, &room[..count], out),
+    }
+}
+
+// All that is printed for the bytes of a book, which is admitted and checked once: never as many bytes as are asked for.
 fn print(book: &[u8], out: &mut [u8]) -> usize
     requires { ⌜ 409600 ≤ length (now out) ⌝ }
     ensures { λ r. ⌜ (take r (now (out .exit)) ≡ printed (now (book .entry))) × (r < 409600) ⌝ }
 {
-    let mut places = room_for_list();
-    match questions::list(book, &mut places) {
-        Answer::Refused(why) => print::refusal(why, book, out, 0),
-        Answer::Given(count) => marked(book, &places[..count], out),
+    let mut roots = book::tables::blank();
+    let mut ends = book::tables::blank();
+    let found = passed::pass(book, &mut roots, &mut ends);
+    let v = found.verdict;
+    let p = found.passed;
+    match v {
+        Verdict::Refused(why) => print::refusal(why, book, out, 0),
+        Verdict::Passed => print_passed(book, p, &roots, &ends, out),
     }
 }
 

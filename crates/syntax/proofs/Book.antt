@@ -6,7 +6,7 @@
 --     main-actor-is                                   the main actor
 --     some-files, .., nodes-known, file-root          what the code that walks the bytes asks of them
 --     trees-fit, definition-tree-fits                 the trees fit
---     files-held, names-in, all-trees, ..             the same of an admitted book by its contents
+--     files-held, names-book, all-trees, ..            the same of an admitted book by its contents
 use mathlib.Core.Path.{_≡_, refl, sym, ap, subst, _∙_}
 use mathlib.Core.Bool.{Bool, true, false, cond, not}
 use mathlib.Core.List.{List, [], _∷_, _++_, map, map-append, List·Memᴰ·head, List·Memᴰ·tail}
@@ -339,15 +339,6 @@ module _ {bs : List ℕ} {c : Contents} (a : Admitted bs c) where
 
   pub few-all : c .definitions ≤ 512
   few-all = omega (arith, few-definitions bs (a .laid), definitions-count a)
-
-  pub names-in : NamesIn (namesPart bs) (c .names)
-  names-in =
-      rw (names-count a)
-      (record {
-        filled = ap (flat nameBytes) (names-read bs (a .laid)) ∙ names-laid bs (a .laid);
-        counted = ap length (names-read bs (a .laid));
-        few = nodes-known bs (a .laid) .fewNames;
-      })
 
   pub names-book : namesOf (length (namesPart bs)) (namesPart bs) ≡ a .book .names
   names-book = names-read bs (a .laid)

@@ -1,70 +1,74 @@
--- `print` meets its contract: the list's answer says which of the two texts is laid, and there is room for it. Assumes nothing.
-use mathlib.Core.Path.{sym}
+-- `print` meets its contract: a refused book's line or what is printed of one that passed, and there is room for it. Assumes nothing.
+use mathlib.Core.Path.{refl, sym, _∙_}
 use native.Mathlib.Omega.{arith}
-use lib.Seq.{length-take-le}
-use Rattle.list.proofs.Answered.{given-within}
-use Rattle.list.proofs.Listed.{list-refused, list-given}
-use Rattle.list.proofs.Room.{given-few, printed-laid}
+use Rattle.list.proofs.Listed.{check-refused}
+use Rattle.list.proofs.Room.{printed-laid}
 use borrow.Author.Needs.{needs}
 use Rattle.list.proofs.print.Statement.{statement}
 use Rattle.list.proofs.print.Tie as tie
 
-room-for-list-requires : tie.Need-room-for-list-requires
-room-for-list-requires c κs = search needs
+blank-requires : tie.Need-blank-requires
+blank-requires c κs = search needs
 
-slice-aggregate-list : tie.Need-slice-aggregate-list
-slice-aggregate-list c = search needs
+blank-requires-2 : tie.Need-blank-requires-2
+blank-requires-2 c κs = search needs
 
-list-requires : tie.Need-list-requires
-list-requires c κs = search needs
+slice-aggregate-pass : tie.Need-slice-aggregate-pass
+slice-aggregate-pass c = search needs
 
-enum-known-why : tie.Need-enum-known-why
-enum-known-why c = search needs
+slice-aggregate-pass-2 : tie.Need-slice-aggregate-pass-2
+slice-aggregate-pass-2 c = search needs
+
+pass-requires : tie.Need-pass-requires
+pass-requires c κs = search needs
+
+enum-known-v : tie.Need-enum-known-v
+enum-known-v c = search needs
 
 refusal-requires : tie.Need-refusal-requires
 refusal-requires c κs = search needs
 
-enum-known-count : tie.Need-enum-known-count
-enum-known-count c = search needs
+enum-told : tie.Need-enum-told
+enum-told c = search needs
 
-array-share-prefix-places : tie.Need-array-share-prefix-places
-array-share-prefix-places c = given-within (c .before .before .before .before .list .ensures) (c .before .before .before .before .before .before .room-for-list .ensures) (c .before .count .given .1)
+slice-aggregate-print-passed : tie.Need-slice-aggregate-print-passed
+slice-aggregate-print-passed c = search needs
 
-slice-aggregate-marked : tie.Need-slice-aggregate-marked
-slice-aggregate-marked c = sym (length-take-le _ _ (given-within (c .before .before .before .before .before .list .ensures) (c .before .before .before .before .before .before .before .room-for-list .ensures) (c .before .before .count .given .1)))
+slice-aggregate-print-passed-2 : tie.Need-slice-aggregate-print-passed-2
+slice-aggregate-print-passed-2 c = search needs
 
-marked-requires : tie.Need-marked-requires
-marked-requires c κs = given-few (c .before .before .before .before .before .before .list .ensures) (c .before .before .before .before .before .before .before .before .room-for-list .ensures) (c .before .before .before .count .given .1)
+print-passed-requires : tie.Need-print-passed-requires
+print-passed-requires c κs = c .before .before .before .before .before .before .before .before .pass .ensures .passed (c .before .before .before .enum-told .given .1)
 
 same-length : tie.Need-same-length
 same-length c = search needs
 
 returns : tie.Need-returns
-returns c =
-    let asked : tie.After-list = c .before .before .before .before .before .before .before .before in
-    printed-laid _ (asked .before .before .before .before .before .pre) (omega arith) (list-refused _ (asked .list .ensures) (asked .before .before .room-for-list .ensures) (c .before .before .before .before .before .why .given .1)) (c .before .before .refusal .ensures)
+returns c = 
+    let checked : tie.After-pass = c .before .before .before .before .before .before .before .before .before .before in
+    printed-laid _ (checked .before .before .before .before .before .before .before .pre) (omega arith) (check-refused _ (sym (checked .pass .ensures .verdict) ∙ c .before .before .before .before .before .v .given .1)) (c .before .before .refusal .ensures)
 
 same-length-2 : tie.Need-same-length-2
 same-length-2 c = search needs
 
 returns-2 : tie.Need-returns-2
-returns-2 c =
-    let asked : tie.After-list = c .before .before .before .before .before .before .before .before .before in
-    printed-laid _ (asked .before .before .before .before .before .pre) (omega arith) (list-given _ (asked .list .ensures) (asked .before .before .room-for-list .ensures) (c .before .before .before .before .before .before .count .given .1)) (c .before .before .marked .ensures)
+returns-2 c = let shown : tie.After-print-passed = c .before .before in printed-laid _ (shown .before .before .before .before .before .before .before .before .before .before .before .before .before .before .before .before .pre) (omega arith) refl (shown .print-passed .ensures)
 
 pub print-spec : {M : Type 1} → statement M
 print-spec =
     tie.close
     (tie.spec
-    room-for-list-requires
-    slice-aggregate-list
-    list-requires
-    enum-known-why
+    blank-requires
+    blank-requires-2
+    slice-aggregate-pass
+    slice-aggregate-pass-2
+    pass-requires
+    enum-known-v
     refusal-requires
-    enum-known-count
-    array-share-prefix-places
-    slice-aggregate-marked
-    marked-requires
+    enum-told
+    slice-aggregate-print-passed
+    slice-aggregate-print-passed-2
+    print-passed-requires
     same-length
     returns
     same-length-2

@@ -1,15 +1,15 @@
--- `merge::name_hashes` meets its contract: the bytes that are left are the names that are left. Assumes nothing.
+-- `tables::name_hashes` meets its contract: the bytes that are left are the names that are left. Assumes nothing.
 use Prim.Native.Nat.{ℕ, _-_}
 use mathlib.Core.Path.{sym, subst}
 use mathlib.Core.List.{List}
 use native.Mathlib.Omega.{arith}
 use Rattle.book.proofs.Named.{sought-here, sought-fits}
-use Rattle.book.proofs.Blank.{HashesLeft, hashes-start, hashes-end, name-sought, hashes-on}
+use Rattle.book.proofs.Blank.{TableLeft, Hashed, left-start, name-sought, hashes-on, hashes-end}
 use Rattle.book.proofs.tables.name_hashes.Statement.{statement}
 use Rattle.book.proofs.tables.name_hashes.Tie as tie
 
 abbrev Inv-loop : tie.InvT-loop
-Inv-loop names count hashes₀ at₀ n₀ hashes at n = HashesLeft names count hashes at n
+Inv-loop names count hashes₀ at₀ n₀ hashes at n = TableLeft names count (Hashed names) hashes at n
 
 abbrev μ-loop : tie.MeasureT-loop
 μ-loop names count hashes₀ at₀ n₀ hashes at n = count - n
@@ -18,7 +18,7 @@ zeros-requires : tie.Need-zeros-requires Inv-loop μ-loop
 zeros-requires c κs = tt
 
 loop-holds : tie.Need-loop-holds Inv-loop μ-loop
-loop-holds c = subst (λ (l : List ℕ). HashesLeft (c .before .before .args .names .now) (c .before .before .args .count) l 0 0) (sym (c .zeros .ensures)) (hashes-start (c .before .before .pre))
+loop-holds c = let names = c .before .before .args .names .now in subst (λ (l : List ℕ). TableLeft names (c .before .before .args .count) (Hashed names) l 0 0) (sym (c .zeros .ensures)) (left-start (c .before .before .pre))
 
 add-from : tie.Need-add-from Inv-loop μ-loop
 add-from c = omega (arith, sought-here (name-sought (c .before .before .before .before .pre) (c .before .loop .inv) (c .loop-test .taken)), c .before .before .before .before .fits)

@@ -1,5 +1,6 @@
 -- `actor::check_hashes` meets its contract. Assumes nothing.
-use Rattle.syntax.proofs.Book.{names-in, hashes-book, all-trees}
+use Rattle.book.proofs.Placed.{names-in}
+use Rattle.syntax.proofs.Book.{hashes-book, all-trees}
 use Rattle.syntax.proofs.hashes.Methods.{services-in}
 use borrow.Author.Needs.{needs}
 use Rattle.syntax.proofs.actor.check_hashes.Statement.{statement}

@@ -1,5 +1,5 @@
 -- `merge` meets its contract. Assumes nothing.
-use Rattle.syntax.proofs.Book.{names-in}
+use Rattle.book.proofs.Placed.{names-in}
 use Rattle.typing.proofs.init.Laws.{mergeable, merge-as}
 use borrow.Author.Needs.{needs}
 use Rattle.typing.proofs.init.merge.Statement.{statement}
