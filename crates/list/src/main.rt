@@ -1,4 +1,5 @@
-// Reads a book from standard input and prints its definition list with the names marked that have to be boxed, or its refusal.
+// Reads a book from the file that is named, or from standard input, and prints its definition list with the names marked that have to be boxed,
+// or its refusal. What is printed is proved; a read or a write that fails is told on standard error.
 ghost use Prim.Native.Nat.{_≤_, _<_};
 ghost use mathlib.Core.Path.{_≡_};
 ghost use lib.ListN.{length, take};
@@ -12,10 +13,9 @@ ghost use Rattle.print.specs.Laid.{Laid, LaidWithin};
 ghost use Rattle.list.specs.Printed.{heading, markOf, line, lines, marksIn, markedText, printed};
 use book::kinds::Contents;
 use book::kinds::Limits;
-use libc::STDIN_FILENO;
-use libc::STDOUT_FILENO;
 use refusals::Answer;
 use refusals::Verdict;
+use stdio::Input;
 use typing::prog::Passed;
 
 // The first line.
@@ -197,8 +197,10 @@ fn room_for_book() -> [u8; 65537]
 
 fn main() {
     let mut input = room_for_book();
-    let size = io::read_full(STDIN_FILENO, &mut input);
+    let Input::Read(size) = stdio::read(b"list", &mut input) else {
+        return;
+    };
     let mut out = room_for_print();
     let end = print(&input[..size], &mut out);
-    io::write_all(STDOUT_FILENO, &out[..end]);
+    stdio::write(b"list", &out[..end]);
 }

@@ -40,7 +40,7 @@ loop-less : tie.Need-loop-less Inv-loop μ-loop
 loop-less c = omega (arith, c .before .before .before .before .before .before .loop-test .taken)
 
 loop-again : tie.Need-loop-again Inv-loop μ-loop
-loop-again c = 
+loop-again c =
     let turn : tie.In-loop Inv-loop μ-loop = c .before .before .before .before .before .before in
     lines-on _ _ _ _ (turn .loop-test .taken) (turn .before .loop .inv) (c .before .before .before .before .mark-of .ensures) (c .before .before .named .ensures)
 

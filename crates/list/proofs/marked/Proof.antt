@@ -32,7 +32,7 @@ array-share-prefix-room : tie.Need-array-share-prefix-room
 array-share-prefix-room c = let asked : tie.After-marks-passed = c .before .before .before .before in given-within (marks-handed (asked .before .before .before .before .before .before .before .before .pre .0) _ (asked .marks-passed .ensures)) (asked .before .before .room-for-marks .ensures) (c .before .count .given .1)
 
 slice-aggregate-table : tie.Need-slice-aggregate-table
-slice-aggregate-table c = 
+slice-aggregate-table c =
     let asked : tie.After-marks-passed = c .before .before .before .before .before in
     sym (length-take-le _ _ (given-within (marks-handed (asked .before .before .before .before .before .before .before .before .pre .0) _ (asked .marks-passed .ensures)) (asked .before .before .room-for-marks .ensures) (c .before .before .count .given .1)))
 
@@ -43,7 +43,7 @@ same-length : tie.Need-same-length
 same-length c = search needs
 
 returns : tie.Need-returns
-returns c = 
+returns c =
     let asked : tie.After-marks-passed = c .before .before .before .before .before .before .before .before in
     wider (omega arith) (marks-refused _ _ (marks-handed (asked .before .before .before .before .before .before .before .before .pre .0) _ (asked .marks-passed .ensures)) (asked .before .before .room-for-marks .ensures) (c .before .before .before .before .before .why .given .1)) (c .before .before .refusal .ensures)
 
@@ -51,7 +51,7 @@ same-length-2 : tie.Need-same-length-2
 same-length-2 c = search needs
 
 returns-2 : tie.Need-returns-2
-returns-2 c = 
+returns-2 c =
     let asked : tie.After-marks-passed = c .before .before .before .before .before .before .before .before .before in
     marks-laid _ _ (marks-handed (asked .before .before .before .before .before .before .before .before .pre .0) _ (asked .marks-passed .ensures)) (asked .before .before .room-for-marks .ensures) (asked .before .before .before .before .before .before .before .before .pre .1) (c .before .before .before .before .before .before .count .given .1) (c .before .before .table .ensures)
 

@@ -44,7 +44,7 @@ same-length-2 : tie.Need-same-length-2
 same-length-2 c = search needs
 
 returns-2 : tie.Need-returns-2
-returns-2 c = 
+returns-2 c =
     let called : tie.After-name-from = c .before .before .before .before in
     alias (ap (line _ _) (called .name-from .ensures ∙ called .before .before .before .before .before .before .pre .at _ (called .before .before .if1 .left) .is)) (c .before .before .line2 .ensures)
 

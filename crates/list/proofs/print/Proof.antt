@@ -44,7 +44,7 @@ same-length : tie.Need-same-length
 same-length c = search needs
 
 returns : tie.Need-returns
-returns c = 
+returns c =
     let checked : tie.After-pass = c .before .before .before .before .before .before .before .before .before .before in
     printed-laid _ (checked .before .before .before .before .before .before .before .pre) (omega arith) (check-refused _ (sym (checked .pass .ensures .verdict) ∙ c .before .before .before .before .before .v .given .1)) (c .before .before .refusal .ensures)
 

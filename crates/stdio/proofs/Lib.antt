@@ -1,0 +1,2 @@
+-- Laws that the programs cite.
+pub mod Laws
