@@ -36,6 +36,27 @@ try list tests/layout/length-0.did 1 'check refused 1 -'
 try list tests/layout/length-31.did 1 'check refused 1 -'
 try list tests/layout/length-65537.did 1 'check refused 1 -'
 
+# fail OUTPUT ERROR [ARGUMENT ..]: status 2, and what failed on standard error.
+fail() {
+    local to=$1 expected=$2 found=0 errors
+    shift 2
+    errors=$(target/c/list "$@" 2>&1 >"$to") || found=$?
+    if [ "$found" != 2 ] || [ "$errors" != "$expected" ]; then
+        printf 'list, %s: status %s and\n%s\nwhere 2 and\n%s\nis right\n' "$*" "$found" "$errors" "$expected" >&2
+        exit 1
+    fi
+    echo "list, $expected: right"
+}
+
+export LC_ALL=C
+fail /dev/null 'usage: list BOOK [PLACES]'
+fail /dev/null 'usage: list BOOK [PLACES]' target/c/book 513
+fail /dev/null 'usage: list BOOK [PLACES]' target/c/book x
+fail /dev/null 'usage: list BOOK [PLACES]' target/c/book 2 3
+fail /dev/null 'list: target/c/missing: No such file or directory' target/c/missing
+fail /dev/null 'list: target/c: Is a directory' target/c
+fail /dev/full 'list: standard output: No space left on device' target/c/book
+
 # ask SOURCE NAME METHOD PLACES: every question, as the second reading of document 01 answers it. tools/test_tools.py has its answers to
 # these calls by hand.
 ask() { try questions "$1" 0 "$(python3 tools/answers.py "$@")" "${@:2}"; }

@@ -1,14 +1,18 @@
 #!/usr/bin/env python3
 r"""Tests the built program `list`:  python3 tools/test_programs.py
 
-`rt check list` builds it and runs it on P1; here it reads every book of tests, books at the limits, and bytes that are none.
+`rt check list` builds it and runs it on P1; here it reads every book of tests, books at the limits, bytes that are none, and files that cannot
+be read or written.
 What it must write comes from tools/answers.py, which reads the bytes by the paper alone, and in part from the paper by hand.
 Without the program all tests are skipped.
 """
 
 import os
 import random
+import socket
+import struct
 import subprocess
+import tempfile
 import time
 import unittest
 
@@ -115,6 +119,67 @@ class List(unittest.TestCase):
                 time.sleep(0.01)
             run.stdin.close()
             self.assertEqual(run.stdout.read().decode(), answers.listing(book))
+
+
+    # ---- files, and what fails
+
+    def runs(self, arguments, output, errors, **streams):
+        """What is written to standard output and to standard error; the C library's texts are in English here."""
+        found = subprocess.run([PROGRAM, *arguments], env={}, **{"stdin": subprocess.DEVNULL, "stdout": subprocess.PIPE, **streams}, stderr=subprocess.PIPE)
+        self.assertEqual((found.stdout, found.stderr.decode(), found.returncode), (output, errors, 0), arguments)
+
+    def test_file(self):
+        """A file that is named is read, whatever stands on standard input."""
+        book = book_of("tests", "list", "p01.did")
+        with tempfile.TemporaryDirectory() as folder:
+            path = os.path.join(folder, "book")
+            for data in (book, b"", book + b"\0", book_of("bench", "full.did")):
+                with open(path, "wb") as file:
+                    file.write(data)
+                self.runs([path], answers.listing(data).encode(), "")
+            deep = os.path.join(folder, *["d" * 200] * 18)
+            os.makedirs(deep)
+            long = os.path.join(deep, "b" * (4095 - len(deep) - 1))
+            self.assertEqual(len(long), 4095)
+            descriptor = os.open(deep, os.O_RDONLY)
+            with os.fdopen(os.open(os.path.basename(long), os.O_WRONLY | os.O_CREAT, dir_fd=descriptor), "wb") as file:
+                file.write(book)
+            os.close(descriptor)
+            self.runs([long], answers.listing(book).encode(), "")
+            self.runs([long + "b"], b"", "list: the file's name: File name too long\n")
+
+    def test_failed_read(self):
+        """A failure is told with its reason, nothing is printed, and none is taken for an empty book."""
+        with tempfile.TemporaryDirectory() as folder:
+            missing = os.path.join(folder, "missing")
+            self.runs([missing], b"", f"list: {missing}: No such file or directory\n")
+            self.runs([folder], b"", f"list: {folder}: Is a directory\n")
+            self.runs([os.path.join(folder, "")[:-1] + "/x/y"], b"", f"list: {folder}/x/y: No such file or directory\n")
+            with open(missing, "wb") as write_only:
+                self.runs([], b"", "list: standard input: Bad file descriptor\n", stdin=write_only)
+            descriptor = os.open(folder, os.O_RDONLY)
+            self.runs([], b"", "list: standard input: Is a directory\n", stdin=descriptor)
+            os.close(descriptor)
+        self.runs([""], b"", "list: : No such file or directory\n")
+        for arguments in (["a", "b"], ["", "", ""]):
+            self.runs(arguments, b"", "usage: list [FILE]\n")
+
+    def test_read_that_fails_later(self):
+        """A failure after the first bytes of a book, even of a whole one, is no end of the input."""
+        book = book_of("tests", "list", "p01.did")
+        for size in (len(book), 40):
+            ours, theirs = socket.socketpair()
+            with ours, theirs:
+                ours.sendall(book[:size])
+                theirs.setsockopt(socket.SOL_SOCKET, socket.SO_RCVTIMEO, struct.pack("ll", 0, 100_000))
+                self.runs([], b"", "list: standard input: Resource temporarily unavailable\n", stdin=theirs)
+
+    def test_failed_write(self):
+        book = os.path.join(ROOT, "crates", "list", "stdin")
+        with open("/dev/full", "wb") as full:
+            self.runs([book], None, "list: standard output: No space left on device\n", stdout=full)
+        with open(os.devnull, "rb") as read_only:
+            self.runs([book], None, "list: standard output: Bad file descriptor\n", stdout=read_only)
 
 
 if __name__ == "__main__":
