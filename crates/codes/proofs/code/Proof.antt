@@ -1,10 +1,10 @@
 -- `code` meets its contract. Assumes nothing.
 use native.Mathlib.Omega.{arith}
-use Rattle.exports.proofs.Codes.{passed-code, refused-code}
-use Rattle.exports.proofs.Read.{passed-read, refused-read}
+use Rattle.codes.proofs.Codes.{passed-code, refused-code}
+use Rattle.codes.proofs.Read.{passed-read, refused-read}
 use borrow.Author.Needs.{needs}
-use Rattle.exports.proofs.code.Statement.{statement}
-use Rattle.exports.proofs.code.Tie as tie
+use Rattle.codes.proofs.code.Statement.{statement}
+use Rattle.codes.proofs.code.Tie as tie
 
 enum-told : tie.Need-enum-told
 enum-told c = search needs

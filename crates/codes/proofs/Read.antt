@@ -1,18 +1,15 @@
 -- What the header reads in a code, and that codes that are read alike are of the same verdict or answer. Assumes, where a code is read, that
--- the name and the entries are below the unit of the row: the functions know it of names by their types, of entries by proofs/Small.antt.
+-- the name and the entries are below the unit of the row: the functions know it of names by their types, and ask it of entries.
 --     passed-read, refused-read              a verdict is read
 --     given-read, refusal-read               an answer is read
 --     answer-settled, uses-settled           answers that are read alike are the same
---     check-settled, init-check-settled      and verdicts
-use mathlib.Core.Path.{_≡_, refl, sym, ap, subst, _∙_}
+--     verdict-settled                        and verdicts, where one is not refused with row 16
+use mathlib.Core.Path.{_≡_, refl, sym, ap, _∙_}
 use mathlib.Core.Logic.{inl, inr}
-use mathlib.Core.Bool.{false}
-use mathlib.Core.List.{List, _∷_, _++_, List·Memᴰ, Memᴰ·cast}
 use Prim.Native.Nat.{ℕ, _+_, _*_, _/_, _%_, _≤_, _<_}
 use native.Mathlib.Nat.{add-zero, div-eq-of-lt, mod-eq-of-lt, mul-add-div-right, mul-add-mod-self-right}
 use native.Mathlib.Decide.{ℕ-discrete}
 use native.Mathlib.Omega.{arith}
-use lib.Dec.{T}
 use Rattle.refusals.specs.declared.Refusal.{Refusal}
 use Rattle.refusals.specs.declared.Refusal.the-variants.{Short}
 use Rattle.refusals.specs.declared.Verdict.{Verdict}
@@ -21,13 +18,8 @@ use Rattle.refusals.specs.Refusal.{numberOf, nameOf, neededOf}
 use Rattle.refusals.specs.declared.Answer.{Answer}
 use Rattle.refusals.specs.declared.Answer.the-variants.{Given, Refused as RefusedAnswer}
 use Rattle.refusals.proofs.Refusals.{number-some, needed-short, row-short, row-settles}
-use Rattle.format.specs.Admission.{Source, admissionRows}
-use Rattle.judgement.specs.Check.{member, checkBytes, initCheckBytes}
-use Rattle.judgement.specs.Rows.{checkRows}
-use Rattle.judgement.proofs.Lookup.{member-says}
-use Rattle.judgement.proofs.Rows.{check-bytes-numbers, init-check-bytes-numbers}
-use Rattle.exports.specs.Coded.{lowOf, refusalIn, nameIn, entriesIn, usesRefusalIn, usesNameIn, usesEntriesIn, SaysVerdict, SaysWhy, SaysAnswer, ReadVerdict, ReadAnswer, ReadUses}
-use Rattle.exports.proofs.Codes.{low-needed, low-name}
+use Rattle.codes.specs.Coded.{lowOf, refusalIn, nameIn, entriesIn, usesRefusalIn, usesNameIn, usesEntriesIn, SaysVerdict, SaysWhy, SaysAnswer, ReadVerdict, ReadAnswer, ReadUses}
+use Rattle.codes.proofs.Codes.{low-needed, low-name}
 
 -- ---- The high and the low part of a number
 high : (unit number low : ℕ) → low < unit → (number * unit + low) / unit ≡ number
@@ -89,7 +81,7 @@ module _ (refusal named : ℕ) where
   answer-same entries (RefusedAnswer r) (Given m) x y = not-read (y .0) (x .some)
   answer-same entries (RefusedAnswer r) (RefusedAnswer s) x y = ap RefusedAnswer (why-same entries r s x y)
 
-  -- a verdict's code has no entries needed, and no check is refused with row 16
+  -- a verdict's code has no entries needed
   verdict-same : (v w : Verdict) → ((r : Refusal) → v ≡ Refused r → numberOf r ≡ 16 → ⊥) → SaysVerdict v refusal named → SaysVerdict w refusal named → v ≡ w
   verdict-same Passed Passed n x y = refl
   verdict-same Passed (Refused s) n x y = not-read x (y .some)
@@ -102,17 +94,5 @@ answer-settled a b code = answer-same (refusalIn code) (nameIn code) (entriesIn 
 pub uses-settled : (a b : Answer) (code : ℕ) → ReadUses a code → ReadUses b code → a ≡ b
 uses-settled a b code = answer-same (usesRefusalIn code) (usesNameIn code) (usesEntriesIn code) a b
 
--- Two books whose checks are read alike have the same verdict.
-not-short : (rows : List ℕ) → member 16 rows ≡ false → (r : Refusal) → List·Memᴰ (numberOf r) rows → numberOf r ≡ 16 → ⊥
-not-short rows h r m e = subst T h (member-says 16 rows .1 (Memᴰ·cast (sym e) m))
-
-pub check-settled : (bs cs : Source) (code : ℕ) → ReadVerdict (checkBytes bs) code → ReadVerdict (checkBytes cs) code → checkBytes bs ≡ checkBytes cs
-unfolding member
-check-settled bs cs code =
-    verdict-same (refusalIn code) (nameIn code) (checkBytes bs) (checkBytes cs) (λ r e. not-short (admissionRows ++ checkRows) refl r (check-bytes-numbers bs e))
-
-pub init-check-settled : (bs cs : Source) (code : ℕ) → ReadVerdict (initCheckBytes bs) code → ReadVerdict (initCheckBytes cs) code → initCheckBytes bs ≡ initCheckBytes cs
-unfolding member
-init-check-settled bs cs code =
-    verdict-same (refusalIn code) (nameIn code) (initCheckBytes bs) (initCheckBytes cs)
-    (λ r e. not-short (admissionRows ++ 11 ∷ checkRows) refl r (init-check-bytes-numbers bs e))
+pub verdict-settled : (v w : Verdict) (code : ℕ) → ((r : Refusal) → v ≡ Refused r → numberOf r ≡ 16 → ⊥) → ReadVerdict v code → ReadVerdict w code → v ≡ w
+verdict-settled v w code = verdict-same (refusalIn code) (nameIn code) v w

@@ -1,10 +1,10 @@
 -- `low` meets its contract. Assumes nothing.
 use mathlib.Core.Path.{sym, _∙_}
 use native.Mathlib.Omega.{arith}
-use Rattle.exports.proofs.Codes.{low-needed, low-name}
+use Rattle.codes.proofs.Codes.{low-needed, low-name}
 use borrow.Author.Needs.{needs}
-use Rattle.exports.proofs.low.Statement.{statement}
-use Rattle.exports.proofs.low.Tie as tie
+use Rattle.codes.proofs.low.Statement.{statement}
+use Rattle.codes.proofs.low.Tie as tie
 
 number-requires : tie.Need-number-requires
 number-requires c κs = search needs

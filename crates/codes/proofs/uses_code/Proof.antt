@@ -1,12 +1,12 @@
 -- `uses_code` meets its contract. Assumes nothing.
 use mathlib.Core.Path.{subst}
 use native.Mathlib.Omega.{arith}
-use Rattle.exports.specs.Coded.{Below, wide}
-use Rattle.exports.proofs.Codes.{given-code, answer-refused}
-use Rattle.exports.proofs.Read.{given-read, refusal-read}
+use Rattle.codes.specs.Coded.{Below, wide}
+use Rattle.codes.proofs.Codes.{given-code, answer-refused}
+use Rattle.codes.proofs.Read.{given-read, refusal-read}
 use borrow.Author.Needs.{needs}
-use Rattle.exports.proofs.uses_code.Statement.{statement}
-use Rattle.exports.proofs.uses_code.Tie as tie
+use Rattle.codes.proofs.uses_code.Statement.{statement}
+use Rattle.codes.proofs.uses_code.Tie as tie
 
 enum-known-a : tie.Need-enum-known-a
 enum-known-a c = search needs

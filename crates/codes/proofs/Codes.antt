@@ -8,7 +8,7 @@ use Rattle.refusals.specs.declared.Verdict.the-variants.{Passed, Refused}
 use Rattle.refusals.specs.Refusal.{numberOf, nameOf, neededOf}
 use Rattle.refusals.specs.declared.Answer.{Answer}
 use Rattle.refusals.specs.declared.Answer.the-variants.{Given, Refused as RefusedAnswer}
-use Rattle.exports.specs.Coded.{coded, lowOf, codedBy}
+use Rattle.codes.specs.Coded.{coded, lowOf, codedBy}
 
 pub passed-code : {v : Verdict} → v ≡ Passed → 0 ≡ coded v
 unfolding coded

@@ -1,16 +1,12 @@
 -- Verdicts and answers as one number each, and how include/ludzepin.h takes them apart again. Definitions; assumes nothing.
 use mathlib.Core.Path.{_≡_}
 use mathlib.Core.Bool.{cond}
-use mathlib.Core.List.{List}
 use Prim.Native.Nat.{ℕ, _+_, _*_, _/_, _%_, _≤_, _<_}
 use lib.Dec.{eqb}
 use Rattle.refusals.specs.declared.Refusal.{Refusal}
 use Rattle.refusals.specs.declared.Verdict.{Verdict}
 use Rattle.refusals.specs.declared.Verdict.the-variants.{Passed, Refused}
 use Rattle.refusals.specs.Refusal.{numberOf, nameOf, neededOf}
-use Rattle.format.specs.Book.{Book}
-use Rattle.refusals.specs.Outcome.{Outcome, fit}
-use Rattle.format.specs.Admission.{Source, onBytes}
 use Rattle.refusals.specs.declared.Answer.{Answer}
 use Rattle.refusals.specs.declared.Answer.the-variants.{Given, Refused as RefusedAnswer}
 
@@ -45,10 +41,6 @@ codedAnswer a = codedBy small a
 
 abbrev pub codedUses : Answer → ℕ
 codedUses a = codedBy wide a
-
--- What a question is answered on bytes, with so many places.
-abbrev pub inPlaces : {A : Type 0} → (Book → Outcome (List A)) → Source → ℕ → Outcome (List A)
-inPlaces question bs places = fit places (onBytes question bs)
 
 -- ---- The arithmetic of include/ludzepin.h, a definition for each function there. No proof reads that file, so its text is to be held
 -- against these lines: `answer >> 16` is a division by 2^16, `answer & 65535` its remainder; of uses likewise `answer >> 32` and the cast of
@@ -93,8 +85,8 @@ abbrev pub SaysAnswer : Answer → (refusal named entries : ℕ) → Type 0
 SaysAnswer (Given n) refusal named entries = (refusal ≡ 0) × (entries ≡ n)
 SaysAnswer (RefusedAnswer r) refusal named entries = SaysWhy r refusal named entries
 
--- What the header reads in a number is this verdict, or this answer. (proofs/Read.antt: no two answers are read alike in a number, and no two
--- verdicts of a check.)
+-- What the header reads in a number is this verdict, or this answer. No two answers are read alike in a number (proofs/Read.antt), and no two
+-- verdicts of a check (exports, proofs/Settled.antt).
 abbrev pub ReadVerdict : Verdict → ℕ → Type 0
 ReadVerdict v code = SaysVerdict v (refusalIn code) (nameIn code)
 
