@@ -5,7 +5,7 @@
  * functions keep nothing between calls, allocate nothing and call only memcpy, memmove and memset. They need stack: 1 MiB is enough for
  * each of them on every book (docs/MEASURED.md has the figures), which is more than some systems give to a thread by default.
  *
- * crates/exports/specs/Coded.antt defines the answers and, once more, the arithmetic of the six functions at the end of this file;
+ * crates/codes/specs/Coded.antt defines the answers and, once more, the arithmetic of the six functions at the end of this file;
  * crates/exports/src/lib.rt promises of each answer that this arithmetic gives back its refusal, name and entries. No proof reads this
  * file: nothing compares the two texts but c/build.sh, which tries them. */
 #ifndef LUDZEPIN_H

@@ -1,4 +1,3 @@
 -- Laws that the proofs of the functions cite.
-pub mod Codes
 pub mod Small
-pub mod Read
+pub mod Settled

@@ -12,7 +12,7 @@ use Rattle.refusals.specs.Outcome.{Outcome, refused, given}
 use Rattle.refusals.specs.Handed.{answerOf}
 use Rattle.refusals.proofs.Refusals.{needed-short}
 use Rattle.listing.specs.Room.{Most}
-use Rattle.exports.specs.Coded.{Below}
+use Rattle.codes.specs.Coded.{Below}
 
 module _ {A : Type 0} (unit most : ℕ) (less : most < unit) where
   needs : (r : Refusal) → ((k : ℕ) → _≡_ {A = Outcome (List A)} (refused r) (refused (Short k)) → k ≤ most) → neededOf r < unit

@@ -1,2 +1,2 @@
--- The numbers that are answered.
-pub mod Coded
+-- What is answered with so many places.
+pub mod Places

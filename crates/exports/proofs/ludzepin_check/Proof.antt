@@ -1,7 +1,7 @@
 -- `ludzepin_check` meets its contract. Assumes nothing.
 use mathlib.Core.Path.{ap, subst, _∙_}
 use Rattle.refusals.specs.declared.Verdict.{Verdict}
-use Rattle.exports.specs.Coded.{coded, ReadVerdict}
+use Rattle.codes.specs.Coded.{coded, ReadVerdict}
 use borrow.Author.Needs.{needs}
 use Rattle.exports.proofs.ludzepin_check.Statement.{statement}
 use Rattle.exports.proofs.ludzepin_check.Tie as tie

@@ -2,7 +2,7 @@
 use mathlib.Core.Path.{sym, ap, subst, _∙_}
 use native.Mathlib.Omega.{arith}
 use Rattle.refusals.specs.declared.Answer.{Answer}
-use Rattle.exports.specs.Coded.{codedAnswer, Below, small, ReadAnswer}
+use Rattle.codes.specs.Coded.{codedAnswer, Below, small, ReadAnswer}
 use Rattle.exports.proofs.Small.{most-below}
 use Rattle.listing.proofs.Marks.{marks-bytes-most}
 use borrow.Author.Needs.{needs}

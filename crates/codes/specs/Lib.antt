@@ -1,0 +1,2 @@
+-- The numbers that are answered.
+pub mod Coded

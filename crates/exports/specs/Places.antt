@@ -1,0 +1,9 @@
+-- What a question is answered on bytes, with so many places. Definitions; assumes nothing.
+use mathlib.Core.List.{List}
+use Prim.Native.Nat.{ℕ}
+use Rattle.format.specs.Book.{Book}
+use Rattle.refusals.specs.Outcome.{Outcome, fit}
+use Rattle.format.specs.Admission.{Source, onBytes}
+
+abbrev pub inPlaces : {A : Type 0} → (Book → Outcome (List A)) → Source → ℕ → Outcome (List A)
+inPlaces question bs places = fit places (onBytes question bs)
