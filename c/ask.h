@@ -1,6 +1,6 @@
 /* Every question of include/ludzepin.h in one table, for the programs that ask them all; a new one is named here alone.
  *
- * Words and order are those of the stored list (docs/REPLAY.md). */
+ * Words and order are those of the stored list (docs/TESTING.md). */
 #ifndef ASK_H
 #define ASK_H
 

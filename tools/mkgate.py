@@ -1,13 +1,13 @@
 #!/usr/bin/env python3
 """Writes what the programs are run on and must write:  python3 tools/mkgate.py [--check]
 
-    crates/answer_batch/stdin, stdout     the stored list (docs/REPLAY.md), with the outcome of every question and the tally
+    crates/answer_batch/stdin, stdout     the stored list (docs/TESTING.md), with the outcome of every question and the tally
     crates/list/stdin, stdout             P1 and its list
 
 Books come from the sources by tools/mkbook.py. What the programs must write comes from the sources' first lines and
 from tools/layout.py and tools/answers.py, which read the bytes by the paper alone, and never from the programs;
-oracle/replay.sh makes the lines of answer_batch anew from the Rust. With --check nothing is written: the files that
-are not current are named, and the exit status is 1 if there are any.
+oracle/replay.sh makes the lines of answer_batch anew from the Rust. With --check nothing is written: each file is said
+to be current or not, and the exit status is 1 if one is not.
 """
 
 import functools
@@ -71,14 +71,17 @@ def is_current(path, data):
 def main():
     if sys.argv[1:] not in ([], ["--check"]):
         sys.exit("usage: python3 tools/mkgate.py [--check]")
-    stale = [(name, data) for name, data in files().items() if not is_current(os.path.join(ROOT, name), data)]
-    for name, data in stale:
-        print(f"{name}: {'not current' if sys.argv[1:] else 'written'}")
-        if not sys.argv[1:]:
-            os.makedirs(os.path.dirname(os.path.join(ROOT, name)), exist_ok=True)
-            with open(os.path.join(ROOT, name), "wb") as file:
+    checks, stale = bool(sys.argv[1:]), 0
+    for name, data in files().items():
+        path = os.path.join(ROOT, name)
+        current = is_current(path, data)
+        stale += not current
+        print(f"{name}: {'current' if current else 'not current' if checks else 'written'}")
+        if not current and not checks:
+            os.makedirs(os.path.dirname(path), exist_ok=True)
+            with open(path, "wb") as file:
                 file.write(data)
-    sys.exit(1 if stale and sys.argv[1:] else 0)
+    sys.exit(1 if checks and stale else 0)
 
 
 if __name__ == "__main__":

@@ -1,5 +1,5 @@
 #!/usr/bin/env python3
-"""The stored list of books with the Rust's answers, crates/answer_batch/stdin and stdout. docs/REPLAY.md says how it was made.
+"""The stored list of books with the Rust's answers, crates/answer_batch/stdin and stdout. docs/TESTING.md says how it was made.
 
     python3 tools/replay.py answer < BATCH              what answer_batch has to print of a batch, by tools/answers.py
     python3 tools/replay.py join BATCH RUST > EXPECTED  the same by `oracle answer`: the Rust's lines, and those of tools/answers.py

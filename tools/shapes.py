@@ -1,5 +1,5 @@
 #!/usr/bin/env python3
-"""What a book has, for the stored list (docs/REPLAY.md):
+"""What a book has, for the stored list (docs/TESTING.md):
 
     python3 tools/shapes.py                        every shape and outcome with the sources of the list that have it
     python3 tools/shapes.py choose BATCH FOLDER    the books of a batch of `oracle generate` that have what the list lacks, written as

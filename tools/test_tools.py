@@ -9,6 +9,9 @@ import sys
 import tempfile
 import unittest
 
+HERE = os.path.dirname(os.path.abspath(__file__))
+sys.path.append(os.path.join(HERE, "..", "bench"))
+
 import answers
 import antt_bytes
 import benchbooks
@@ -20,7 +23,6 @@ import plot
 import replay
 import shapes
 
-HERE = os.path.dirname(os.path.abspath(__file__))
 FOLDER = os.path.join(HERE, "..", "tests", "layout")
 SOURCES = dict(mkbatch.sources(FOLDER))
 BOOKS = {name: mkbook.book(text) for name, text in SOURCES.items()}
@@ -472,7 +474,7 @@ class ListSources(unittest.TestCase):
 
 
 class Replay(unittest.TestCase):
-    """The stored list, crates/answer_batch/stdin and stdout: docs/REPLAY.md."""
+    """The stored list, crates/answer_batch/stdin and stdout: docs/TESTING.md."""
 
     @classmethod
     def setUpClass(cls):
@@ -576,13 +578,26 @@ class Replay(unittest.TestCase):
         self.assertGreater(len(some), 10)
 
     def test_document(self):
-        """Each line that docs/REPLAY.md shows for a sentence of document 01 is a line of the list, and each refusal is shown."""
-        with open(os.path.join(HERE, "..", "docs", "REPLAY.md"), encoding="utf-8") as file:
+        """docs/TESTING.md has the list's size."""
+        with open(os.path.join(HERE, "..", "docs", "TESTING.md"), encoding="utf-8") as file:
             text = file.read()
-        lines, shown = set(self.lines.splitlines()), re.findall(rf"`((?:{'|'.join(mkgate.REPLAYED)})/[^`\s]+ [^`]*)`", text)
-        self.assertGreater(len(shown), 150)
         self.assertIn(f" {len(self.sources)} books", text)
         self.assertIn(f" {sum(len(outcomes) for _, _, _, outcomes in self.sources):,} lines", text)
+
+    def test_sentences(self):
+        """Each line that tests/sentences.txt shows for a sentence of document 01 is a line of the list, each sentence has one, and each
+        refusal and each question is shown."""
+        shown_by = []
+        with open(os.path.join(HERE, "..", "tests", "sentences.txt"), encoding="utf-8") as file:
+            for line in file.read().splitlines():
+                if line.startswith("    "):
+                    shown_by[-1][1].append(line[4:])
+                elif line and not line.startswith("#"):
+                    shown_by.append((line, []))
+        self.assertGreater(len(shown_by), 100)
+        self.assertEqual([sentence for sentence, shown in shown_by if not shown], [])
+        lines, shown = set(self.lines.splitlines()), [line for _, shown in shown_by for line in shown]
+        self.assertGreater(len(shown), 350)
         self.assertEqual([line for line in shown if line not in lines], [])
         refused = {int(number) for line in shown for number in re.findall(r" refused ([0-9]+) ", line)}
         self.assertEqual(refused, set(range(1, 18)))

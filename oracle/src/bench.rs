@@ -1,5 +1,5 @@
-//! How long the reader's exported functions and the customer's Rust take for the same books, in one process. oracle/bench.sh runs it,
-//! docs/BENCHMARKS.md says what is compared.
+//! How long the reader's exported functions and the customer's Rust take for the same books, in one process. bench/bench.sh runs it,
+//! docs/FIGURES.md says what is compared.
 
 #[cfg(counted)]
 #[path = "measure.rs"]

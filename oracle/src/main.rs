@@ -1,4 +1,4 @@
-//! The customer's Rust beside the reader: answers, random books and the comparison. docs/ORACLE.md says how to run it.
+//! The customer's Rust beside the reader: answers, random books and the comparison. docs/TESTING.md says how to run it.
 
 mod answer;
 mod book;

@@ -1,5 +1,5 @@
 #!/usr/bin/env python3
-"""Measures the stack that the built programs need:  python3 tools/stack.py [PROGRAM ..]
+"""Measures the stack that the built programs need:  python3 bench/stack.py [PROGRAM ..]
 
 For each program (all if none is named) and each book of its own, a small one and the deepest and largest, prints the least
 limit on the stack, in KiB, under which the program writes what is right; then the most of a program's books. What is right
@@ -11,6 +11,8 @@ import os
 import resource
 import subprocess
 import sys
+
+sys.path.append(os.path.join(os.path.dirname(os.path.abspath(__file__)), "..", "tools"))
 
 import answers
 import mkbatch
@@ -87,7 +89,7 @@ def measure(program):
 def main():
     unknown = set(sys.argv[1:]) - set(PROGRAMS)
     if unknown:
-        sys.exit(f"usage: python3 tools/stack.py [PROGRAM ..], of {' '.join(PROGRAMS)}")
+        sys.exit(f"usage: python3 bench/stack.py [PROGRAM ..], of {' '.join(PROGRAMS)}")
     for program in sys.argv[1:] or PROGRAMS:
         measure(program)
 

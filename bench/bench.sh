@@ -1,11 +1,11 @@
 #!/bin/sh
-# Times and measures the reader's exported functions and the customer's Rust on the same books:  oracle/bench.sh [SOURCES]
+# Times and measures the reader's exported functions and the customer's Rust on the same books:  bench/bench.sh [SOURCES]
 # It makes the static library, and oracle/build.sh, whose SOURCES is as there, is run if it was not. The oracle is compiled anew as cargo's
 # release profile does, in one unit, without the assertions that it has in comparisons; and once more with an allocator that counts, for
-# measuring alone. The figures stay in target/oracle/bench: books.tsv (nanoseconds; tools/benchbooks.py; five processes, since one differs
+# measuring alone. The figures stay in target/oracle/bench: books.tsv (nanoseconds; bench/benchbooks.py; five processes, since one differs
 # from another), sweep.tsv (every book of tests/check and tests/list that the Rust answers), measure.tsv (bytes of stack and heap; these books
-# and all of the tests) and undefined (what the library calls). At the end docs/benchmarks.tsv, docs/benchmarks.svg and the tables of
-# docs/BENCHMARKS.md are made of them by tools/plot.py; the sentences there are not.
+# and all of the tests) and undefined (what the library calls). At the end bench/benchmarks.tsv is books.tsv, and
+# bench/plot.py makes bench/benchmarks.svg and the tables of bench/tables.md and docs/FIGURES.md; the sentences there it does not change.
 set -eu
 root=$(cd "$(dirname "$0")/.." && pwd)
 out=$root/target/oracle/bench
@@ -26,8 +26,8 @@ compile --cap-lints allow --crate-type rlib --crate-name stacker "$root/oracle/s
 compile --cap-lints allow --crate-type rlib --crate-name candid --extern stacker "$tree/candid/lib.rs"
 oracle --crate-name oracle
 oracle --crate-name measure --cfg counted
-python3 "$root/tools/benchbooks.py" >"$out/books"
-python3 "$root/tools/benchbooks.py" uses >"$out/books-uses"
+python3 "$root/bench/benchbooks.py" >"$out/books"
+python3 "$root/bench/benchbooks.py" uses >"$out/books-uses"
 for run in 1 2 3 4 5; do
     "$out/oracle" bench 21 1000 <"$out/books" >"$out/run-$run.tsv"
     "$out/oracle" bench-uses 7 1000 <"$out/books-uses" >"$out/uses.tsv"
@@ -40,5 +40,5 @@ done
 cat "$out/books-check" "$out/books-list" | "$out/oracle" bench 21 20 >"$out/sweep.tsv"
 cat "$out/books-layout" "$out/books-check" "$out/books-list" "$out/books" | "$out/measure" measure >"$out/measure.tsv"
 nm --undefined-only --format=just-symbols "$root/target/staticlib/libexports.a" | grep -v ':$' | sort -u | xargs >"$out/undefined"
-cp "$out/books.tsv" "$root/docs/benchmarks.tsv"
-python3 "$root/tools/plot.py" "$root/docs/benchmarks.tsv" "$root/docs/benchmarks.svg" "$out" "$root/docs/BENCHMARKS.md" >"$out/tables.md"
+cp "$out/books.tsv" "$root/bench/benchmarks.tsv"
+python3 "$root/bench/plot.py" "$out"

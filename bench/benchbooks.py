@@ -1,5 +1,5 @@
 #!/usr/bin/env python3
-"""Writes the batch of books that oracle/bench.sh times:  python3 tools/benchbooks.py [uses] > BATCH
+"""Writes the batch of books that bench/bench.sh times:  python3 bench/benchbooks.py [uses] > BATCH
 
 Books of three sizes as they are met, c/full.did, books with few and with many methods, books with init files, and series SERIES-SIZE in
 which one thing grows; with `uses` those alone of which the uses are timed. The batch is laid out as that of tools/mkbatch.py; every book
@@ -11,9 +11,10 @@ import random
 import struct
 import sys
 
-import mkbook
-
 ROOT = os.path.join(os.path.dirname(os.path.abspath(__file__)), "..")
+sys.path.append(os.path.join(ROOT, "tools"))
+
+import mkbook
 
 # A ledger: 12 definitions.
 SMALL = """
@@ -207,7 +208,7 @@ def is_for_uses(name):
 
 def main():
     if sys.argv[1:] not in ([], ["uses"]):
-        sys.exit("usage: python3 tools/benchbooks.py [uses] > BATCH")
+        sys.exit("usage: python3 bench/benchbooks.py [uses] > BATCH")
     for name, text in sources():
         if sys.argv[1:] and not is_for_uses(name):
             continue

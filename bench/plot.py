@@ -1,9 +1,9 @@
 #!/usr/bin/env python3
-"""Tables and a plot of the figures of oracle/bench.sh:  python3 tools/plot.py BOOKS.tsv PLOT.svg [FOLDER [DOCUMENT ..]] > TABLES
+"""Tables and a plot of the figures of bench/bench.sh:  python3 bench/plot.py [FOLDER]
 
-The tables are those of docs/BENCHMARKS.md, in its order and in Markdown; the plot has time against nodes for the series `size`. FOLDER is
-target/oracle/bench with sweep.tsv, measure.tsv and undefined; without it the tables of these are left out. In a DOCUMENT what stands between
-`<!-- figures: NAME -->` and `<!-- end -->` is replaced by the table of that name; its other text is left alone.
+From bench/benchmarks.tsv it makes bench/benchmarks.svg, time against nodes for the series `size`, and the tables of bench/tables.md and
+docs/FIGURES.md: what stands there between `<!-- figures: NAME -->` and `<!-- end -->` is replaced by the table of that name, the other text
+is left alone. FOLDER is target/oracle/bench with sweep.tsv, measure.tsv and undefined; without it the tables of these stay as they are.
 """
 
 import csv
@@ -12,6 +12,11 @@ import os
 import re
 import statistics
 import sys
+
+HERE = os.path.dirname(os.path.abspath(__file__))
+FIGURES = os.path.join(HERE, "benchmarks.tsv")
+PLOT = os.path.join(HERE, "benchmarks.svg")
+DOCUMENTS = os.path.join(HERE, "tables.md"), os.path.join(HERE, "..", "docs", "FIGURES.md")
 
 SIZES = ("small", "medium", "full", "full-mixed")
 INITS = ("init-small", "init-full", "init-merged", "init-aliases")
@@ -97,6 +102,15 @@ def sizes(books, question, names, head=None):
         ratios = [number(books[name].ratio(question, against)) for against in AGAINST]
         rows.append([name, *(spread(books[name], kind) for kind in kinds), f"**{ratios[0]}**", *ratios[1:]])
     table(question, [head or question, "ours", "Rust", "with decoding", "alone", "Rust / ours", "with decoding", "alone"], rows)
+
+
+def summary(books):
+    rows, sizes = [], [name for name in SIZES if name != "medium"]
+    for question, names in (*((question, sizes) for question in QUESTIONS), ("init check", INITS[:3])):
+        for name in names:
+            ours, rust = (microseconds(books[name].median[f"{who} {question}"]) for who in ("our", "Rust"))
+            rows.append([question, name, ours, rust, number(books[name].ratio(question))])
+    table("summary", ["question", "book", "ours", "Rust", "Rust / ours"], rows)
 
 
 def parts_of_uses(books):
@@ -261,9 +275,10 @@ def plot(books, path):
 
 
 def main():
-    if len(sys.argv) < 3:
-        sys.exit("usage: python3 tools/plot.py BOOKS.tsv PLOT.svg [FOLDER [DOCUMENT ..]] > TABLES")
-    books = read(sys.argv[1])
+    if len(sys.argv) > 2:
+        sys.exit("usage: python3 bench/plot.py [FOLDER]")
+    books = read(FIGURES)
+    summary(books)
     for question in QUESTIONS:
         sizes(books, question, SIZES)
     sizes(books, "init check", INITS)
@@ -271,15 +286,14 @@ def main():
     firsts(books)
     parts_of_uses(books)
     growth(books)
-    for folder in sys.argv[3:4]:
+    for folder in sys.argv[1:]:
         sweep(list(read(os.path.join(folder, "sweep.tsv"), one_by_one=True).values()))
         measured(os.path.join(folder, "measure.tsv"))
         with open(os.path.join(folder, "undefined"), encoding="utf-8") as file:
             TABLES["undefined"] = f"`{file.read().strip()}`"
-    plot(books, sys.argv[2])
-    for document in sys.argv[4:]:
+    plot(books, PLOT)
+    for document in DOCUMENTS:
         fill(document)
-    print("\n\n".join(TABLES.values()))
 
 
 if __name__ == "__main__":
