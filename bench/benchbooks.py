@@ -1,7 +1,7 @@
 #!/usr/bin/env python3
 """Writes the batch of books that bench/bench.sh times:  python3 bench/benchbooks.py [uses] > BATCH
 
-Books of three sizes as they are met, c/full.did, books with few and with many methods, books with init files, and series SERIES-SIZE in
+Books of three sizes as they are met, bench/full.did, books with few and with many methods, books with init files, and series SERIES-SIZE in
 which one thing grows; with `uses` those alone of which the uses are timed. The batch is laid out as that of tools/mkbatch.py; every book
 is made by tools/mkbook.py from a source that is written here.
 """
@@ -138,7 +138,7 @@ def init_merged(definitions, nodes):
 
 
 def like_full(definitions):
-    """c/full.did's form without the names that fill it: 8 nodes for a definition."""
+    """bench/full.did's form without the names that fill it: 8 nodes for a definition."""
     body = "record {{ f : nat; g : opt a{0}; h : text; 5 : a{0} }}"
     text = [f"type a{i} = {body.format((i + 1) % definitions)};" for i in range(definitions)]
     methods = [f"m{i} : (a{i}) -> (a{i});" for i in range(2 * definitions // 3)]
@@ -177,7 +177,7 @@ def imports(count):
 def sources():
     yield "small", SMALL
     yield "medium", mixed(100, 800)
-    with open(os.path.join(ROOT, "c", "full.did"), encoding="utf-8") as file:
+    with open(os.path.join(ROOT, "bench", "full.did"), encoding="utf-8") as file:
         yield "full", file.read()
     yield "full-mixed", mixed(512, 4096)
     yield "uses-few", few_methods()

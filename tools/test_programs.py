@@ -49,7 +49,7 @@ class List(unittest.TestCase):
 
     def test_largest(self):
         """As long as a book may be, with every definition listed, and longer."""
-        book = book_of("c", "full.did")
+        book = book_of("bench", "full.did")
         self.assertEqual(len(book), MOST)
         right = answers.listing(book)
         self.assertTrue(right.startswith("list 512 marked 1\n"))
