@@ -113,6 +113,16 @@ impl Entry {
     }
 }
 
+// The name whose length byte stands at a place of the bytes.
+pub fn name_from(bytes: &[u8], at: usize) -> &[u8]
+    requires { ⌜ at + 1 + getD (now bytes) at 0 ≤ length (now bytes) ⌝ }
+    ensures { λ r. ⌜ now r ≡ part (at + 1) (at + 1 + getD (now (bytes .entry)) at 0) (now (bytes .entry)) ⌝ }
+{
+    let from = at + 1;
+    let end = from + bytes[at] as usize;
+    &bytes[from..end]
+}
+
 // Name `number` of the names' bytes.
 pub(crate) fn name_at(names: &[u8], number: usize) -> &[u8]
     requires { ⌜ HasName (now names) number ⌝ }
@@ -124,17 +134,5 @@ pub(crate) fn name_at(names: &[u8], number: usize) -> &[u8]
         at = at + 1 + names[at] as usize;
         left -= 1;
     }
-    let from = at + 1;
-    let end = from + names[at] as usize;
-    &names[from..end]
-}
-
-// The name whose length byte stands at a place of the book.
-pub fn name_from(book: &[u8], at: usize) -> &[u8]
-    requires { ⌜ at + 1 + getD (now book) at 0 ≤ length (now book) ⌝ }
-    ensures { λ r. ⌜ now r ≡ part (at + 1) (at + 1 + getD (now (book .entry)) at 0) (now (book .entry)) ⌝ }
-{
-    let from = at + 1;
-    let end = from + book[at] as usize;
-    &book[from..end]
+    name_from(names, at)
 }
