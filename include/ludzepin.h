@@ -2,7 +2,7 @@
  *
  * A slice crosses as a pointer and a number of elements. Nothing is asked of a book's bytes. What a caller owes is what C cannot say:
  * that many elements are there, and `out` overlaps nothing else that is lent. An empty slice is never read, so its pointer may be NULL. The
- * functions keep nothing between calls, allocate nothing and call only memcpy, memmove and memset. They need stack: 1 MiB is enough for
+ * functions keep nothing between calls, allocate nothing and call only memcpy and memset. They need stack: 1 MiB is enough for
  * each of them on every book (docs/FIGURES.md has the figures), which is more than some systems give to a thread by default.
  *
  * crates/codes/specs/Coded.antt defines the answers and, once more, the arithmetic of the six functions at the end of this file;

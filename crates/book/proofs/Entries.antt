@@ -8,10 +8,10 @@ use native.Mathlib.Decide.{ℕ-discrete}
 use native.Mathlib.Omega.{arith}
 use borrow.Author.Tests.{lt-ltb, le-leb, eq-eqb, ne-eqb, not-false}
 use lib.Dec.{T, T-not, eqb, eqb→eq}
-use Rattle.format.specs.Forest.{Forest, end, tree, count}
+use Rattle.format.specs.Forest.{Forest, end, tree, count, noTrees}
 use Rattle.format.specs.Encode.{Row, Entry}
 use Rattle.format.specs.Layout.{run, rowAt, entryAt, rowTrees}
-use Rattle.format.specs.Rules.{goodRole, goodFiles, goodEntries, noEntries, noTrees}
+use Rattle.format.specs.Rules.{goodRole, goodFiles, goodEntries, noEntries}
 use Rattle.format.specs.Whole.{Within, Whole}
 use Rattle.format.proofs.Logic.{is-true, is-false, of-true, says}
 use Rattle.format.proofs.Rows.{Opened, opens, none, node-within, count-rowTrees}

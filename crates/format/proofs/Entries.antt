@@ -11,13 +11,13 @@ use borrow.Author.Tests.{ne-eqb, ltb-true, ltb-false, eqb-true}
 use lib.Dec.{T, ltb, eqb, eqb→eq}
 use lib.ListN.{length}
 use Rattle.format.specs.declared.Place.the-variants.{Root}
-use Rattle.format.specs.Forest.{Forest, end, tree, count, breadth, beside, firstTree, otherTrees, afterTrees, mapForest}
+use Rattle.format.specs.Forest.{Forest, end, tree, count, breadth, beside, firstTree, otherTrees, afterTrees, mapForest, noTrees}
 use Rattle.format.specs.Node.{Node}
 use Rattle.format.specs.Book.{Definition, Role, Main, TypeImport, ServiceImport, InitArgs, File, bodies, actors}
 use Rattle.format.specs.Encode.{Row, rowOf, sized, Entry, roleNumber, rootOf, definitionEntries, fileEntries}
 use Rattle.format.specs.Fits.{maxNames, maxFiles, every, notInit, forestFits, isInit, definitionFits, filesRise, isInitRole, isMain, fileFits, importsFit, rolesFit}
 use Rattle.format.specs.Layout.{nodeOf, roleOf, definitionsOf, filesOf}
-use Rattle.format.specs.Rules.{goodForest, goodRole, noEntries, noTrees, goodFiles, goodEntries}
+use Rattle.format.specs.Rules.{goodForest, goodRole, noEntries, goodFiles, goodEntries}
 use Rattle.format.proofs.Logic.{says}
 use Rattle.format.proofs.Lists.{All, numbered, number-at}
 use Rattle.format.proofs.Trees.{beside-assoc, count-beside, breadth-beside, first-one, other-one, after-beside, count-map, count-sized, fits-join}

@@ -1,4 +1,5 @@
 -- Trees that stand beside each other. Definitions; assumes nothing.
+use mathlib.Core.Bool.{Bool, true, false}
 use mathlib.Core.List.{List, [], _∷_, _++_}
 use Prim.Native.Nat.{ℕ, zero, suc, _+_}
 
@@ -26,6 +27,11 @@ preorder (tree n kids next) = n ∷ (preorder kids ++ preorder next)
 unfoldable pub beside : {A : Type 0} → Forest A → Forest A → Forest A
 beside end g = g
 beside (tree n kids next) g = tree n kids (beside next g)
+
+-- Whether there is no tree.
+unfoldable pub noTrees : {A : Type 0} → Forest A → Bool
+noTrees end = true
+noTrees (tree n kids next) = false
 
 -- The first tree alone; the trees after it; the trees after the first k.
 unfoldable pub firstTree : {A : Type 0} → Forest A → Forest A

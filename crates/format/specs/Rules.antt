@@ -8,7 +8,7 @@ use lib.ListN.{length, getD}
 use lib.Dec.{T, leb, ltb, eqb}
 use Rattle.format.specs.declared.Place.{Place}
 use Rattle.format.specs.declared.Place.the-variants.{Root, Field, Method, Inner}
-use Rattle.format.specs.Forest.{Forest, end, tree, count, breadth}
+use Rattle.format.specs.Forest.{Forest, end, tree, count, breadth, noTrees}
 use Rattle.format.specs.Encode.{Row, Entry, nameBytes}
 use Rattle.refusals.specs.Lists.{flat}
 use Rattle.format.specs.Fits.{maxNames, maxNodes, maxDefinitions, maxFiles, maxBytes, ascending}
@@ -77,10 +77,6 @@ goodRole false last role = eqb role 1 || eqb role 2 || last && eqb role 3
 unfoldable pub noEntries : List Entry → Bool
 noEntries [] = true
 noEntries (e ∷ es) = false
-
-unfoldable pub noTrees : {A : Type 0} → Forest A → Bool
-noTrees end = true
-noTrees (tree n kids next) = false
 
 -- The files' entries, from node `next` on, where the trees that are left are f. The Bool says whether the first file stands first.
 unfoldable pub goodFiles : ℕ → Bool → ℕ → List Entry → Forest Row → Bool

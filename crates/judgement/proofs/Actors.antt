@@ -15,7 +15,7 @@ use Prim.Native.Nat.{ℕ}
 use native.Mathlib.Omega.{arith}
 use lib.Dec.{T}
 use Rattle.format.specs.declared.Place.the-variants.{Method, Inner}
-use Rattle.format.specs.Forest.{Forest, end, tree}
+use Rattle.format.specs.Forest.{Forest, end, tree, noTrees}
 use Rattle.format.specs.Node.{Node, labelValue}
 use Rattle.format.specs.Book.{Definition, File}
 use Rattle.format.specs.Fits.{forestFits}
@@ -23,7 +23,6 @@ use Rattle.format.specs.Distinct.{Distinct, FirstRepeat}
 use Rattle.format.specs.Labels.{methodNames}
 use Rattle.format.specs.References as refer
 use Rattle.format.specs.References.{references}
-use Rattle.format.specs.Rules.{noTrees}
 use Rattle.format.proofs.Trees.{fits-join}
 use Rattle.format.proofs.Logic.{is-false}
 use Rattle.refusals.specs.declared.Refusal.{Refusal}

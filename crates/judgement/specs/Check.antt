@@ -6,10 +6,9 @@ use lib.ListN.{length, getD}
 use lib.Dec.{ltb, eqb}
 use Rattle.labels.specs.Number.{labelNumber}
 use Rattle.format.specs.declared.Place.the-variants.{Root}
-use Rattle.format.specs.Forest.{Forest, end, tree, breadth}
+use Rattle.format.specs.Forest.{Forest, end, tree, breadth, noTrees}
 use Rattle.format.specs.Node.{Kind, PrimT, VarT, OptT, VecT, RecordT, VariantT, FuncT, ServT, ClassT, InitT, FuncMode, Oneway, Query, CompositeQuery, Node, labelValue}
 use Rattle.format.specs.Book.{Definition, File, Book}
-use Rattle.format.specs.Rules.{noTrees}
 use Rattle.format.specs.Admission.{admitted, Source}
 use Rattle.refusals.specs.declared.Refusal.{Refusal}
 use Rattle.refusals.specs.declared.Refusal as refusal

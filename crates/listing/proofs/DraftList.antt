@@ -12,11 +12,10 @@ use mathlib.Core.List.{List, [], map, List·Memᴰ, _++_, List·Memᴰ·head, Li
 use Prim.Native.Nat.{ℕ, _+_, _≤_}
 use native.Mathlib.Omega.{arith}
 use lib.ListN.{length}
-use Rattle.format.specs.Forest.{end}
+use Rattle.format.specs.Forest.{end, noTrees}
 use Rattle.format.specs.Book.{Definition, Book}
 use Rattle.format.specs.Fits.{maxDefinitions, Fits}
 use Rattle.format.specs.References.{references}
-use Rattle.format.specs.Rules.{noTrees}
 use Rattle.refusals.specs.declared.Refusal.{Refusal}
 use Rattle.refusals.specs.declared.Refusal.the-variants.{Twice, Unbound, NoActor, Short}
 use Rattle.refusals.specs.declared.Verdict.{Verdict}

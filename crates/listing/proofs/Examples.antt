@@ -6,13 +6,12 @@ use Prim.Native.Nat.{ℕ}
 use native.Mathlib.Omega.{arith}
 use Rattle.labels.specs.declared.Label.{Label}
 use Rattle.labels.specs.declared.Label.the-variants.{Named}
-use Rattle.format.specs.Forest.{Forest, end, tree, count, breadth, preorder, beside, mapForest}
+use Rattle.format.specs.Forest.{Forest, end, tree, count, breadth, preorder, beside, mapForest, noTrees}
 use Rattle.format.specs.Node.{Nat, Kind, PrimT, VarT, OptT, FuncT, ServT, InitT, unlabelled, labelled, Node, primNumber, kindNumber, modeNumber, modesNumber, valueNumber, labelKind, labelValue}
 use Rattle.format.specs.Book.{Definition, Main, TypeImport, InitArgs, Book, bodies, actors, trees}
 use Rattle.format.specs.Encode.{bytes16, bytes32, nameBytes, rowOf, sized, rowBytes, entryBytes, roleNumber, definitionEntries, rootOf, fileEntries, namesBytes, nodesBytes, definitionsBytes, filesBytes, tocRow, contentsBytes, encode}
 use Rattle.refusals.specs.Lists.{flat}
 use Rattle.format.specs.Fits.{every, isByte, isName, before, ascending, placeBelow, kindFits, notInit, kindAllowed, labelFits, nodeFits, forestFits, isInit, definitionFits, filesRise, isInitRole, isMain, fileFits, importsFit, rolesFit, fits, Fits}
-use Rattle.format.specs.Rules.{noTrees}
 use Rattle.refusals.specs.declared.Verdict.{Verdict}
 use Rattle.refusals.specs.declared.Verdict.the-variants.{Passed}
 use Rattle.refusals.specs.declared.Refusal.the-variants.{Unbound, NoActor}

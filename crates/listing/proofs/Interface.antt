@@ -10,11 +10,10 @@ use mathlib.Core.List.{List, map, List·Memᴰ}
 use Prim.Native.Nat.{ℕ}
 use lib.Dec.{T}
 use lib.ListN.{length}
-use Rattle.format.specs.Forest.{Forest, end, tree, breadth}
+use Rattle.format.specs.Forest.{Forest, end, tree, breadth, noTrees}
 use Rattle.format.specs.Node.{Kind, PrimT, VarT, OptT, VecT, RecordT, VariantT, FuncT, ServT, ClassT, InitT, FuncMode, Node}
 use Rattle.format.specs.Book.{Definition, Book}
 use Rattle.format.specs.Fits.{Fits}
-use Rattle.format.specs.Rules.{noTrees}
 use Rattle.refusals.specs.declared.Refusal.the-variants.{NoService}
 use Rattle.refusals.specs.declared.Verdict.the-variants.{Passed}
 use Rattle.judgement.specs.Environment.{headKind, head, mainDefinitions, isFuncKind, isServKind, kidsOf}

@@ -12,13 +12,12 @@ use Prim.Native.Nat.{ℕ, _+_, _≤_}
 use native.Mathlib.Omega.{arith}
 use lib.Dec.{T}
 use lib.ListN.{length}
-use Rattle.format.specs.Forest.{Forest, end, tree, breadth}
+use Rattle.format.specs.Forest.{Forest, end, tree, breadth, noTrees}
 use Rattle.format.specs.Node.{Kind, PrimT, VarT, OptT, VecT, RecordT, VariantT, FuncT, ServT, ClassT, InitT, Labelled, Node}
 use Rattle.format.specs.Book.{Definition, File, Book}
 use Rattle.format.specs.Fits.{maxDefinitions, every, fileFits, Fits}
 use Rattle.format.specs.References as refer
 use Rattle.format.specs.References.{references}
-use Rattle.format.specs.Rules.{noTrees}
 use Rattle.format.proofs.Logic.{both, says}
 use Rattle.format.proofs.Encoded.{fit-parts}
 use Rattle.refusals.specs.declared.Refusal.{Refusal}

@@ -22,11 +22,10 @@ use borrow.Author.Tests.{eq-eqb, ne-eqb}
 use lib.Dec.{T, eqb}
 use lib.ListN.{length, getD, take}
 use Rattle.labels.specs.declared.Label.the-variants.{Named}
-use Rattle.format.specs.Forest.{Forest, end, tree, breadth}
+use Rattle.format.specs.Forest.{Forest, end, tree, breadth, noTrees}
 use Rattle.format.specs.Node.{FuncT, ServT, unlabelled, labelled, Node, labelValue}
 use Rattle.format.specs.Book.{Main, Book}
 use Rattle.format.specs.Fits.{Fits}
-use Rattle.format.specs.Rules.{noTrees}
 use Rattle.refusals.specs.declared.Refusal.{Refusal}
 use Rattle.refusals.specs.declared.Refusal.the-variants.{Absent, Short}
 use Rattle.refusals.specs.declared.Verdict.the-variants.{Passed}

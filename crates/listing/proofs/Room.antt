@@ -13,10 +13,9 @@ use Prim.Native.Nat.{ℕ, _≤_}
 use native.Mathlib.Omega.{arith}
 use lib.Dec.{leb}
 use lib.ListN.{length}
-use Rattle.format.specs.Forest.{Forest, end, tree}
+use Rattle.format.specs.Forest.{Forest, end, tree, noTrees}
 use Rattle.format.specs.Node.{Node}
 use Rattle.format.specs.Book.{Book}
-use Rattle.format.specs.Rules.{noTrees}
 use Rattle.refusals.specs.declared.Refusal.{Refusal}
 use Rattle.refusals.specs.declared.Refusal.the-variants.{NoActor, Short}
 use Rattle.refusals.specs.declared.Verdict.the-variants.{Passed, Refused}

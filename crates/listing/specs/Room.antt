@@ -12,11 +12,10 @@ use Rattle.refusals.specs.declared.Verdict.{Verdict}
 use Rattle.refusals.specs.declared.Verdict.the-variants.{Passed, Refused}
 use Rattle.refusals.specs.Verdict.{unless}
 use Rattle.refusals.specs.Outcome.{Outcome, refused, given, fit}
-use Rattle.format.specs.Forest.{Forest, end}
+use Rattle.format.specs.Forest.{Forest, end, noTrees}
 use Rattle.format.specs.Node.{Node}
 use Rattle.format.specs.Book.{Book}
 use Rattle.format.specs.Distinct.{Distinct}
-use Rattle.format.specs.Rules.{noTrees}
 use Rattle.judgement.specs.Resolve.{resolveActor}
 use Rattle.judgement.specs.Check.{check}
 use Rattle.judgement.specs.Rows.{NamesPlace}

@@ -45,14 +45,18 @@ same-length c = search needs
 
 returns : tie.Need-returns
 returns c =
-    let checked : tie.After-pass = c .before .before .before .before .before .before .before .before .before .before in
-    printed-laid _ (checked .before .before .before .before .before .before .before .pre) (omega arith) (check-refused _ (sym (checked .pass .ensures .verdict) ∙ c .before .before .before .before .before .v .given .1)) (c .before .before .refusal .ensures)
+    let told : tie.After-v = c .before .before .before .before .before in
+    let checked : tie.After-pass = told .before .before .before .before .before in
+    printed-laid _ (checked .before .before .before .before .before .before .before .pre) (omega arith) (check-refused _ (sym (checked .pass .ensures .verdict) ∙ told .v .given .1)) (c .before .before .refusal .ensures)
 
 same-length-2 : tie.Need-same-length-2
 same-length-2 c = search needs
 
 returns-2 : tie.Need-returns-2
-returns-2 c = let shown : tie.After-print-passed = c .before .before in printed-laid _ (shown .before .before .before .before .before .before .before .before .before .before .before .before .before .before .before .before .pre) (omega arith) refl (shown .print-passed .ensures)
+returns-2 c =
+    let shown : tie.After-print-passed = c .before .before in
+    let checked : tie.After-pass = shown .before .before .before .before .before .before .before .before .before in
+    printed-laid _ (checked .before .before .before .before .before .before .before .pre) (omega arith) refl (shown .print-passed .ensures)
 
 pub print-spec : {M : Type 1} → statement M
 print-spec =

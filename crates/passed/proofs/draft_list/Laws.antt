@@ -13,10 +13,9 @@ use Rattle.refusals.specs.declared.Refusal.the-variants.{NoActor}
 use Rattle.refusals.specs.declared.Verdict.{Verdict}
 use Rattle.refusals.specs.declared.Verdict.the-variants.{Passed, Refused}
 use Rattle.refusals.specs.Outcome.{refused, after}
-use Rattle.format.specs.Forest.{tree, count}
+use Rattle.format.specs.Forest.{tree, count, noTrees}
 use Rattle.format.specs.Book.{Definition, Book, trees}
 use Rattle.format.specs.Layout.{entryAt, nodesPart, definitionsPart, filesPart, whole}
-use Rattle.format.specs.Rules.{noTrees}
 use Rattle.format.specs.Whole.{definitionAt, actorAt}
 use Rattle.format.proofs.Admitted.{trees-whole}
 use Rattle.format.proofs.Stored.{tree-opens, actor-none, actor-some}

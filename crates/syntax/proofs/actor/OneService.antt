@@ -8,11 +8,10 @@ use native.Mathlib.Omega.{arith}
 use borrow.Author.Tests.{ne-eqb}
 use lib.Dec.{eqb}
 use lib.ListN.{length}
-use Rattle.format.specs.Forest.{Forest, end}
+use Rattle.format.specs.Forest.{Forest, end, noTrees}
 use Rattle.format.specs.Node.{Node}
 use Rattle.format.specs.Book.{Definition}
 use Rattle.format.specs.Layout.{rowAt}
-use Rattle.format.specs.Rules.{noTrees}
 use Rattle.format.specs.Whole.{WholeAt, treeAt, actorAt}
 use Rattle.format.proofs.Trees.{beside-end}
 use Rattle.format.proofs.Stored.{actor-none, actor-some}

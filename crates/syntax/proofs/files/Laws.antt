@@ -12,10 +12,10 @@ use native.Mathlib.Omega.{arith}
 use borrow.Author.Tests.{ne-eqb}
 use lib.Dec.{eqb}
 use lib.ListN.{length, getD, set, take, length-set}
+use Rattle.format.specs.Forest.{noTrees}
 use Rattle.format.specs.Book.{File}
 use Rattle.format.specs.Encode.{Entry}
 use Rattle.format.specs.Layout.{run, entryAt, nodesPart, filesPart, roleOf}
-use Rattle.format.specs.Rules.{noTrees}
 use Rattle.format.specs.Whole.{WholeAt, actorAt, fileAt}
 use Rattle.format.proofs.Lists.{run-none, run-cons}
 use Rattle.format.proofs.Stored.{tree-opens, actor-none, actor-some}

@@ -6,10 +6,9 @@ use mathlib.Core.Path.{_≡_, refl, sym, ap, _∙_}
 use mathlib.Core.Bool.{Bool, true, false, cond, false≢true}
 use mathlib.Core.List.{List}
 use Prim.Native.Nat.{ℕ}
-use Rattle.format.specs.Forest.{Forest, end, tree, breadth}
+use Rattle.format.specs.Forest.{Forest, end, tree, breadth, noTrees}
 use Rattle.format.specs.Node.{Node}
 use Rattle.format.specs.Book.{Definition}
-use Rattle.format.specs.Rules.{noTrees}
 use Rattle.format.specs.Whole.{WholeAt, treeAt, actorAt}
 use Rattle.format.proofs.Stored.{tree-opens, actor-none, actor-some}
 use Rattle.judgement.specs.Environment.{headKind, head, isServKind, kidsOf}

@@ -16,13 +16,12 @@ use lib.ListN.{length, getD, take}
 use lib.Seq.{slice, slice-empty, slice-cons}
 use Rattle.format.specs.declared.Place.{Place}
 use Rattle.format.specs.declared.Place.the-variants.{Root}
-use Rattle.format.specs.Forest.{Forest, end, tree, breadth, beside}
+use Rattle.format.specs.Forest.{Forest, end, tree, breadth, beside, noTrees}
 use Rattle.format.specs.Node.{Node}
 use Rattle.format.specs.Book.{Definition}
 use Rattle.format.specs.Encode.{Row}
 use Rattle.format.specs.Fits.{forestFits}
 use Rattle.format.specs.Layout.{rowAt, siblings, nodeOf}
-use Rattle.format.specs.Rules.{noTrees}
 use Rattle.format.specs.Whole.{Whole, WholeAt, treeAt, actorAt}
 use Rattle.format.proofs.Trees.{fits-parts}
 use Rattle.format.proofs.Stored.{tree-whole, tree-opens, actor-none, actor-some}

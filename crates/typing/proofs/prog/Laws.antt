@@ -10,11 +10,10 @@ use Prim.Native.Nat.{ℕ}
 use native.Mathlib.Nat.{sub-zero}
 use native.Mathlib.Omega.{arith}
 use lib.ListN.{length}
-use Rattle.format.specs.Forest.{Forest, end, tree, count}
+use Rattle.format.specs.Forest.{Forest, end, tree, count, noTrees}
 use Rattle.format.specs.Node.{Node}
 use Rattle.format.specs.Book.{Definition, Book}
 use Rattle.format.specs.Layout.{nodesPart, definitionsPart, filesPart}
-use Rattle.format.specs.Rules.{noTrees}
 use Rattle.format.proofs.Logic.{is-true}
 use Rattle.refusals.specs.declared.Refusal.the-variants.{NoService}
 use Rattle.refusals.specs.declared.Verdict.{Verdict}
