@@ -3,7 +3,7 @@
 // Assumes the contracts of the C functions below `os`, `io` and `libc`; no contract can say what is read or written.
 ghost use Prim.Native.Nat.{_≤_};
 ghost use lib.ListN.{length};
-ghost use Rattle.stdio.specs.Read.{ReadAs, MoreAs};
+ghost use Rattle.stdio.specs.Read.{ReadAs, MoreAs, WrittenAs};
 use libc::STDERR_FILENO;
 use libc::STDIN_FILENO;
 use libc::STDOUT_FILENO;
@@ -111,9 +111,13 @@ pub fn read(program: &[u8], buf: &mut [u8]) -> Input
     read_file(program, &path[..size], buf)
 }
 
-// Writes a text to standard output.
-pub fn write(program: &[u8], text: &[u8]) {
-    if !io::write_all(STDOUT_FILENO, text) {
-        tell(program, b"standard output");
+// Writes a text to standard output. Answers how many bytes are known to be written: all, or none where it failed.
+pub fn write(program: &[u8], text: &[u8]) -> usize
+    ensures { λ r. ⌜ WrittenAs r (now (text .entry)) ⌝ }
+{
+    if io::write_all(STDOUT_FILENO, text) {
+        return text.len();
     }
+    tell(program, b"standard output");
+    0
 }
