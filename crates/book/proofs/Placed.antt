@@ -94,5 +94,6 @@ module _ {bs : List ℕ} {c : Contents} (o : Admitted bs c) where
         long = l .long;
         few = names-few o;
         at = λ n i. name-at n (getD places n 0) (subst (λ (p : List ℕ). PlacedIn p n (getD places n 0)) (e ∙ sym (names-here o)) (l .done n (omega arith)));
+        beyond = λ n i. l .beyond n (omega (arith, l .passed));
         outside = λ n i. sym (name-outside o n i);
       }

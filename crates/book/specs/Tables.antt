@@ -55,9 +55,10 @@ pub record NameAt (bs : List ℕ) (n at : ℕ) : Type 0 where
   pub within : at + 1 + getD bs at 0 ≤ length bs
   pub is : part (at + 1) (at + 1 + getD bs at 0) bs ≡ nameIn bs n
 
--- A table has the place of each of the book's `count` names.
+-- A table has the place of each of the book's `count` names, and 0 beyond.
 pub record PlacesOf (bs : List ℕ) (count : ℕ) (places : List ℕ) : Type 0 where
   pub long : length places ≡ 1024
   pub few : count ≤ 1024
   pub at : (n : ℕ) → n < count → NameAt bs n (getD places n 0)
+  pub beyond : (n : ℕ) → count ≤ n → getD places n 0 ≡ 0
   pub outside : (n : ℕ) → count ≤ n → nameIn bs n ≡ []

@@ -8,7 +8,7 @@ use analysis::chase::Walk;
 use refusals::Answer;
 use refusals::Refusal;
 
-pub fn hand_walk(w: Walk, out: &mut [u16]) -> Answer
+pub(crate) fn hand_walk(w: Walk, out: &mut [u16]) -> Answer
     requires { ⌜ (w .stopped ≡ false → w .len ≤ 512) ⌝ }
     ensures { λ r. ⌜ HandedAs (walkOutcome w) (now (out .entry)) (now (out .exit)) r ⌝ }
 {
