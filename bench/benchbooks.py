@@ -2,18 +2,18 @@
 """Writes the batch of books that bench/bench.sh times:  python3 bench/benchbooks.py [uses] > BATCH
 
 Books of three sizes as they are met, bench/full.did, books with few and with many methods, books with init files, and series SERIES-SIZE in
-which one thing grows; with `uses` those alone of which the uses are timed. The batch is laid out as that of tools/mkbatch.py; every book
-is made by tools/mkbook.py from a source that is written here.
+which one thing grows; with `uses` those alone of which the uses are timed. The batch is laid out as that of tools/mkbatch.py, under full
+limits; every book is made by tools/mkbook.py from a source that is written here.
 """
 
 import os
 import random
-import struct
 import sys
 
 ROOT = os.path.join(os.path.dirname(os.path.abspath(__file__)), "..")
 sys.path.append(os.path.join(ROOT, "tools"))
 
+import mkbatch
 import mkbook
 
 # A ledger: 12 definitions.
@@ -216,7 +216,7 @@ def main():
             book = mkbook.book(text)
         except mkbook.SourceError as error:
             sys.exit(f"{name}: {error}")
-        sys.stdout.buffer.write(struct.pack("B", len(name)) + name.encode() + struct.pack("<I", len(book)) + book)
+        sys.stdout.buffer.write(mkbatch.record(name, book))
 
 
 if __name__ == "__main__":

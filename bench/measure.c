@@ -17,7 +17,7 @@ enum { STACK = 8 << 20, FILL = 0xa5, MEASURED_US = 200000, USES = 4186116 };
 
 static uint8_t book[LUDZEPIN_BYTES + 1];
 static uint16_t listed[LUDZEPIN_DEFINITIONS], out[3 * USES];
-static struct asked asked = {.book = book, .list = listed, .out = out, .places = 3 * USES};
+static struct asked asked = {.book = book, .limits = {LUDZEPIN_FULL}, .list = listed, .out = out, .places = 3 * USES};
 static const struct question *question;
 static uint64_t answer;
 
@@ -64,8 +64,8 @@ int main(int argc, char **argv) {
         asked.bytes = fread(book, 1, sizeof book, file);
         fclose(file);
         listed[0] = 0;
-        uint32_t list = ludzepin_list(book, asked.bytes, listed, LUDZEPIN_DEFINITIONS);
-        asked.names = ludzepin_refusal(list) ? 0 : ludzepin_entries(list);
+        uint32_t list = ludzepin_list(book, asked.bytes, LUDZEPIN_FULL, listed, LUDZEPIN_DEFINITIONS);
+        asked.count = ludzepin_refusal(list) ? 0 : ludzepin_entries(list);
         asked.name = asked.method = listed[0];
         for (question = QUESTIONS; question < QUESTIONS + QUESTION_COUNT; question++) {
             size_t stack = stack_taken();

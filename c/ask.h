@@ -10,22 +10,26 @@
 struct asked {
     const uint8_t *book;
     size_t bytes;
+    uint32_t limits[3]; /* of names, nodes and definitions */
     const uint16_t *list; /* so many names, for marks */
-    size_t names;
+    size_t count;
     uint16_t name, method; /* for uses, and for a projection to it alone */
     uint16_t *out;
     size_t places;
 };
 
-static uint64_t ask_check(const struct asked *a) { return ludzepin_check(a->book, a->bytes); }
-static uint64_t ask_init_check(const struct asked *a) { return ludzepin_init_check(a->book, a->bytes); }
-static uint64_t ask_list(const struct asked *a) { return ludzepin_list(a->book, a->bytes, a->out, a->places); }
-static uint64_t ask_marks(const struct asked *a) { return ludzepin_marks(a->book, a->bytes, a->list, a->names, a->out, a->places); }
-static uint64_t ask_init_list(const struct asked *a) { return ludzepin_init_list(a->book, a->bytes, a->out, a->places); }
-static uint64_t ask_draft_list(const struct asked *a) { return ludzepin_draft_list(a->book, a->bytes, a->out, a->places); }
-static uint64_t ask_emptiness(const struct asked *a) { return ludzepin_emptiness(a->book, a->bytes, a->out, a->places); }
-static uint64_t ask_uses(const struct asked *a) { return ludzepin_uses(a->book, a->bytes, a->name, a->out, a->places); }
-static uint64_t ask_project(const struct asked *a) { return ludzepin_project(a->book, a->bytes, &a->method, 1, a->out, a->places); }
+/* The book and the limits, which each question takes first. */
+#define BOOK(a) (a)->book, (a)->bytes, (a)->limits[0], (a)->limits[1], (a)->limits[2]
+
+static uint64_t ask_check(const struct asked *a) { return ludzepin_check(BOOK(a)); }
+static uint64_t ask_init_check(const struct asked *a) { return ludzepin_init_check(BOOK(a)); }
+static uint64_t ask_list(const struct asked *a) { return ludzepin_list(BOOK(a), a->out, a->places); }
+static uint64_t ask_marks(const struct asked *a) { return ludzepin_marks(BOOK(a), a->list, a->count, a->out, a->places); }
+static uint64_t ask_init_list(const struct asked *a) { return ludzepin_init_list(BOOK(a), a->out, a->places); }
+static uint64_t ask_draft_list(const struct asked *a) { return ludzepin_draft_list(BOOK(a), a->out, a->places); }
+static uint64_t ask_emptiness(const struct asked *a) { return ludzepin_emptiness(BOOK(a), a->out, a->places); }
+static uint64_t ask_uses(const struct asked *a) { return ludzepin_uses(BOOK(a), a->name, a->out, a->places); }
+static uint64_t ask_project(const struct asked *a) { return ludzepin_project(BOOK(a), &a->method, 1, a->out, a->places); }
 
 /* `numbers` are those of an entry: 0 where the answer is a verdict, 3 where it is one of 64 bits. */
 static const struct question {

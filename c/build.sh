@@ -18,10 +18,10 @@ try() {
     python3 tools/mkbook.py "$source" >target/c/book
     output=$("target/c/$program" target/c/book "$@") || found=$?
     if [ "$found" != "$status" ] || [ "$output" != "$expected" ]; then
-        printf '%s, %s: status %s and\n%s\nwhere %s and\n%s\nis right\n' "$program" "$source" "$found" "$output" "$status" "$expected" >&2
+        printf '%s, %s %s: status %s and\n%s\nwhere %s and\n%s\nis right\n' "$program" "$source" "$*" "$found" "$output" "$status" "$expected" >&2
         exit 1
     fi
-    echo "$program, $source: right"
+    echo "$program, $source${*:+ $*}: right"
 }
 
 # P1's names are "" fork leaf pair put spare tree: it lists pair and tree.
@@ -57,8 +57,8 @@ fail /dev/null 'list: target/c/missing: No such file or directory' target/c/miss
 fail /dev/null 'list: target/c: Is a directory' target/c
 fail /dev/full 'list: standard output: No space left on device' target/c/book
 
-# ask SOURCE NAME METHOD PLACES: every question, as the second reading of document 01 answers it. tools/test_tools.py has its answers to
-# these calls by hand.
+# ask SOURCE NAME METHOD PLACES [NAMES NODES DEFINITIONS]: every question, under these limits or the full ones, as the second reading answers
+# it. tools/test_tools.py has its answers by hand, under limits those to some of these calls.
 ask() { try questions "$1" 0 "$(python3 tools/answers.py "$@")" "${@:2}"; }
 
 ask tests/list/p01.did 6 4 4096
@@ -76,3 +76,47 @@ ask tests/layout/length-0.did 0 0 4096
 # The second reading stops at 4,097 uses.
 right=$(python3 tools/answers.py tests/list/large-uses-most.did 1 3 4096)
 try questions tests/list/large-uses-most.did 0 "${right/needs 4097/needs 4186116}" 1 3 4096
+
+# within SOURCE NAMES NODES DEFINITIONS: under the counts of a book as limits, and each of them one lower and one higher; under none at all.
+within() {
+    ask "$1" 6 4 4096 "$2" "$3" "$4"
+    ask "$1" 6 4 4096 $(($2 - 1)) "$3" "$4"
+    ask "$1" 6 4 4096 $(($2 + 1)) "$3" "$4"
+    ask "$1" 6 4 4096 "$2" $(($3 - 1)) "$4"
+    ask "$1" 6 4 4096 "$2" $(($3 + 1)) "$4"
+    ask "$1" 6 4 4096 "$2" "$3" $(($4 - 1))
+    ask "$1" 6 4 4096 "$2" "$3" $(($4 + 1))
+    ask "$1" 6 4 4096 0 0 0
+}
+within tests/list/p01.did 7 10 3
+within tests/list/init-own.did 7 12 4
+within tests/list/p03.did 3 2 2
+within tests/layout/limit-all.did 1024 4096 512
+# Limits above the figures count as these, however large they are.
+ask tests/list/p01.did 6 4 4096 1025 4097 513
+ask tests/list/p01.did 6 4 4096 4294967295 4294967295 4294967295
+ask tests/list/p01.did 6 4 4096 4294967295 10 4294967295
+ask tests/list/p01.did 6 4 4096 65542 65546 65538
+ask tests/list/p01.did 6 4 4096 4294967295 4294967295 2
+# Each of them 0 alone.
+ask tests/list/p01.did 6 4 4096 0 10 3
+ask tests/list/p01.did 6 4 4096 7 0 3
+ask tests/list/p01.did 6 4 4096 7 10 0
+# LUDZEPIN_FULL takes the largest book.
+ask tests/layout/limit-all.did 6 4 4096
+# A repeated label or method does not come before 24.
+ask tests/limits/repeat-label.did 6 4 4096 4 6 1
+ask tests/limits/repeat-label.did 6 4 4096 3 6 1
+ask tests/limits/repeat-method.did 6 4 4096 1024 4096 512
+ask tests/limits/repeat-method.did 6 4 4096 3 6 0
+# 24 is before 16, and within limits 16 is as ever.
+ask tests/list/p01.did 6 4 0 6 10 3
+ask tests/list/p01.did 6 4 0 7 10 3
+# A broken book is 1 whatever the limits are.
+ask tests/layout/length-0.did 0 0 4096 0 0 0
+ask tests/layout/limit-names-1025.did 0 0 4096 0 0 0
+ask tests/layout/limit-names-1025.did 0 0 4096 4294967295 4294967295 4294967295
+ask tests/layout/limit-nodes-4097.did 0 0 4096 1024 4095 512
+ask tests/layout/limit-nodes-4097.did 0 0 4096 4294967295 4294967295 4294967295
+ask tests/layout/limit-definitions-513.did 0 0 4096 1024 4096 512
+ask tests/layout/limit-definitions-513.did 0 0 4096 4294967295 4294967295 4294967295

@@ -28,11 +28,11 @@ static int refused(const char *question, uint32_t answer) {
 
 static int list(const uint8_t *book, size_t bytes, size_t places) {
     static uint16_t names[LUDZEPIN_DEFINITIONS];
-    uint32_t checked = ludzepin_check(book, bytes);
+    uint32_t checked = ludzepin_check(book, bytes, LUDZEPIN_FULL);
     if (checked)
         return refused("check", checked);
     printf("check passed\n");
-    uint32_t listed = ludzepin_list(book, bytes, names, places);
+    uint32_t listed = ludzepin_list(book, bytes, LUDZEPIN_FULL, names, places);
     if (ludzepin_refusal(listed))
         return refused("list", listed);
     printf("list %u\n", ludzepin_entries(listed));

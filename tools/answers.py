@@ -1,8 +1,10 @@
 #!/usr/bin/env python3
-r"""Answers document 01's questions on a book, by the paper alone:  python3 tools/answers.py BOOK-OR-SOURCE.did [NAME METHOD PLACES]
+r"""Answers the questions on a book, by the papers alone:
 
-This is a second reading of document 01 and of the Rust functions that it names, for the tests; tools/layout.py reads the
-bytes. It prints, one line each, what the program answer_batch prints of the book after its name:
+    python3 tools/answers.py BOOK-OR-SOURCE.did [NAME METHOD PLACES [NAMES NODES DEFINITIONS]]
+
+This is a second reading of document 01, of the Rust functions that it names and of the limits of document 02, for the tests;
+tools/layout.py reads the bytes. It prints, one line each, what the program answer_batch prints of the book after its name:
 
     layout OUTCOME          whether the layout is whole, with the counts of names, nodes, definitions and files
     name OUTCOME            every name by its number, then the number after the last and the highest, which give nothing
@@ -27,14 +29,19 @@ bytes. It prints, one line each, what the program answer_batch prints of the boo
     project-every OUTCOME   and when every name of the table is, the last name first
 
 OUTCOME is `passed` of a check, `whole` and the counts of a layout, `given`, the number of entries and these, or `refused`, the number
-and the name or `-`. A number that was asked with and is outside the book's table is named as it is, without quotes. Of a book with more than 514 names that lists none, so that no name has uses, only the first 8 names and the last 8
-are asked about. A broken book is not asked about names. After list, marks, init, draft, empty, uses and project-all, if entries were
-given, it is asked again with one place fewer than they take:
+and the name or `-`. A number that was asked with and is outside the book's table is named as it is, without quotes. Of a book with more
+than 514 names that lists none, so that no name has uses, only the first 8 names and the last 8 are asked about. A broken book is not asked
+about names. After list, marks, init, draft, empty, uses and project-all, if entries were given, it is asked again with one place fewer than
+they take:
 
     QUESTION-short needs N refused 16 -
 
+Every question but layout and name is asked under three limits: `refused 24 -` if a whole book has more names, nodes or definitions than
+its limit, before all else. A limit above document 01's figure counts as that figure. Without limits told, all three are these figures, FULL.
+
 QUESTIONS below is the table of them all; a new question is a row there. With the numbers of a NAME and of a METHOD and the PLACES lent, in
-numbers, it prints what c/questions.c has to: each question once, uses of NAME and a projection to METHOD, names by number.
+numbers, it prints what c/questions.c has to: each question once, uses of NAME and a projection to METHOD, names by number; with limits
+under these.
 """
 
 import functools
@@ -56,13 +63,15 @@ MOST_USES = 4096  # entries in the list that answer_batch lends for uses; its ot
 MOST_NAMES = 514  # a book that has more of them and lists none is asked about some alone:
 FIRST_AND_LAST = 8  # so many of the first and of the last
 
+Limits = namedtuple("Limits", "names nodes definitions")
+FULL = Limits(1024, 4096, 512)  # document 01's figures; what is above them counts as they do
 Tree = namedtuple("Tree", "kind label_kind label value kids")
 Definition = namedtuple("Definition", "name file type")
 File = namedtuple("File", "name role type")  # type is None without a root
 
 
 class Refused(Exception):
-    """A refusal: document 01's number, a name number where its row has one, and the entries needed where it is 16."""
+    """A refusal: its number, a name number where its row has one, and the entries needed where it is 16."""
 
     def __init__(self, number, name=None, needed=None):
         self.number, self.name, self.needed = number, name, needed
@@ -89,6 +98,12 @@ class Book:
 
     def definitions_of(self, *roles):
         return [row for row in self.definitions if self.files[row.file].role in roles]
+
+
+def within(book, limits):
+    """24: all that a whole book has is counted, used or not, of every file."""
+    if any(count > min(limit, most) for count, limit, most in zip(book.counts, limits, FULL)):
+        raise Refused(24)
 
 
 # Trees
@@ -456,6 +471,7 @@ QUESTIONS = tuple(Question(*row) for row in (
     ("project-every", OF_WHOLE, "project", project, lambda lines, _: [[*range(len(lines.book.names))][::-1]], numbers, False),
 ))
 ROWS = {row.word: row for row in QUESTIONS}
+LIMITED = [row for row in QUESTIONS if row.word not in ("layout", "name")]  # those that take limits
 BROKEN = {row.word: 'given 2 "" ""' if row.word == "name" else "refused 1 -" for row in QUESTIONS if row.of == OF_BOOK}
 
 
@@ -465,10 +481,10 @@ def asked_of(*kinds):
 
 
 class Lines:
-    """The questions of answer_batch on a whole book, each with its outcome as it is printed."""
+    """The questions of answer_batch on a whole book under limits, each with its outcome as it is printed."""
 
-    def __init__(self, book):
-        self.book, self.found, self.answers = book, {}, {}
+    def __init__(self, book, limits):
+        self.book, self.limits, self.found, self.answers = book, limits, {}, {}
 
     def name(self, number):
         return layout.quoted(self.book.names[number])
@@ -487,11 +503,17 @@ class Lines:
             return range(count)
         return [*range(FIRST_AND_LAST), *range(count - FIRST_AND_LAST, count)]
 
+    def answer(self, row, number):
+        """What a question answers; 24 comes before all that its function refuses."""
+        if row in LIMITED:
+            within(self.book, self.limits)
+        return row.function(self.book, *row.asked(self, number))
+
     def ask(self, row, number=None):
         """Asks, and again with too short a list; the answer is None where it is refused."""
         about = "" if number is None else f" {self.name(number)}"
         try:
-            answer = row.function(self.book, *row.asked(self, number))
+            answer = self.answer(row, number)
             self.found[row.word + about] = row.said(self, answer)
         except Refused as refused:
             answer = None
@@ -514,16 +536,16 @@ class Lines:
         return self.found
 
 
-def outcomes(data):
-    """Each question of answer_batch on a book, with its entries or its refusal as they are printed."""
+def outcomes(data, limits=FULL):
+    """Each question of answer_batch on a book under limits, with its entries or its refusal as they are printed."""
     try:
         book = Book(data)
     except Refused:
         return dict(BROKEN)
-    return Lines(book).all()
+    return Lines(book, limits).all()
 
 
-REFUSALS = range(1, 18)
+REFUSALS = (*range(1, 18), 24)
 
 
 class Tally:
@@ -551,19 +573,19 @@ class Tally:
         return [f"tally {line}\n" for line in [*found, "complete" if is_complete else "incomplete"]]
 
 
-def numbered(data, name, method, places):
+def numbered(data, name, method, places, limits=FULL):
     """What c/questions.c prints of a book. How many uses are needed it knows up to MOST_USES alone."""
     about = {"uses": name, "project": method}
-    rows = [row for row in QUESTIONS if row.word == row.counted and row.said not in (whole, texts)]
+    rows = [row for row in LIMITED if row.word == row.counted]
     try:
-        lines = Lines(Book(data))
+        lines = Lines(Book(data), limits)
     except Refused:
         return [f"{row.word} refused 1 -" for row in rows]
     found = []
     for row in rows:
         lines.answers[row.word] = None
         try:
-            answer = lines.answers[row.word] = row.function(lines.book, *row.asked(lines, about.get(row.word)))
+            answer = lines.answers[row.word] = lines.answer(row, about.get(row.word))
             if row.said is passed:
                 outcome = passed(lines, answer)
             else:
@@ -577,7 +599,7 @@ def numbered(data, name, method, places):
 
 
 def listing(data):
-    """What the program `list` prints of a book."""
+    """What the program `list` prints of a book, under the full limits."""
     try:
         book = Book(data)
     except Refused as refused:
@@ -594,14 +616,15 @@ def listing(data):
 
 
 def main():
-    if len(sys.argv) not in (2, 5):
-        sys.exit("usage: python3 tools/answers.py BOOK-OR-SOURCE.did [NAME METHOD PLACES]")
+    if len(sys.argv) not in (2, 5, 8):
+        sys.exit("usage: python3 tools/answers.py BOOK-OR-SOURCE.did [NAME METHOD PLACES [NAMES NODES DEFINITIONS]]")
     with open(sys.argv[1], "rb") as file:
         data = file.read()
     if sys.argv[1].endswith(".did"):
         data = bytes(mkbook.book(data.decode()))
-    if len(sys.argv) == 5:
-        print("\n".join(numbered(data, *map(int, sys.argv[2:]))))
+    if len(sys.argv) > 2:
+        name, method, places, *limits = map(int, sys.argv[2:])
+        print("\n".join(numbered(data, name, method, places, Limits(*limits or FULL))))
         return
     for question, outcome in outcomes(data).items():
         print(question, outcome)

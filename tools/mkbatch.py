@@ -1,8 +1,11 @@
 #!/usr/bin/env python3
 """Makes one file of all books of a folder:  python3 tools/mkbatch.py FOLDER BATCH [EXPECTED]
 
-For each source NAME.did, in the order of names by bytes, BATCH holds
-    a length byte and NAME, then a length of four bytes, little-endian, and the book
+For each source NAME.did, in the order of names by bytes, BATCH holds a record:
+    a length byte and NAME
+    the limits that the book is asked under, of names, nodes and definitions, four bytes each, little-endian: document 01's figures, but
+        for tests/limits
+    a length of four bytes, little-endian, and the book
 and EXPECTED what answer_batch has to print of it, by tools/answers.py, and the tally. Every source says by its first lines some of the
 outcomes, and these must agree:
     // fine: WHAT IT SHOWS                       the layout is whole (tests/layout), with the counts in the book's table of contents
@@ -12,6 +15,7 @@ outcomes, and these must agree:
     // init ..: WHAT IT SHOWS                    the init check: a second line of a source whose book has an init file and passes the check
     // answers: WHAT IT SHOWS                    the questions (tests/list): each line after it states the outcome of one
     // random SEED-NUMBER: WHAT IT SHOWS         nothing is said (tests/random)
+    // limits: WHAT IT SHOWS                     other limits (tests/limits): each line after it has three and states what is right under them
 A stated outcome of a question is
     // QUESTION: ENTRY ..        QUESTION is as in tools/answers.py, with a TEXT where it is about a name
     // QUESTION: none            an ENTRY is a TEXT, a number or METHOD.KIND.INDEX, with repeat and nest as in a source
@@ -19,6 +23,10 @@ A stated outcome of a question is
     // QUESTION: passes          of check and init-check
     // QUESTION: whole N N N N   of layout: names, nodes, definitions, files
     // QUESTION: needs N         of a question with too short a list
+Each three limits are a record of its own, whose name is NAME@NAMES-NODES-DEFINITIONS; stated is
+    // NAMES NODES DEFINITIONS: within    every line is as under document 01's figures
+    // NAMES NODES DEFINITIONS: over      all but layout and name are refused with 24
+    // NAMES NODES DEFINITIONS: broken    the layout is broken, so all are refused with 1
 """
 
 import os
@@ -38,6 +46,9 @@ INIT_LINE = re.compile(r"//.*\n// init " + OUTCOME)
 ANSWERS_LINE = re.compile(r"// answers: \S.*\n")
 TEXT = r'"(?:[^"\\]|\\.)*"'
 RANDOM_LINE = re.compile(r"// random [0-9]+-[0-9]+: \S.*\n")
+LIMITS_LINE = re.compile(r"// limits: \S.*\n")
+UNDER_LINE = re.compile(r"// ([0-9]+) ([0-9]+) ([0-9]+): (within|over|broken)")
+HIGHEST_LIMIT = (1 << 32) - 1
 
 
 def words(*kinds):
@@ -161,8 +172,52 @@ def is_random(text):
     return bool(RANDOM_LINE.match(text))
 
 
+def is_of_limits(text):
+    """Whether a source's first line is of limits."""
+    return bool(LIMITS_LINE.match(text))
+
+
+def limited(text):
+    """The limits that such a source is asked under, with what it states of each three."""
+    if not is_of_limits(text):
+        raise mkbook.SourceError("the first line does not say `// limits: ..`")
+    found = {}
+    for line in text.splitlines()[1:]:
+        if not line.startswith("//"):
+            break
+        match = UNDER_LINE.fullmatch(line)
+        if not match:
+            raise mkbook.SourceError(f"not three limits and what is right under them: {line}")
+        limits = answers.Limits(*map(int, match.groups()[:3]))
+        if max(limits) > HIGHEST_LIMIT:
+            raise mkbook.SourceError(f"a limit has four bytes: {line}")
+        if limits in found:
+            raise mkbook.SourceError(f"limits are stated twice: {line}")
+        found[limits] = match[4]
+    if not found:
+        raise mkbook.SourceError("no limits are stated")
+    return found
+
+
+def asked_under(name, text):
+    """The name and the limits of each record of a source."""
+    if is_of_limits(text):
+        return [(f"{name}@{limits.names}-{limits.nodes}-{limits.definitions}", limits) for limits in limited(text)]
+    return [(name, answers.FULL)]
+
+
+def right_under(limits, text, book, found):
+    """What the outcomes found of a book under limits have to be, by what its source states of these."""
+    stated, full = limited(text)[limits], answers.outcomes(book)
+    if (stated == "broken") != (full == answers.BROKEN):
+        raise mkbook.SourceError(f"{stated} is stated of a book whose layout is {full['layout']}")
+    if stated == "over":
+        return {question: full[question] if question in ("layout", "name") else "refused 24 -" for question in found}
+    return dict.fromkeys(found) | full  # and no question more
+
+
 def claims(text, book):
-    """The outcomes of answer_batch that any source states."""
+    """The outcomes of answer_batch that a source of document 01's figures states."""
     if is_of_check(text):
         return {"check": said(verdict(text)), "init-check": said(init_verdict(text))}
     if is_of_questions(text):
@@ -174,10 +229,11 @@ def claims(text, book):
     return {"layout": " ".join(["whole", *map(str, struct.unpack("<8I", book[:32])[1::2])])}
 
 
-def agreed(text, book, found=None):
-    """The outcomes of answer_batch on a book, with which those agree that its source states."""
-    found = found or answers.outcomes(book)
-    for question, outcome in claims(text, book).items():
+def agreed(text, book, limits=answers.FULL, found=None):
+    """The outcomes of answer_batch on a book under limits, with which those agree that its source states."""
+    found = found or answers.outcomes(book, limits)
+    right = right_under(limits, text, book, found) if is_of_limits(text) else claims(text, book)
+    for question, outcome in right.items():
         if found.get(question) != outcome:
             raise mkbook.SourceError(f"{question}: {outcome} is stated, {found.get(question)} is found")
     return found
@@ -185,29 +241,29 @@ def agreed(text, book, found=None):
 
 def answered(name, text, book):
     """The lines of a source for answer_batch."""
-    return "".join(replay.lines(name, agreed(text, book)))
+    return "".join(line for name, limits in asked_under(name, text) for line in replay.lines(name, agreed(text, book, limits)))
 
 
-def record(name, book):
-    return bytes([len(name.encode())]) + name.encode() + struct.pack("<I", len(book)) + book
+def record(name, book, limits=answers.FULL):
+    return bytes([len(name.encode())]) + name.encode() + struct.pack("<4I", *limits, len(book)) + book
 
 
 def main():
     if len(sys.argv) not in (3, 4):
         sys.exit("usage: python3 tools/mkbatch.py FOLDER BATCH [EXPECTED]")
     folder, batch_path, *expected_path = sys.argv[1:]
-    books = {}
-    for name, text in sources(folder):
+    books = []
+    for source, text in sources(folder):
         try:
             book = bytes(mkbook.book(text))
-            books[name] = book, agreed(text, book) if expected_path else None
+            books += [(name, book, limits, agreed(text, book, limits) if expected_path else None) for name, limits in asked_under(source, text)]
         except mkbook.SourceError as error:
-            sys.exit(f"{folder}/{name}.did: {error}")
+            sys.exit(f"{folder}/{source}.did: {error}")
     with open(batch_path, "wb") as batch:
-        batch.writelines(record(name, book) for name, (book, _) in books.items())
+        batch.writelines(record(name, book, limits) for name, book, limits, _ in books)
     for path in expected_path:
         with open(path, "w", encoding="utf-8") as lines:
-            lines.writelines(replay.printed((name, outcomes) for name, (_, outcomes) in books.items()))
+            lines.writelines(replay.printed((name, outcomes) for name, _, _, outcomes in books))
 
 
 if __name__ == "__main__":

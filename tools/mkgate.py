@@ -5,7 +5,7 @@
     crates/list/stdin, stdout             P1 and its list
 
 Books come from the sources by tools/mkbook.py. What the programs must write comes from the sources' first lines and
-from tools/layout.py and tools/answers.py, which read the bytes by the paper alone, and never from the programs;
+from tools/layout.py and tools/answers.py, which read the bytes by the papers alone, and never from the programs;
 oracle/replay.sh makes the lines of answer_batch anew from the Rust. With --check nothing is written: each file is said
 to be current or not, and the exit status is 1 if one is not.
 """
@@ -23,28 +23,30 @@ ROOT = os.path.join(os.path.dirname(os.path.abspath(__file__)), "..")
 SOURCES = os.path.join(ROOT, "tests", "layout")
 CHECK_SOURCES = os.path.join(ROOT, "tests", "check")
 LIST_SOURCES = os.path.join(ROOT, "tests", "list")
-REPLAYED = ("list", "check", "layout", "random")  # of equal books that of the first folder is taken
+LIMITS_SOURCES = os.path.join(ROOT, "tests", "limits")
+REPLAYED = ("list", "check", "layout", "random", "limits")  # of equal books under equal limits that of the first folder is taken
 
 
 @functools.cache
 def replayed():
-    """The stored list: name, text, book and outcomes of each source. A name is the folder's and the source's own. What the source of an
-    equal book says must agree too."""
-    books, found = {}, []
+    """The stored list: name, text, book, limits and outcomes of each record. A name is the folder's and the record's own. What the source
+    of an equal book says must agree too."""
+    answered, found = {}, []
     for folder in REPLAYED:
-        for name, text in mkbatch.sources(os.path.join(ROOT, "tests", folder)):
+        for source, text in mkbatch.sources(os.path.join(ROOT, "tests", folder)):
             book = bytes(mkbook.book(text))
-            outcomes = mkbatch.agreed(text, book, books.get(book))
-            if book not in books:
-                books[book] = outcomes
-                found.append((f"{folder}/{name}", text, book, outcomes))
-    return sorted(found, key=lambda source: source[0].encode())
+            for name, limits in mkbatch.asked_under(source, text):
+                outcomes = mkbatch.agreed(text, book, limits, answered.get((book, limits)))
+                if (book, limits) not in answered:
+                    answered[book, limits] = outcomes
+                    found.append((f"{folder}/{name}", text, book, limits, outcomes))
+    return sorted(found, key=lambda record: record[0].encode())
 
 
 def answer_batch():
     """The records and lines of the stored list, and the tally."""
-    records = b"".join(mkbatch.record(name, book) for name, _, book, _ in replayed())
-    return records, "".join(replay.printed((name, outcomes) for name, _, _, outcomes in replayed()))
+    records = b"".join(mkbatch.record(name, book, limits) for name, _, book, limits, _ in replayed())
+    return records, "".join(replay.printed((name, outcomes) for name, _, _, _, outcomes in replayed()))
 
 
 def files():

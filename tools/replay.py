@@ -14,14 +14,14 @@ import answers
 
 
 def records(data):
-    """The names and books of a batch."""
+    """The names, books and limits of a batch."""
     at = 0
     while at < len(data):
         name = data[at + 1:at + 1 + data[at]].decode()
         at += 1 + data[at]
-        size, = struct.unpack_from("<I", data, at)
-        yield name, data[at + 4:at + 4 + size]
-        at += 4 + size
+        *limits, size = struct.unpack_from("<4I", data, at)
+        yield name, data[at + 16:at + 16 + size], answers.Limits(*limits)
+        at += 16 + size
 
 
 def parted(line):
@@ -54,17 +54,19 @@ def printed(books):
 
 def answered(data):
     """What tools/answers.py says of each book of a batch."""
-    for name, book in records(data):
-        yield name, answers.outcomes(book)
+    for name, book, limits in records(data):
+        yield name, answers.outcomes(book, limits)
 
 
 def whose(question, theirs):
-    """Whose line `oracle answer` prints: the Rust's, or the oracle's own, by document 01."""
+    """Whose line `oracle answer` prints: the Rust's, or the oracle's own, by the paper."""
     word, outcome = question.split(" ")[0], theirs[question]
     if theirs["layout"] == "refused 1 -":
         return "the oracle's own, layout broken"
     if word in ("layout", "name"):
         return "the oracle's own, its reader of books"
+    if outcome == "refused 24 -":
+        return "the oracle's own, 24"
     if word.endswith("-short") or outcome == "refused 16 -":
         return "the oracle's own, 16"
     if word in ("marks-outside", "marks-highest") and theirs["marks"].startswith("given"):
@@ -77,8 +79,8 @@ def joined(data, rust, told):
     those of the others on which tools/answers.py says something else."""
     left = iter(rust.splitlines())
     line = next(left, None)
-    for name, book in records(data):
-        theirs, ours, found = {}, answers.outcomes(book), {}
+    for name, book, limits in records(data):
+        theirs, ours, found = {}, answers.outcomes(book, limits), {}
         while line is not None and line.startswith(name + " "):
             question, outcome = parted(line[len(name) + 1:])
             theirs[question] = outcome

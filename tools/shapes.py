@@ -5,7 +5,8 @@
     python3 tools/shapes.py choose BATCH FOLDER    the books of a batch of `oracle generate` that have what the list lacks, written as
                                                    sources; fewest and smallest first
 
-A book has each shape below; and if it passes and has an actor, each two of those marked * together.
+A book within its limits has each shape below; and if it passes and has an actor, each two of those marked * together. Books are chosen
+under document 01's figures.
 """
 
 import functools
@@ -152,6 +153,8 @@ def shapes(data, outcomes=None):
     except answers.Refused:
         return {"broken " + rule for rule, _ in layout.faults(data)}
     outcomes = outcomes or answers.outcomes(data)
+    if outcomes["check"] == "refused 24 -":  # nothing was looked at
+        return set(of_outcomes(outcomes))
     found = {*of_names(book.names), *of_trees(book), *of_files(book), *of_outcomes(outcomes)}
     refused = outcomes["check"].split(" ")[1] if outcomes["check"] != "passed" else None
     roles = {file.role for file in book.files}
@@ -176,7 +179,7 @@ def folded(line, width=150):
 def choose(batch, folder, most=2_000):
     """Writes the books that have what the list and those chosen before lack."""
     has, candidates = shown().keys(), []
-    for name, book in replay.records(batch):
+    for name, book, _ in replay.records(batch):
         if len(book) <= most and not layout.faults(book):
             lacking = shapes(book) - has
             if lacking:
@@ -202,7 +205,7 @@ def choose(batch, folder, most=2_000):
 def shown():
     """Each shape with the sources of the list that have it."""
     found = {}
-    for name, _, book, outcomes in mkgate.replayed():
+    for name, _, book, _, outcomes in mkgate.replayed():
         for shape in shapes(book, outcomes):
             found.setdefault(shape, []).append(name)
     return found

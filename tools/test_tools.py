@@ -1,5 +1,5 @@
 #!/usr/bin/env python3
-"""Tests the tools and the sources in tests/layout, tests/check, tests/list and tests/random:  python3 tools/test_tools.py"""
+"""Tests the tools and the sources in tests/layout, tests/check, tests/list, tests/random and tests/limits:  python3 tools/test_tools.py"""
 
 import collections
 import os
@@ -34,10 +34,15 @@ CHECK_BOOKS = {name: mkbook.book(text) for name, text in CHECK_SOURCES.items()}
 LIST_FOLDER = os.path.join(HERE, "..", "tests", "list")
 LIST_SOURCES = dict(mkbatch.sources(LIST_FOLDER))
 LIST_BOOKS = {name: mkbook.book(text) for name, text in LIST_SOURCES.items()}
+LIMITS_FOLDER = os.path.join(HERE, "..", "tests", "limits")
+LIMITS_SOURCES = dict(mkbatch.sources(LIMITS_FOLDER))
+LIMITS_BOOKS = {name: mkbook.book(text) for name, text in LIMITS_SOURCES.items()}
 NAMED = {2, 3, 7, 9, 12, 13, 14}  # the check's refusals that name something
 NAMELESS = {4, 5, 6, 8, 10}
 SHORT = {f"{row.word}-short" for row in answers.QUESTIONS if row.again}
 QUESTIONS = {*answers.ROWS, *SHORT}
+FULL = (1024, 4096, 512)  # document 01's figures of names, nodes and definitions
+OVER = "refused 24 -"
 
 
 class Encoding(unittest.TestCase):
@@ -342,6 +347,34 @@ class Answers(unittest.TestCase):
             self.assertEqual({word: found.get(word) for word in right}, right, (name, *asked))
         self.assertEqual(answers.numbered(b"", 0, 0, 4096), [f"{word} refused 1 -" for word in found])
 
+    def test_numbered_limits(self):
+        """P1 has 7 names, 10 nodes and 3 definitions. A limit too small is told before a name outside the table and a list too short."""
+        words = "check init-check list marks init draft empty uses project".split()
+        for asked in ((6, 4, 4096), (65535, 65535, 4096), (6, 4, 0)):
+            full = answers.numbered(LIST_BOOKS["p01"], *asked)
+            for limits in ((7, 10, 3), (7, 4096, 512), (1024, 10, 512), (1024, 4096, 3), (1025, 4097, 513), (2**32 - 1,) * 3):
+                self.assertEqual(answers.numbered(LIST_BOOKS["p01"], *asked, limits), full, limits)
+            for limits in ((6, 10, 3), (7, 9, 3), (7, 10, 2), (0, 4096, 512), (1024, 0, 512), (1024, 4096, 0), (0, 0, 0)):
+                self.assertEqual(answers.numbered(LIST_BOOKS["p01"], *asked, limits), [f"{word} {OVER}" for word in words], limits)
+        for limits in ((0, 0, 0), (2**32 - 1,) * 3):
+            self.assertEqual(answers.numbered(b"", 0, 0, 4096, limits), [f"{word} refused 1 -" for word in words])
+
+    def test_command(self):
+        """Limits are told after NAME, METHOD and PLACES."""
+        def printed(*arguments):
+            return subprocess.run([sys.executable, os.path.join(HERE, "answers.py"), os.path.join(LIST_FOLDER, "p01.did"), *arguments],
+                                  check=True, capture_output=True, text=True).stdout.splitlines()
+
+        full = answers.numbered(LIST_BOOKS["p01"], 6, 4, 2)
+        self.assertEqual(printed("6", "4", "2"), full)
+        self.assertEqual(printed("6", "4", "2", "7", "10", "3"), full)
+        for limits in (("6", "10", "3"), ("7", "9", "3"), ("7", "10", "2")):
+            self.assertEqual({line.split(" ", 1)[1] for line in printed("6", "4", "2", *limits)}, {OVER})
+        self.assertEqual(printed(), [f"{question} {outcome}" for question, outcome in answers.outcomes(LIST_BOOKS["p01"]).items()])
+        for arguments in (["6"], ["6", "4"], ["6", "4", "2", "7"], ["6", "4", "2", "7", "10"], ["6", "4", "2", "7", "10", "3", "1"]):
+            with self.assertRaises(subprocess.CalledProcessError, msg=arguments):
+                printed(*arguments)
+
     def test_empty(self):
         """By `is_empty` of type_env.rs, arm by arm."""
         for data in [*CHECK_BOOKS.values(), *LIST_BOOKS.values()]:
@@ -376,6 +409,190 @@ def reached(refers, start):
             found.add(name)
             left += refers[name]
     return found
+
+
+class Limits(unittest.TestCase):
+    """24, by request 14 of document 02: directly after 1 and before all else, in drafts too; layout and name take no limits."""
+
+    def is_over(self, data, limits, what=None):
+        """Every line but layout and name is 24; these are as under the full figures, and nothing is asked again with too short a list."""
+        full, found = answers.outcomes(data), answers.outcomes(data, limits)
+        for question, outcome in found.items():
+            self.assertEqual(outcome, full[question] if question in ("layout", "name") else OVER, (what, limits, question))
+        self.assertEqual({question.split(" ")[0] for question in found}, set(answers.ROWS), (what, limits))
+
+    def is_within(self, data, limits, what=None):
+        self.assertEqual(list(answers.outcomes(data, limits).items()), list(answers.outcomes(data).items()), (what, limits))
+
+    def test_p1(self):
+        """7 names, 10 nodes, 3 definitions."""
+        book = LIST_BOOKS["p01"]
+        self.assertEqual(answers.Book(book).counts, [7, 10, 3, 1])
+        for limits in ((7, 10, 3), (8, 10, 3), (7, 11, 3), (7, 10, 4), (7, 4096, 512), (1024, 10, 512), (1024, 4096, 3), FULL):
+            self.is_within(book, limits)
+        for limits in ((6, 10, 3), (7, 9, 3), (7, 10, 2), (6, 4096, 512), (1024, 9, 512), (1024, 4096, 2), (6, 9, 2),
+                       (0, 4096, 512), (1024, 0, 512), (1024, 4096, 0), (0, 0, 0), (1, 2**32 - 1, 2**32 - 1)):
+            self.is_over(book, limits)
+        self.assertEqual(answers.outcomes(book, (6, 10, 3)) | {"name": None}, {
+            "layout": "whole 7 10 3 1", "name": None,
+            **{question: OVER for question in (
+                "check init-check list marks marks-back marks-outside marks-highest init draft empty uses-outside project-outside "
+                "project-highest project-none project-all project-every").split()},
+            **{f'{word} "{name}"': OVER for word in ("uses", "project", "twice") for name in ("", *"fork leaf pair put spare tree".split())}})
+
+    def test_above_the_figures(self):
+        """A limit above a figure counts as the figure, so no whole book is over it, and none with more than the figure becomes whole."""
+        for limits in ((1025, 4097, 513), (65536, 65536, 65536), (2**32 - 1,) * 3):
+            for name in ("limit-all", "limit-names-1024", "limit-nodes-4096", "limit-definitions-512", "p01"):
+                self.is_within(BOOKS[name], limits, name)
+            for name in ("limit-names-1025", "limit-nodes-4097", "limit-definitions-513"):
+                self.assertEqual(answers.outcomes(BOOKS[name], limits), answers.BROKEN, name)
+        counted = answers.Book(BOOKS["p01"])
+        for place, figure in enumerate(FULL):
+            counted.counts = [0, 0, 0, 1]  # what no whole book has, to see the limit itself
+            for count, limit, number in ((figure, figure, None), (figure, figure + 1, None), (figure + 1, figure + 1, 24),
+                                         (figure + 1, 2**32 - 1, 24), (figure, figure - 1, 24), (1, 0, 24), (0, 0, None)):
+                counted.counts[place] = count
+                limits = [*FULL]
+                limits[place] = limit
+                self.assertEqual(asked(answers.within, counted, answers.Limits(*limits)), number and (number, None), (place, count, limit))
+
+    def test_each_count(self):
+        """Of many books: 24 exactly if one of the three counts is above its limit, else what is answered under the full figures."""
+        tried = 0
+        for name in FINE:
+            counts = answers.Book(BOOKS[name]).counts[:3]
+            if max(counts) > 40:
+                continue
+            tried += 1
+            for place in range(3):
+                for change in (-1, 0, 1):
+                    for others in (FULL, counts):
+                        limits = [*others]
+                        limits[place] = counts[place] + change
+                        if limits[place] >= 0:
+                            (self.is_over if change < 0 else self.is_within)(BOOKS[name], answers.Limits(*limits), name)
+        self.assertGreater(tried, 60)
+
+    def test_broken(self):
+        """1 whatever the limits are."""
+        for name in BROKEN:
+            for limits in ((0, 0, 0), (2**32 - 1,) * 3):
+                self.assertEqual(answers.outcomes(BOOKS[name], limits), answers.BROKEN, name)
+
+    def test_first(self):
+        """Before every other refusal of every question, and before what passes."""
+        refused = set()
+        for name, book in [*CHECK_BOOKS.items(), *LIST_BOOKS.items()]:
+            if name.startswith("large-") or layout.faults(book):
+                continue
+            refused |= {outcome.split()[1] for outcome in answers.outcomes(book).values() if outcome.startswith("refused")}
+            self.is_over(book, (0, 4096, 512), name)  # every whole book has a file's name
+        self.assertEqual(refused, {str(number) for number in range(2, 18) if number != 16})
+
+    def test_names_asked(self):
+        """Of a book over its limits no name is listed, so that of more than 514 names some alone are asked about."""
+        book = mkbook.book('names repeat 512 { "n###" }; type a = nat; service : { m : (a) -> () }')
+        full, over = ([question.split(" ")[1] for question in answers.outcomes(book, limits) if question.startswith("uses ")]
+                      for limits in (FULL, (0, 0, 0)))
+        self.assertEqual(len(full), 515)
+        self.assertEqual(over, '"" "a" "m" "n000" "n001" "n002" "n003" "n004" "n504" "n505" "n506" "n507" "n508" "n509" "n510" "n511"'.split())
+        book = mkbook.book('names repeat 511 { "n###" }; type a = nat; service : { m : (a) -> () }')
+        self.assertEqual(len([question for question in answers.outcomes(book, (0, 0, 0)) if question.startswith("uses ")]), 514)
+
+
+class LimitsSources(unittest.TestCase):
+
+    def test_stated(self):
+        """What a source states is what the second reading finds."""
+        for name, text in LIMITS_SOURCES.items():
+            for limits, stated in mkbatch.limited(text).items():
+                found = answers.outcomes(LIMITS_BOOKS[name], limits)
+                self.assertEqual(stated == "broken", bool(layout.faults(LIMITS_BOOKS[name])), name)
+                right = {"broken": "refused 1 -", "over": OVER, "within": answers.outcomes(LIMITS_BOOKS[name])["check"]}[stated]
+                self.assertEqual(found["check"], right, (name, limits))
+
+    def test_what_is_there(self):
+        """Each limit at a count, one below it and one above; 0 and above the figures; 24 in the place of each early refusal and of what
+        passes; books with repeated labels on both sides."""
+        at, below, above, instead, drafts, values = set(), set(), set(), set(), set(), set()
+        for name, text in LIMITS_SOURCES.items():
+            full = answers.outcomes(LIMITS_BOOKS[name])
+            for limits, stated in mkbatch.limited(text).items():
+                values |= {(limit, stated) for limit in limits}
+                if stated == "broken":
+                    continue
+                counts = answers.Book(LIMITS_BOOKS[name]).counts
+                spare = [limit - count for limit, count in zip(limits, counts)]
+                if stated == "over":
+                    instead.add(full["check"].split()[1] if full["check"] != "passed" else "passed")
+                    drafts.add(full["draft"].split()[1] if full["draft"].startswith("refused") else "given")
+                    below |= {place for place in range(3) if spare[place] == -1 and min(spare[:place] + spare[place + 1:]) >= 0}
+                else:
+                    at |= {place for place in range(3) if spare[place] == 0}
+                    above |= {place for place in range(3) if spare[place] == 1}
+        self.assertEqual((at, below, above), ({0, 1, 2},) * 3)
+        self.assertEqual(instead, {"passed", "2", "3", "4", "7", "12"})
+        self.assertEqual(drafts, {"given", "2", "3", "17"})
+        for limit in (1025, 4097, 513, 2**32 - 1):
+            self.assertLessEqual({(limit, "within"), (limit, "broken")}, values)
+        self.assertLessEqual({(0, stated) for stated in ("within", "over", "broken")}, values)
+        for name in ("repeat-label", "repeat-method"):
+            self.assertEqual(set(mkbatch.limited(LIMITS_SOURCES[name]).values()), {"within", "over"})
+            self.assertTrue(any("twice *" in shape and " and " not in shape for shape in shapes.shapes(LIMITS_BOOKS[name])), name)
+        self.assertEqual(answers.Book(LIMITS_BOOKS["largest"]).counts, [*FULL, 1])
+        self.assertEqual(LIMITS_BOOKS["p01"], LIST_BOOKS["p01"])
+
+    def test_lines(self):
+        head = "// limits: x\n"
+        for lines, found in {
+            "// 7 10 3: within\n": {(7, 10, 3): "within"},
+            "// 0 0 0: over\n// 4294967295 0 1: broken\ntype a = nat;\n// 1 1 1: over\n": {(0, 0, 0): "over", (4294967295, 0, 1): "broken"},
+        }.items():
+            self.assertEqual(mkbatch.limited(head + lines), found, lines)
+            self.assertEqual(mkbatch.asked_under("b", head + lines), [("b@" + "-".join(map(str, limits)), limits) for limits in found])
+        self.assertEqual(mkbatch.asked_under("b", "// answers: x\n// list: none\n"), [("b", FULL)])
+        for text in (head, head + "type a = nat;\n// 1 1 1: over\n", head + "// 1 1: over\n", head + "// 1 1 1 1: over\n", head + "// 1 1 1: above\n",
+                     head + "// 1 1 1: within: x\n", head + "// 1 1 1\n", head + "// -1 1 1: over\n", head + "// 4294967296 1 1: within\n",
+                     head + "// a remark\n// 1 1 1: over\n", head + "// 1 1 1: over\n// 1 1 1: over\n", "// limits:\n// 1 1 1: over\n",
+                     "// 1 1 1: over\n", "// fine: x\n// 1 1 1: over\n"):
+            with self.assertRaises(mkbook.SourceError, msg=text):
+                mkbatch.limited(text)
+
+    def test_wrong_claims(self):
+        p1, broken = LIST_BOOKS["p01"], LIST_BOOKS["broken"]
+        for book, line in ((p1, "7 10 3: within"), (p1, "6 10 3: over"), (broken, "7 10 3: broken"), (b"", "0 0 0: broken")):
+            text = f"// limits: x\n// {line}\n"
+            (name, limits), = mkbatch.asked_under("a", text)
+            self.assertEqual(mkbatch.agreed(text, book, limits), answers.outcomes(book, limits), line)
+            self.assertEqual(mkbatch.answered("a", text, book), "".join(replay.lines(name, answers.outcomes(book, limits))))
+        wrong = [(p1, f"7 10 3: {stated}") for stated in ("over", "broken")] + [(p1, f"6 10 3: {stated}") for stated in ("within", "broken")]
+        wrong += [(p1, "7 9 3: within"), (p1, "7 10 2: within")]
+        wrong += [(book, line) for book in (broken, b"") for line in ("7 10 3: within", "0 0 0: over")]
+        for book, line in wrong:
+            text = f"// limits: x\n// {line}\n"
+            with self.assertRaises(mkbook.SourceError, msg=line):
+                mkbatch.answered("a", text, book)
+        found = answers.outcomes(p1)
+        for other in (found | {"list-short": None}, found | {"more": "passed"}, found | {"name": "given 0"}):
+            with self.assertRaises(mkbook.SourceError):
+                mkbatch.agreed("// limits: x\n// 7 10 3: within\n", p1, answers.Limits(7, 10, 3), other)
+        found = answers.outcomes(p1, (0, 0, 0))
+        for other in (found | {"draft": "given 0"}, found | {"list-short": "needs 2 refused 16 -"}, found | {"layout": OVER}, found | {"name": OVER}):
+            with self.assertRaises(mkbook.SourceError):
+                mkbatch.agreed("// limits: x\n// 0 0 0: over\n", p1, answers.Limits(0, 0, 0), other)
+
+    def test_command(self):
+        """A wrong claim ends tools/mkbatch.py with the source's name, and nothing is written."""
+        with tempfile.TemporaryDirectory() as folder:
+            for claim, status in (("7 10 3: within", 0), ("7 10 3: over", 1), ("", 1)):
+                with open(os.path.join(folder, "a.did"), "w", encoding="utf-8") as file:
+                    file.write(f"// limits: x\n// {claim}\n" + layout.text(LIST_BOOKS["p01"]))
+                paths = [os.path.join(folder, f"{name}-{status}") for name in ("batch", "expected")]
+                run = subprocess.run([sys.executable, os.path.join(HERE, "mkbatch.py"), folder, *paths], capture_output=True, text=True)
+                self.assertEqual(run.returncode, status, claim)
+                self.assertEqual([os.path.exists(path) for path in paths], [status == 0] * 2)
+                self.assertEqual(run.stderr[:len(folder) + 7], f"{folder}/a.did:" if status else "")
 
 
 class ListSources(unittest.TestCase):
@@ -453,15 +670,17 @@ class ListSources(unittest.TestCase):
             *(f"a {word} refused 1 -\n" for word in "check init-check list marks marks-back marks-outside marks-highest init draft empty".split())])
 
     def test_tally(self):
-        """By hand: P10's lines and those of a broken book."""
-        lines = list(replay.printed([("a", answers.outcomes(LIST_BOOKS["p10"])), ("b", answers.outcomes(b""))]))
-        refused = {1: 11, 3: 2, 15: 6, 16: 1}
-        given = {"layout": 1, "name": 2, "check": 1, "init-check": 1, "project": 2}
+        """By hand: P10's lines, those of a broken book, and P10's when a limit is passed. Numbers 18 to 23 have no refusal."""
+        lines = list(replay.printed([("a", answers.outcomes(LIST_BOOKS["p10"])), ("b", answers.outcomes(b"")),
+                                     ("c", answers.outcomes(LIST_BOOKS["p10"], (2, 1, 0)))]))
+        refused = {1: 11, 3: 2, 15: 6, 16: 1, 24: 22}
+        given = {"layout": 2, "name": 3, "check": 1, "init-check": 1, "project": 2}
         words = "layout name check init-check list marks init draft empty uses project".split()
-        self.assertEqual(lines[-29:], [
-            *(f"tally refused {number} {refused.get(number, 0)}\n" for number in range(1, 18)),
+        self.assertEqual(lines[-30:], [
+            *(f"tally refused {number} {refused.get(number, 0)}\n" for number in (*range(1, 18), 24)),
             *(f"tally given {word} {given.get(word, 0)}\n" for word in words),
             "tally incomplete\n"])
+        self.assertFalse(lines[-31].startswith("tally "))
         tally = answers.Tally()
         for question, word in (("marks", "marks"), ("marks-back", "marks"), ("uses-outside", "uses"), ('uses "a"', "uses"),
                                ('twice "-"', "project"), ("project-all", "project"), ("init", "init"), ("name", "name")):
@@ -470,7 +689,22 @@ class ListSources(unittest.TestCase):
             tally.add(question, "given 0")
             self.assertEqual(tally.given[word], before + 1, question)
         tally.add('uses-short "refused 4 -"', "needs 5 refused 16 -")
-        self.assertEqual({number for number, count in tally.refused.items() if count}, {16})
+        tally.add('uses "refused 4 -"', OVER)
+        self.assertEqual({number: count for number, count in tally.refused.items() if count}, {16: 1, 24: 1})
+        for number in range(18, 24):
+            with self.assertRaises(KeyError):
+                tally.add("check", f"refused {number} -")
+
+    def test_complete(self):
+        """A tally is complete if none of its counts is 0, 24's too."""
+        tally = answers.Tally()
+        for word in answers.ROWS:
+            tally.add(word, "given 1 x")
+        for number in range(1, 18):
+            tally.add("check", f"refused {number} -")
+        self.assertEqual(tally.lines()[-1], "tally incomplete\n")
+        tally.add("check", OVER)
+        self.assertEqual(tally.lines()[-1], "tally complete\n")
 
 
 class Replay(unittest.TestCase):
@@ -484,7 +718,7 @@ class Replay(unittest.TestCase):
     def test_tally(self):
         """Every refusal and every answer with entries is in the list."""
         tally = [line for line in self.lines.splitlines() if line.startswith("tally ")]
-        self.assertEqual(len(tally), 17 + 11 + 1)
+        self.assertEqual(len(tally), 18 + 11 + 1)
         self.assertEqual(tally[-1], "tally complete")
         for line in tally[:-1]:
             self.assertGreater(int(line.split()[-1]), 0, line)
@@ -492,18 +726,18 @@ class Replay(unittest.TestCase):
     def test_questions(self):
         """Each question is there with each refusal that it can have, and given with entries."""
         found = collections.defaultdict(set)
-        for _, _, _, outcomes in self.sources:
+        for _, _, _, _, outcomes in self.sources:
             for question, outcome in outcomes.items():
                 words = outcome.split()
                 found[question.split()[0]].add(int(words[1]) if words[0] == "refused" else words[0] if words[1:] != ["0"] else "none")
-        check = {1, *NAMED, *NAMELESS}
+        check = {1, 24, *NAMED, *NAMELESS}
         given = {"given", "none"}
         self.assertEqual(found, {
             "layout": {"whole", 1}, "name": {"given"},
             "check": {"passed", *check}, "init-check": {"passed", 11, *check},
             "list": {17, *check, *given}, "marks": {*check, *given}, "marks-back": {*check, *given},
             "marks-outside": check, "marks-highest": check,
-            "init": {11, *check, *given}, "draft": {1, 2, 3, 17, *given}, "empty": {*check, *given},
+            "init": {11, *check, *given}, "draft": {1, 2, 3, 17, 24, *given}, "empty": {*check, *given},
             "uses": {16, 17, *check, *given} - {1}, "project": {15, 17, "given", *check} - {1}, "twice": {15, 17, "given", *check} - {1},
             "uses-outside": {17, "none", *check} - {1}, "project-outside": {15, 17, *check} - {1}, "project-highest": {15, 17, *check} - {1},
             "project-none": {17, "none", *check} - {1},
@@ -532,24 +766,28 @@ class Replay(unittest.TestCase):
         self.assertEqual(needed - found, set())
 
     def test_sources(self):
-        names = [name for name, _, _, _ in self.sources]
+        names = [name for name, _, _, _, _ in self.sources]
         self.assertEqual(len(names), len(set(names)))
-        self.assertEqual(len({book for _, _, book, _ in self.sources}), len(names))
-        self.assertEqual([(name, book) for name, _, book, _ in self.sources], list(replay.records(self.records)))
-        for folder in ("list", "random"):
+        self.assertEqual(len({(book, limits) for _, _, book, limits, _ in self.sources}), len(names))
+        self.assertEqual([(name, book, limits) for name, _, book, limits, _ in self.sources], list(replay.records(self.records)))
+        for folder in ("list", "random", "limits"):
             for name, text in mkbatch.sources(os.path.join(HERE, "..", "tests", folder)):
-                self.assertIn(f"{folder}/{name}", names)
+                for record, _ in mkbatch.asked_under(name, text):
+                    self.assertIn(f"{folder}/{record}", names)
                 self.assertEqual(mkbatch.is_random(text), folder == "random", name)
-        for name, _, book, _ in self.sources:
+                self.assertEqual(mkbatch.is_of_limits(text), folder == "limits", name)
+        for name, _, book, limits, _ in self.sources:
             if name.startswith("random/"):
                 self.assertEqual(mkbook.book(layout.text(book)), book, name)
+            if not name.startswith("limits/"):
+                self.assertEqual(limits, FULL, name)
         self.assertLess(len(self.records), 4_000_000)
         self.assertLess(len(self.lines), 4_000_000)
 
     def test_layouts_and_checks(self):
         """Every book of tests/layout and of tests/check is there, with what its source says of the layout or of the two checks, and with
         every name by its number and nothing for two numbers outside."""
-        found = {book: outcomes for _, _, book, outcomes in self.sources}
+        found = {book: outcomes for _, _, book, limits, outcomes in self.sources if limits == FULL}
         for name, text in SOURCES.items():
             outcomes, reader = found[bytes(BOOKS[name])], layout.Reader(BOOKS[name])
             self.assertEqual(bool(reader.faults), bool(mkbatch.broken_rules(text)), name)
@@ -566,7 +804,7 @@ class Replay(unittest.TestCase):
     def test_asked_names(self):
         """Every name is asked about, but for books with more than 514 names that list none: of them the first and the last eight."""
         some = []
-        for name, _, _, outcomes in self.sources:
+        for name, _, _, _, outcomes in self.sources:
             count = int(outcomes["layout"].split()[1]) if outcomes["layout"] != "refused 1 -" else 0
             asked = [question.split(" ", 1)[1] for question in outcomes if question.startswith("uses ")]
             if len(asked) < count:
@@ -581,11 +819,12 @@ class Replay(unittest.TestCase):
         """docs/TESTING.md has the list's size."""
         with open(os.path.join(HERE, "..", "docs", "TESTING.md"), encoding="utf-8") as file:
             text = file.read()
-        self.assertIn(f" {len(self.sources)} books", text)
-        self.assertIn(f" {sum(len(outcomes) for _, _, _, outcomes in self.sources):,} lines", text)
+        self.assertIn(f" {len(self.sources)} records", text)
+        self.assertIn(f"({len({book for _, _, book, _, _ in self.sources})} different books)", text)
+        self.assertIn(f" {sum(len(outcomes) for _, _, _, _, outcomes in self.sources):,} lines", text)
 
     def test_sentences(self):
-        """Each line that tests/sentences.txt shows for a sentence of document 01 is a line of the list, each sentence has one, and each
+        """Each line that tests/sentences.txt shows for a sentence of the documents is a line of the list, each sentence has one, and each
         refusal and each question is shown."""
         shown_by = []
         with open(os.path.join(HERE, "..", "tests", "sentences.txt"), encoding="utf-8") as file:
@@ -600,7 +839,7 @@ class Replay(unittest.TestCase):
         self.assertGreater(len(shown), 350)
         self.assertEqual([line for line in shown if line not in lines], [])
         refused = {int(number) for line in shown for number in re.findall(r" refused ([0-9]+) ", line)}
-        self.assertEqual(refused, set(range(1, 18)))
+        self.assertEqual(refused, {*range(1, 18), 24})
         self.assertEqual({re.sub(r"^\S+ (\S+) .*", r"\1", line) for line in shown}, QUESTIONS)
 
     def test_joined(self):
@@ -625,6 +864,20 @@ class Replay(unittest.TestCase):
         with self.assertRaises(SystemExit):
             joined(rust + ["c check passed\n"])
 
+    def test_joined_limits(self):
+        """Each book of a batch is asked under its own limits, and 24 is no line of the Rust's."""
+        data = b"".join(mkbatch.record("-".join(map(str, limits)), LIST_BOOKS["p01"], limits) for limits in (FULL, (7, 10, 3), (6, 10, 3)))
+        right = list(replay.printed(replay.answered(data)))
+        self.assertIn("7-10-3 list given 2 \"pair\" \"tree\"\n", right)
+        self.assertIn("6-10-3 list refused 24 -\n", right)
+        self.assertIn("tally refused 24 37\n", right)
+        told = collections.defaultdict(collections.Counter)
+        found = list(replay.printed(replay.joined(data, "".join(line for line in right if not line.startswith("tally ")), told)))
+        self.assertEqual(found, right)
+        self.assertEqual({which: sum(words.values()) for which, words in told.items()}, {
+            "the Rust's": 70, "the oracle's own, 16": 12, "the oracle's own, 3 for a number outside": 4,
+            "the oracle's own, its reader of books": 6, "the oracle's own, 24": 37})
+
 
 class Batch(unittest.TestCase):
 
@@ -637,10 +890,32 @@ class Batch(unittest.TestCase):
                 data, lines = batch.read(), expected.read().splitlines()
         return list(replay.records(data)), lines
 
+    def test_record(self):
+        """By hand: a length and the name, three limits, a length and the book."""
+        record = bytes.fromhex("02 61 62  07 00 00 00  00 10 00 00  ff ff ff ff  03 00 00 00  01 02 03")
+        self.assertEqual(mkbatch.record("ab", b"\1\2\3", (7, 4096, 2**32 - 1)), record)
+        full = bytes.fromhex("01 63  00 04 00 00  00 10 00 00  00 02 00 00  00 00 00 00")
+        self.assertEqual(mkbatch.record("c", b""), full)
+        self.assertEqual(list(replay.records(record + full + record)), [
+            ("ab", b"\1\2\3", (7, 4096, 2**32 - 1)), ("c", b"", FULL), ("ab", b"\1\2\3", (7, 4096, 2**32 - 1))])
+        self.assertEqual(answers.FULL, FULL)
+        self.assertEqual(answers.Limits._fields, ("names", "nodes", "definitions"))
+
+    def test_limits_batch(self):
+        records, lines = self.batch(LIMITS_FOLDER)
+        self.assertEqual({name: (book, limits) for name, book, limits in records}, {
+            record: (LIMITS_BOOKS[name], limits) for name, text in LIMITS_SOURCES.items() for record, limits in mkbatch.asked_under(name, text)})
+        self.assertIn(("p01@6-4096-512", LIST_BOOKS["p01"], (6, 4096, 512)), records)
+        self.assertIn("p01@6-4096-512 check refused 24 -", lines)
+        self.assertIn('p01@6-4096-512 name given 9 "" "fork" "leaf" "pair" "put" "spare" "tree" "" ""', lines)
+        self.assertIn("p01@7-4096-512 check passed", lines)
+        self.assertIn("broken-cut@6-9-2 check refused 1 -", lines)
+
     def test_check_batch(self):
         records, lines = self.batch(CHECK_FOLDER)
-        self.assertEqual(dict(records), CHECK_BOOKS)
-        self.assertEqual([name for name, _ in records], sorted(CHECK_SOURCES))
+        self.assertEqual({name: book for name, book, _ in records}, CHECK_BOOKS)
+        self.assertEqual([name for name, _, _ in records], sorted(CHECK_SOURCES))
+        self.assertEqual({limits for _, _, limits in records}, {FULL})
         for word in ("check", "init-check"):
             self.assertEqual([line.split()[0] for line in lines if line.split()[1] == word], sorted(CHECK_SOURCES))
         self.assertIn("p09-import check refused 14 \"\\00a\"", lines)
@@ -649,25 +924,25 @@ class Batch(unittest.TestCase):
 
     def test_answer_batch(self):
         records, lines = self.batch(LIST_FOLDER)
-        self.assertEqual(dict(records), LIST_BOOKS)
-        self.assertEqual([name for name, _ in records], sorted(LIST_SOURCES))
+        self.assertEqual({name: book for name, book, _ in records}, LIST_BOOKS)
+        self.assertEqual([name for name, _, _ in records], sorted(LIST_SOURCES))
         self.assertIn('p01 list given 2 "pair" "tree"', lines)
         self.assertIn("p11-empty empty given 3 \"r\" \"s\" \"t\"", lines)
-        self.assertEqual(lines[-1], "tally complete")
+        self.assertEqual([line for line in lines if re.fullmatch("tally .* 0|tally incomplete", line)], ["tally refused 24 0", "tally incomplete"])
         self.assertEqual("\n".join(lines) + "\n", "".join(replay.printed(replay.answered(b"".join(
-            mkbatch.record(name, book) for name, book in records)))))
+            mkbatch.record(name, book) for name, book, _ in records)))))
 
     def test_batch(self):
         records, lines = self.batch(FOLDER)
         found = []
-        for name, book in records:
+        for name, book, _ in records:
             self.assertEqual(book, BOOKS[name])
             if layout.faults(book):
                 found.append(f"{name} layout refused 1 -")
             else:
                 found.append(" ".join([name, "layout whole"] + [str(len(part)) for part in layout.Reader(book).book]))
         self.assertEqual(found, [line for line in lines if line.split()[1] == "layout"])
-        self.assertEqual(sorted(SOURCES), [name for name, _ in records])
+        self.assertEqual(sorted(SOURCES), [name for name, _, _ in records])
 
     def test_gate(self):
         """What the programs are run on and must write is current."""

@@ -5,7 +5,7 @@
 pub mod bench;
 
 use crate::analysis::{chase_actor, chase_def_use, chase_types, infer_rec, project_methods};
-use crate::book::{self, quoted, Batch, Book, Node};
+use crate::book::{self, quoted, Batch, Book, Limits, Node};
 use crate::rows;
 use crate::syntax::{
     Binding, Dec, FuncType, IDLActorType, IDLArgType, IDLInitArgs, IDLMergedProg, IDLProg, IDLType, PrimType, TypeField,
@@ -31,6 +31,9 @@ const FIRST_AND_LAST: usize = 8;
 /// The first and the last number outside every name table. In the Rust each is a text that no name of the book has.
 const OUTSIDE: usize = 1024;
 const HIGHEST: usize = 65535;
+
+/// Of every question about a book that is over its limits.
+pub const OVER_LIMIT: &str = "refused 24 -";
 
 /// Why there is no result.
 #[derive(Clone, PartialEq)]
@@ -574,15 +577,24 @@ fn lines_of_reader(book: Option<&Book>) -> Vec<Line> {
     vec![("layout".into(), layout), ("name".into(), format!("given {} {}", names.len(), names.join(" ")))]
 }
 
-/// The lines of a book.
-fn lines(bytes: &[u8]) -> Vec<Line> {
+/// The lines of a book under limits. The Rust knows none, so that it is asked of books within them alone.
+fn lines(bytes: &[u8], limits: Limits) -> Vec<Line> {
     let book = book::read(bytes);
     let mut lines = lines_of_reader(book.as_ref());
     lines.extend(match &book {
-        Some(book) => lines_of_rust(book),
+        Some(book) if book.is_within(limits) => lines_of_rust(book),
+        Some(book) => all_alike(book, OVER_LIMIT),
         None => words(Of::Book).map(|word| (word, "refused 1 -".into())).collect(),
     });
     lines
+}
+
+/// One outcome to every question; of names those are asked that are where none is listed.
+fn all_alike(book: &Book, outcome: &str) -> Vec<Line> {
+    let asked = asked_names(book.names.len(), false).into_iter().map(|number| named(book, number));
+    let of_names = asked.flat_map(|name| words(Of::Name).map(move |word| format!("{word} {name}")));
+    let questions = words(Of::Book).chain(of_names).chain(words(Of::Whole));
+    questions.map(|question| (question, outcome.into())).collect()
 }
 
 fn lines_of_rust(book: &Book) -> Vec<Line> {
@@ -593,12 +605,7 @@ fn lines_of_rust(book: &Book) -> Vec<Line> {
         (Some(lines), None) => lines,
         (Some(lines), Some(_)) if !is_ambiguous(&lines) => lines,
         (_, Some(names)) => lines_of(&Texts { book, names, renamed: true }),
-        (None, None) => {
-            let asked = asked_names(book.names.len(), false).into_iter().map(|number| named(book, number));
-            let of_names = asked.flat_map(|name| words(Of::Name).map(move |word| format!("{word} {name}")));
-            let questions = words(Of::Book).chain(of_names).chain(words(Of::Whole));
-            questions.map(|question| (question, "unanswered utf-8".into())).collect()
-        }
+        (None, None) => all_alike(book, "unanswered utf-8"),
     }
 }
 
@@ -684,9 +691,9 @@ fn lines_of(texts: &Texts) -> Vec<Line> {
 
 /// The lines of each book of a batch.
 pub fn write(batch: &[u8], out: &mut impl Write) {
-    for (name, book) in Batch(batch) {
-        for (question, outcome) in lines(book) {
-            writeln!(out, "{name} {question} {outcome}").expect("room");
+    for record in Batch(batch) {
+        for (question, outcome) in lines(record.book, record.limits) {
+            writeln!(out, "{} {question} {outcome}", record.name).expect("room");
         }
     }
 }

@@ -1,11 +1,12 @@
 //! How long the reader's exported functions and the customer's Rust take for the same books, in one process. bench/bench.sh runs it,
-//! docs/FIGURES.md says what is compared.
+//! docs/FIGURES.md says what is compared. The limits are the full ones, whatever a batch says.
 
 #[cfg(counted)]
 #[path = "measure.rs"]
 pub mod measure;
 
 use super::*;
+use crate::book::{Record, FULL};
 use crate::ours::{self, Answer, DEFINITIONS, NO_NAME};
 use std::hint::black_box;
 use std::time::{Duration, Instant};
@@ -70,7 +71,7 @@ fn used(checked: crate::Result<Checked>) -> usize {
 
 /// The uses of each name, from bytes each time; gives the entries of all.
 fn our_uses(bytes: &[u8], names: usize, out: &mut [u16]) -> usize {
-    let of = |name| match ours::uses(bytes, name as u16, out) {
+    let of = |name| match ours::uses(bytes, FULL, name as u16, out) {
         Answer::Given(count) => count,
         refused => panic!("uses of {name}: {refused:?}"),
     };
@@ -160,7 +161,7 @@ fn compared_uses(bytes: &[u8], own: &Texts, checked: &Checked, rows: &BTreeMap<S
     let mut out = vec![0; USES];
     let mut entries = 0;
     for (number, name) in own.names.iter().enumerate() {
-        let Answer::Given(count) = ours::uses(bytes, number as u16, &mut out) else {
+        let Answer::Given(count) = ours::uses(bytes, FULL, number as u16, &mut out) else {
             panic!("the uses of {name}");
         };
         let text = |entry: &[u16]| {
@@ -208,7 +209,7 @@ impl<'a> Asked<'a> {
 
     fn check(&self) -> Vec<Question<'a>> {
         let bytes = self.bytes;
-        self.four("check", None, move || ours::check(black_box(bytes)), built_check, |merged, _| check(merged))
+        self.four("check", None, move || ours::check(black_box(bytes), FULL), built_check, |merged, _| check(merged))
     }
 
     /// Where there is an init file to check.
@@ -221,9 +222,9 @@ impl<'a> Asked<'a> {
         let (Some(verdict), None) = (verdict_of(&found), unvalidated) else {
             return vec![];
         };
-        assert_eq!(ours::init_check(bytes), verdict, "the init check's answers");
+        assert_eq!(ours::init_check(bytes, FULL), verdict, "the init check's answers");
         let built = |texts: &Texts| init_check(&texts.merged()?, &texts.init());
-        self.four("init check", None, move || ours::init_check(black_box(bytes)), built, init_check)
+        self.four("init check", None, move || ours::init_check(black_box(bytes), FULL), built, init_check)
     }
 
     /// Where there is an actor.
@@ -233,9 +234,9 @@ impl<'a> Asked<'a> {
             return vec![];
         };
         let numbers: Vec<u16> = names.iter().map(|name| self.own.number(name) as u16).collect();
-        assert_eq!(ours::list(bytes, out), Answer::Given(numbers.len()), "the list's length");
+        assert_eq!(ours::list(bytes, FULL, out), Answer::Given(numbers.len()), "the list's length");
         assert_eq!(out[..numbers.len()], numbers[..], "the list");
-        let ours = move || ours::list(black_box(bytes), black_box(&mut out[..]));
+        let ours = move || ours::list(black_box(bytes), FULL, black_box(&mut out[..]));
         self.four("list", Some(names.len()), ours, |texts| listed(built_check(texts)), |merged, _| listed(check(merged)))
     }
 
@@ -261,7 +262,7 @@ fn lines_of_book(bytes: &[u8], of_uses: bool, samples: usize, length: Duration) 
     if unvalidated.is_some() {
         return Err("ring or ladder");
     }
-    assert_eq!(ours::check(bytes), verdict, "the check's answers");
+    assert_eq!(ours::check(bytes, FULL), verdict, "the check's answers");
     let (merged, init) = (own.merged().ok(), own.init());
     let asked = Asked { bytes, own: &own, found: &found, merged: merged.as_ref(), init: &init };
     let (mut out, mut room) = ([0; DEFINITIONS], vec![0; USES]);
@@ -295,7 +296,7 @@ fn batch() -> Vec<u8> {
 
 fn timed(of_uses: bool, samples: u64, length: u64) -> i32 {
     println!("book\tbytes\tnames\tnodes\tdefinitions\tinit\trefusal\tentries\tquestion\tcalls\tsamples\tleast\tlow\tmedian\thigh\tfirst");
-    for (name, book) in Batch(&batch()) {
+    for Record { name, book, .. } in Batch(&batch()) {
         match lines_of_book(book, of_uses, samples as usize, Duration::from_micros(length)) {
             Ok(lines) => lines.iter().for_each(|line| println!("{name}\t{line}")),
             Err(why) => eprintln!("{name}: not timed, {why}"),

@@ -21,6 +21,12 @@ pub const INIT: u16 = 3;
 
 pub const NO_ROOT: u16 = 65535;
 
+/// The most names, nodes and definitions that the terminal model takes, in this order.
+pub type Limits = [u32; 3];
+
+/// Those of document 01, the most that any book has. A larger limit counts as the one here.
+pub const FULL: Limits = [1024, 4096, 512];
+
 #[derive(Clone, Debug, PartialEq)]
 pub struct Node {
     pub kind: u8,
@@ -232,6 +238,21 @@ impl Book {
         trees.map(|tree| tree.nodes()).sum()
     }
 
+    /// All that is there, used or not, to be held against limits.
+    pub fn counts(&self) -> Limits {
+        [self.names.len(), self.nodes(), self.definitions.len()].map(|count| count as u32)
+    }
+
+    /// The limits that it is over, by their places. One above document 01's figure needs no care: no book has as many.
+    pub fn over(&self, limits: Limits) -> Vec<usize> {
+        let counts = self.counts();
+        (0..counts.len()).filter(|place| counts[*place] > limits[*place]).collect()
+    }
+
+    pub fn is_within(&self, limits: Limits) -> bool {
+        self.over(limits).is_empty()
+    }
+
     pub fn is_of(&self, definition: &Definition, is_init: bool) -> bool {
         (self.files[definition.file].role == INIT) == is_init
     }
@@ -249,26 +270,39 @@ pub fn quoted(name: &[u8]) -> String {
     text + "\""
 }
 
-/// The records of a batch: a length byte and a name, four bytes of length and a book.
+/// A book, its name and the limits under which it is asked.
+#[derive(Clone, Copy)]
+pub struct Record<'a> {
+    pub name: &'a str,
+    pub limits: Limits,
+    pub book: &'a [u8],
+}
+
+impl Record<'_> {
+    /// A length byte and the name, four bytes of each limit, four bytes of length and the book.
+    pub fn bytes(&self) -> Vec<u8> {
+        let mut bytes = vec![self.name.len() as u8];
+        bytes.extend(self.name.as_bytes());
+        bytes.extend(self.limits.iter().flat_map(|limit| limit.to_le_bytes()));
+        bytes.extend((self.book.len() as u32).to_le_bytes());
+        bytes.extend(self.book);
+        bytes
+    }
+}
+
+/// The records of a batch.
 pub struct Batch<'a>(pub &'a [u8]);
 
 impl<'a> Iterator for Batch<'a> {
-    type Item = (&'a str, &'a [u8]);
+    type Item = Record<'a>;
 
     fn next(&mut self) -> Option<Self::Item> {
         let (size, rest) = self.0.split_first()?;
         let (name, rest) = rest.split_at(*size as usize);
-        let (size, rest) = rest.split_at(4);
-        let (book, rest) = rest.split_at(word(size, 0) as usize);
+        let (words, rest) = rest.split_at(16);
+        let limits = [0, 4, 8].map(|at| word(words, at));
+        let (book, rest) = rest.split_at(word(words, 12) as usize);
         self.0 = rest;
-        Some((std::str::from_utf8(name).expect("a name"), book))
+        Some(Record { name: std::str::from_utf8(name).expect("a name"), limits, book })
     }
-}
-
-pub fn record(name: &str, book: &[u8]) -> Vec<u8> {
-    let mut bytes = vec![name.len() as u8];
-    bytes.extend(name.as_bytes());
-    bytes.extend((book.len() as u32).to_le_bytes());
-    bytes.extend(book);
-    bytes
 }

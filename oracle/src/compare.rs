@@ -1,6 +1,7 @@
 //! Our lines and the Rust's, line by line.
 
-use crate::book::{self, Batch};
+use crate::answer::OVER_LIMIT;
+use crate::book::{self, Batch, Book, Limits, Record, FULL};
 use std::collections::{BTreeMap, HashSet};
 use std::io::Write;
 use std::iter::Peekable;
@@ -55,6 +56,7 @@ pub struct Counts {
     whole: u64,
     passed: u64,
     with_actor: u64,
+    under: Under,
     lines: u64,
     skipped: BTreeMap<String, u64>,
     books_skipped: BTreeMap<String, u64>,
@@ -69,8 +71,41 @@ pub struct Counts {
     calls: u64,
 }
 
+/// Whole books under limits.
+#[derive(Default)]
+struct Under {
+    over: u64,
+    /// Of these, the books that are over one limit alone, by its place.
+    over_one: [u64; 3],
+    /// Under full limits, or larger ones.
+    within_full: u64,
+    within_others: u64,
+    /// Of these, the books that have just as many as some limit that is not full.
+    at_one: u64,
+}
+
+impl Under {
+    fn count(&mut self, book: &Book, limits: Limits) {
+        let is_less = |place: &usize| limits[*place] < FULL[*place];
+        let less: Vec<usize> = (0..limits.len()).filter(is_less).collect();
+        match book.over(limits)[..] {
+            [] if less.is_empty() => self.within_full += 1,
+            [] => {
+                self.within_others += 1;
+                self.at_one += less.iter().any(|place| book.counts()[*place] == limits[*place]) as u64;
+            }
+            [place] => {
+                self.over += 1;
+                self.over_one[place] += 1;
+            }
+            _ => self.over += 1,
+        }
+    }
+}
+
 pub struct Difference {
     book: Vec<u8>,
+    limits: Limits,
     pub name: String,
     ours: String,
     rust: String,
@@ -97,19 +132,20 @@ pub fn compared(batch: &[u8], ours: &str, rust: &str) -> (Counts, Vec<Difference
     let (mut ours, mut rust) = (ours.lines().peekable(), rust.lines().peekable());
     let mut counts = Counts::default();
     let mut differences: Vec<Difference> = Vec::new();
-    for (name, bytes) in Batch(batch) {
+    for Record { name, limits, book: bytes } in Batch(batch) {
         counts.books += 1;
         counts.largest = counts.largest.max(bytes.len());
         let whole = book::read(bytes);
         counts.whole += whole.is_some() as u64;
+        whole.iter().for_each(|book| counts.under.count(book, limits));
         #[cfg(exports)]
-        let exported = crate::exported::said(bytes, whole.as_ref());
+        let exported = crate::exported::said(bytes, limits, whole.as_ref());
         #[cfg(exports)]
         {
             counts.calls += exported.calls;
         }
         let mut differs = |ours: String, rust: String| {
-            differences.push(Difference { book: bytes.into(), name: name.into(), ours, rust });
+            differences.push(Difference { book: bytes.into(), limits, name: name.into(), ours, rust });
         };
         let said = |line: Line| format!("{name} {}", line.whole);
         let nothing = || String::from("nothing");
@@ -151,6 +187,10 @@ pub fn compared(batch: &[u8], ours: &str, rust: &str) -> (Counts, Vec<Difference
             marked |= line.word == "marks" && is_given;
             if ["layout", "name"].contains(&line.word) {
                 *counts.own.entry("layout and names").or_default() += 1;
+            } else if whole.is_none() {
+                *counts.own.entry("1 for a broken book").or_default() += 1;
+            } else if line.outcome == OVER_LIMIT {
+                *counts.own.entry("24 for a book over its limits").or_default() += 1;
             } else if ["marks-outside", "marks-highest"].contains(&line.word) && marked {
                 *counts.own.entry("3 for a number outside").or_default() += 1;
             } else if line.asked_before().is_some() {
@@ -168,7 +208,7 @@ pub fn compared(batch: &[u8], ours: &str, rust: &str) -> (Counts, Vec<Difference
         }
     }
     for left in ours.filter(|line| !line.starts_with("tally ")).chain(rust) {
-        differences.push(Difference { book: vec![], name: "the end".into(), ours: left.into(), rust: left.into() });
+        differences.push(Difference { book: vec![], limits: FULL, name: "the end".into(), ours: left.into(), rust: left.into() });
     }
     (counts, differences)
 }
@@ -181,9 +221,10 @@ pub fn run(batch: &str, ours: &str, rust: &str, difference: Option<&str>) -> i32
     let Some(smallest) = differences.iter().min_by_key(|difference| difference.book.len()) else {
         return 0;
     };
-    println!("smallest book that differs: {}\n  ours: {}\n  Rust: {}", smallest.name, smallest.ours, smallest.rust);
-    if let Some(path) = difference {
-        std::fs::write(path, &smallest.book).expect("room");
+    let Difference { book, limits, name, ours, rust } = smallest;
+    println!("smallest book that differs: {name}, under limits {limits:?}\n  ours: {ours}\n  Rust: {rust}");
+    if let Some(path) = difference.filter(|_| !book.is_empty()) {
+        std::fs::write(path, Record { name, limits: *limits, book }.bytes()).expect("room");
     }
     1
 }
@@ -193,6 +234,9 @@ fn print(counts: &Counts, differences: &[Difference]) {
         "{} books, {} whole, {} pass the check, {} of them with an actor; the largest has {} bytes",
         counts.books, counts.whole, counts.passed, counts.with_actor, counts.largest
     );
+    let Under { over, over_one: [names, nodes, definitions], within_full, within_others, at_one } = counts.under;
+    println!("whole books within full limits: {within_full}; within others: {within_others}, {at_one} of them with just as many as a limit");
+    println!("over their limits: {over}; over one alone: names {names}, nodes {nodes}, definitions {definitions}");
     println!("{} lines compared, {} differ", counts.lines, differences.len());
     #[cfg(exports)]
     println!("{} answers of the exported functions compared with the same lines, {} calls", counts.exported, counts.calls);
@@ -215,10 +259,13 @@ fn print(counts: &Counts, differences: &[Difference]) {
     }
 }
 
-/// Writes the book of a record.
+/// Writes the book of a record, and tells its limits.
 pub fn pick(batch: &str, name: &str) -> i32 {
-    match Batch(&file(batch)).find(|record| record.0 == name) {
-        Some((_, book)) => std::io::stdout().write_all(book).map_or(1, |_| 0),
+    match Batch(&file(batch)).find(|record| record.name == name) {
+        Some(Record { limits, book, .. }) => {
+            eprintln!("limits {limits:?}");
+            std::io::stdout().write_all(book).map_or(1, |_| 0)
+        }
         None => 1,
     }
 }

@@ -27,8 +27,11 @@
 //! The part `sound` has up to 6 nodes of what can pass: no unbound name, oneway only without results, methods of func and
 //! names alone, no class below the top, no nat as an actor. It has four shapes: an actor with one definition, with two, with
 //! two and a service import; and, without an actor, a definition of main and one of the init file of the same name.
+//!
+//! Limits are by turns the full ones, the book's own counts and the largest, so that the Rust is asked of every book. Under limits that a
+//! book is over, the exported functions alone are asked (exported.rs).
 
-use crate::book::{self, record, Book, Definition, File, Node};
+use crate::book::{self, Book, Definition, File, Node, Record, FULL};
 use std::io::Write;
 
 const NODES: usize = 5;
@@ -309,10 +312,11 @@ pub fn run(part: &str) -> i32 {
     let mut count = 0;
     shapes(part, &mut |book| {
         let (name, bytes) = (format!("{part}-{count}"), book.bytes());
+        let limits = [FULL, book.counts(), [u32::MAX; 3]][count % 3];
         if book::read(&bytes).is_none() {
             eprintln!("{name}: not a whole book as generated");
         }
-        out.write_all(&record(&name, &bytes)).expect("room");
+        out.write_all(&Record { name: &name, limits, book: &bytes }.bytes()).expect("room");
         count += 1;
     });
     out.flush().expect("room");

@@ -1,16 +1,19 @@
 //! What the reader's exported functions say to every question of a book, in the words of answer_batch.
 //!
 //! Each question is asked with a lent list that is long enough, just long enough, one entry too short and empty. Every time the numbers
-//! beyond the result, or all after a refusal, have to be as they were, and those before and after the lent list too.
+//! beyond the result, or all after a refusal, have to be as they were, and those before and after the lent list too. All this is asked under
+//! the limits of the book's record; each function is then asked under up to five limits and the largest, which have to agree.
 
 use crate::answer::asked_names;
-use crate::book::{quoted, Book};
-use crate::ours::{self, Answer, Question, NAMES, NO_NAME, SHORT};
+use crate::book::{quoted, Book, Limits};
+use crate::ours::{self, Answer, Question, NAMES, NO_NAME, OVER_LIMIT, SHORT};
 use std::collections::HashMap;
 
 /// Stands in the lent list beforehand and around it; no entry has this number.
 const BEFORE: u16 = 40_000;
 const AROUND: usize = 8;
+
+const LARGEST: Limits = [u32::MAX; 3];
 
 /// A question about a name is asked with every length of list for the names below this number and for the last one; for the others, of
 /// which only large books have any, with a list that is long enough alone.
@@ -18,6 +21,7 @@ const EVERY_LENGTH: usize = 16;
 
 pub struct Said<'a> {
     bytes: &'a [u8],
+    limits: Limits,
     book: Option<&'a Book>,
     room: Vec<u16>,
     /// As long as the room, and as it was before.
@@ -60,6 +64,10 @@ impl Said<'_> {
 
     /// The answer with so many numbers lent, its entries, and whether all else is as it was.
     fn ask(&mut self, question: Question, numbers: usize) -> (Answer, &[u16], bool) {
+        self.ask_under(self.limits, question, numbers)
+    }
+
+    fn ask_under(&mut self, limits: Limits, question: Question, numbers: usize) -> (Answer, &[u16], bool) {
         let end = AROUND + numbers;
         if self.room.len() < end + AROUND {
             self.room.resize(end + AROUND, BEFORE);
@@ -67,7 +75,7 @@ impl Said<'_> {
         }
         let room = &mut self.room[..end + AROUND];
         room.fill(BEFORE);
-        let answer = question.ask(self.bytes, &mut room[AROUND..end]);
+        let answer = question.ask(self.bytes, limits, &mut room[AROUND..end]);
         self.calls += 1;
         let given = match answer {
             Answer::Given(count) => numbers.min(count * question.numbers()),
@@ -130,13 +138,17 @@ impl Said<'_> {
         (answer, entries)
     }
 
+    fn make_wrong(&mut self, word: &str, why: &str) {
+        if let Some(line) = self.lines.get_mut(word) {
+            *line += why;
+        }
+    }
+
     /// A question that has no line of its own: if its answer is another, the line of `word` is made wrong.
     fn hold(&mut self, word: &str, question: Question, right: Answer) {
         let (answer, _, is_kept) = self.ask(question, question.places() * question.numbers());
         if answer != right || !is_kept {
-            if let Some(line) = self.lines.get_mut(word) {
-                *line += " but otherwise for another number";
-            }
+            self.make_wrong(word, " but otherwise for another number");
         }
     }
 
@@ -173,10 +185,10 @@ impl Said<'_> {
         }
     }
 
-    /// Answers whether any name is listed.
-    fn of_book(&mut self) -> bool {
+    /// Answers what is listed.
+    fn of_book(&mut self) -> Vec<u16> {
         for (word, check) in ours::VERDICTS {
-            self.verdict(word, check(self.bytes));
+            self.verdict(word, check(self.bytes, self.limits));
         }
         let mut list = Vec::new();
         for (word, question) in ours::OF_BOOK {
@@ -186,7 +198,7 @@ impl Said<'_> {
             }
         }
         self.marks(&list);
-        !list.is_empty()
+        list
     }
 
     fn of_names(&mut self, names: usize, lists_any: bool) {
@@ -229,18 +241,69 @@ impl Said<'_> {
         }
     }
 
+    /// Limits to hold against the largest: the record's; just what the book has; of that one name, node or definition fewer.
+    fn others(&self) -> Vec<Limits> {
+        let counts = self.book.map_or([0; 3], |book| book.counts());
+        let mut others = vec![self.limits, counts];
+        for place in 0..counts.len() {
+            let mut fewer = counts;
+            if fewer[place] > 0 {
+                fewer[place] -= 1;
+                others.push(fewer);
+            }
+        }
+        others
+    }
+
+    /// An answer under some limits: 24 if the book is over them, else the one under the largest, of a broken book too.
+    fn hold_under(&mut self, limits: Limits, word: &str, answer: Answer, largest: Answer) {
+        let is_over = self.book.is_some_and(|book| !book.is_within(limits));
+        let right = if is_over { Answer::Refused(OVER_LIMIT, NO_NAME) } else { largest };
+        if answer != right {
+            self.make_wrong(word, &format!(" but {answer:?} under limits {limits:?}"));
+        }
+    }
+
+    /// Asks each function under the largest limits and under others, of the list under the largest. What is asked about names has no line
+    /// here, so the line of the list is made wrong.
+    fn under_others(&mut self) {
+        let others = self.others();
+        for (word, check) in ours::VERDICTS {
+            let largest = check(self.bytes, LARGEST);
+            others.iter().for_each(|limits| self.hold_under(*limits, word, check(self.bytes, *limits), largest));
+            self.calls += 1 + others.len() as u64;
+        }
+        let (_, list) = ours::OF_BOOK[0];
+        let list = self.ask_under(LARGEST, list, list.places() * list.numbers()).1.to_vec();
+        let names: Vec<u16> = (0..self.book.map_or(0, |book| book.names.len()) as u16).collect();
+        let of_names = [Question::Uses(0), Question::Project(&[]), Question::Project(&names)].map(|question| ("list", question));
+        for (word, question) in ours::OF_BOOK.into_iter().chain([("marks", Question::Marks(&list))]).chain(of_names) {
+            let numbers = question.places() * question.numbers();
+            let (largest, entries, _) = self.ask_under(LARGEST, question, numbers);
+            let entries = entries.to_vec();
+            for limits in &others {
+                let (answer, found, is_kept) = self.ask_under(*limits, question, numbers);
+                if !is_kept || answer == largest && found != entries {
+                    self.make_wrong(word, &format!(" but another list under limits {limits:?}"));
+                }
+                self.hold_under(*limits, word, answer, largest);
+            }
+        }
+    }
+
     /// The outcome of a question, as the line of answer_batch has it.
     pub fn to(&self, question: &str) -> Option<&str> {
         self.lines.get(question.trim_end()).map(|line| line.as_str())
     }
 }
 
-pub fn said<'a>(bytes: &'a [u8], book: Option<&'a Book>) -> Said<'a> {
-    let mut said = Said { bytes, book, room: Vec::new(), untouched: Vec::new(), lines: HashMap::new(), calls: 0 };
-    let lists_any = said.of_book();
+pub fn said<'a>(bytes: &'a [u8], limits: Limits, book: Option<&'a Book>) -> Said<'a> {
+    let mut said = Said { bytes, limits, book, room: Vec::new(), untouched: Vec::new(), lines: HashMap::new(), calls: 0 };
+    let list = said.of_book();
     match book {
-        Some(book) => said.of_names(book.names.len(), lists_any),
+        Some(book) => said.of_names(book.names.len(), !list.is_empty()),
         None => said.of_broken(),
     }
+    said.under_others();
     said
 }

@@ -2,9 +2,9 @@
 //!
 //! Three in four books are planned: definitions, services and actors that pass, and in some of them faults on purpose. The
 //! others are wild (whatever the layout allows) or of a special shape: long chains, deep trees, ladders, many uses. Some are
-//! damaged afterwards.
+//! damaged afterwards. Half of them are asked under full limits.
 
-use crate::book::{self, record, Book, Definition, File, Node};
+use crate::book::{self, Book, Definition, File, Limits, Node, Record, FULL};
 use candid::idl_hash;
 use std::collections::{BTreeMap, BTreeSet, HashMap, HashSet};
 use std::io::Write;
@@ -216,7 +216,7 @@ struct Draft {
 }
 
 impl Draft {
-    fn bytes(mut self) -> Vec<u8> {
+    fn book(mut self) -> Book {
         self.rows.sort_by_key(|row| row.file);
         let mut names: BTreeSet<Name> = self.extra.iter().cloned().collect();
         for row in &self.rows {
@@ -236,7 +236,7 @@ impl Draft {
             tree: tree.as_ref().map(|tree| tree.node(&numbers)),
         };
         let (definitions, files) = (self.rows.iter().map(of_row).collect(), self.files.iter().map(of_file).collect());
-        Book { names: names.into_iter().collect(), definitions, files }.bytes()
+        Book { names: names.into_iter().collect(), definitions, files }
     }
 }
 
@@ -978,6 +978,33 @@ fn damaged(mut bytes: Vec<u8>, random: &mut Random) -> Vec<u8> {
     bytes
 }
 
+// Limits
+
+/// In half of the cases the full ones; else each around what the book has, or anything.
+fn limits(counts: Limits, random: &mut Random) -> Limits {
+    let kind = random.below(4);
+    let mut limits = FULL;
+    for (limit, count) in limits.iter_mut().zip(counts) {
+        let figure = *limit;
+        *limit = match (kind, random.below(12)) {
+            (0 | 1, _) => figure,
+            (2, 0..=4) => count,
+            (2, 5) => count.saturating_sub(1),
+            (2, 6 | 7) => count + 1,
+            (2, 8) => 0,
+            (2, _) => figure,
+            (_, 0..=3) => random.below(2 * count as usize + 2) as u32,
+            (_, 4 | 5) => random.below(figure as usize + 1) as u32,
+            (_, 6 | 7) => figure - 1 + random.below(3) as u32,
+            // What would be small if it were cut to 16 bits.
+            (_, 8) => (random.between(1, 65535) << 16 | random.below(16)) as u32,
+            (_, 9) => random.next() as u32,
+            _ => u32::MAX,
+        };
+    }
+    limits
+}
+
 fn fits(bytes: &[u8]) -> bool {
     book::read(bytes).is_some()
 }
@@ -1004,14 +1031,17 @@ pub fn run(seed: u64, count: u64, all_damaged: bool) -> i32 {
             1..=100 => gen.wild(),
             _ => gen.planned(),
         };
-        let mut bytes = draft.bytes();
+        let book = draft.book();
+        let mut bytes = book.bytes();
         if !fits(&bytes) {
             eprintln!("{seed}-{index}: not a whole book as generated");
         }
         if all_damaged || gen.random.percent(4) {
             bytes = damaged(bytes, &mut gen.random);
         }
-        out.write_all(&record(&format!("{seed}-{index}"), &bytes)).expect("room");
+        let limits = limits(book.counts(), &mut gen.random);
+        let record = Record { name: &format!("{seed}-{index}"), limits, book: &bytes };
+        out.write_all(&record.bytes()).expect("room");
     }
     out.flush().expect("room");
     0

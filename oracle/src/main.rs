@@ -123,7 +123,7 @@ const USAGE: &str = "usage: oracle answer < BATCH
        oracle generate-all main|import|init|sound|type-import|imports|import-init > BATCH
        oracle compare BATCH ANSWERS RUST [DIFFERENCE]
        oracle pick BATCH NAME > BOOK
-       oracle shrink BOOK ANSWER_BATCH [ARGUMENT ...] > SMALLER";
+       oracle shrink DIFFERENCE ANSWER_BATCH [ARGUMENT ...] > SMALLER";
 
 fn main() {
     let run = || {
@@ -144,7 +144,7 @@ fn main() {
             ["pick", batch, name] => compare::pick(batch, name),
             #[cfg(exports)]
             ["bench", samples, length] => answer::bench::run(number(samples), number(length)),
-            ["shrink", book, ref answers @ ..] if !answers.is_empty() => shrink::run(book, answers),
+            ["shrink", difference, ref answers @ ..] if !answers.is_empty() => shrink::run(difference, answers),
             _ => {
                 eprintln!("{USAGE}");
                 2

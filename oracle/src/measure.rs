@@ -4,7 +4,7 @@
 
 use super::*;
 use crate::counting::heap_of;
-use crate::ours::Question;
+use crate::ours::{Question, Verdict};
 use std::arch::asm;
 use std::ffi::c_void;
 
@@ -96,19 +96,19 @@ const ASKED: usize = 32;
 fn ask_ours(stack: &Stack, word: &str, bytes: &[u8], names: usize, out: &mut [u16]) {
     let mut ask = |question: Question| {
         stack.call(&mut || {
-            black_box(question.ask(bytes, out));
+            black_box(question.ask(bytes, FULL, out));
         })
     };
-    let verdict = |check: fn(&[u8]) -> Answer| {
+    let verdict = |check: Verdict| {
         stack.call(&mut || {
-            black_box(check(bytes));
+            black_box(check(bytes, FULL));
         })
     };
     let each = (0..names).filter(|number| *number < ASKED || number + 1 == names).chain([ours::NAMES]).map(|number| number as u16);
     match word {
         MARKS => {
             let mut list = [0; DEFINITIONS];
-            let count = if let Answer::Given(count) = ours::list(bytes, &mut list) { count } else { 0 };
+            let count = if let Answer::Given(count) = ours::list(bytes, FULL, &mut list) { count } else { 0 };
             ask(Question::Marks(&list[..count]));
         }
         USES => each.for_each(|name| ask(Question::Uses(name))),
@@ -191,7 +191,7 @@ pub fn run() -> i32 {
     let stack = Stack::new();
     let mut out = vec![0; 3 * 4_200_000];
     println!("book\tbytes\tnodes\tquestion\tour stack\tRust stack\tRust heap\tRust heap alone");
-    for (name, book) in Batch(&batch()) {
+    for Record { name, book, .. } in Batch(&batch()) {
         measure(name, book, &stack, &mut out);
     }
     0

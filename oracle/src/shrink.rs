@@ -1,7 +1,7 @@
 //! A book on which our lines and the Rust's differ, made smaller as long as some line differs: definitions, files, fields,
-//! methods, arguments and names are dropped, types become nat or one of their children.
+//! methods, arguments and names are dropped, types become nat or one of their children. Its limits stay, or stay as far from what it has.
 
-use crate::book::{self, record, Book, Node};
+use crate::book::{self, Batch, Book, Limits, Node, Record, FULL};
 use crate::{answer, compare};
 use std::collections::BTreeSet;
 use std::io::{Read, Write};
@@ -154,9 +154,16 @@ fn said(program: &[&str], batch: &[u8]) -> String {
     text
 }
 
+/// A book and limits.
+type Asked = (Book, Limits);
+
 /// The first of some books that differs.
-fn first_that_differs(books: &[Book], answers: &[&str]) -> Option<usize> {
-    let batch: Vec<u8> = books.iter().enumerate().flat_map(|(i, book)| record(&i.to_string(), &book.bytes())).collect();
+fn first_that_differs(books: &[Asked], answers: &[&str]) -> Option<usize> {
+    if books.is_empty() {
+        return None;
+    }
+    let record = |(i, (book, limits)): (usize, &Asked)| Record { name: &i.to_string(), limits: *limits, book: &book.bytes() }.bytes();
+    let batch: Vec<u8> = books.iter().enumerate().flat_map(record).collect();
     let mut rust = Vec::new();
     answer::write(&batch, &mut rust);
     let rust = String::from_utf8(rust).expect("text");
@@ -175,24 +182,54 @@ fn measure(book: &Book) -> (usize, usize) {
     (book.bytes().len(), others)
 }
 
+/// Limits that are as far from what a smaller book has as they were from what the book had.
+fn moved(limits: Limits, before: Limits, after: Limits) -> Limits {
+    let one = |place: usize| (limits[place] + after[place]).saturating_sub(before[place]);
+    [0, 1, 2].map(|place| if limits[place] < FULL[place] { one(place) } else { limits[place] })
+}
+
+/// A book made smaller, under the same limits and under moved ones.
+fn smaller((book, limits): &Asked, edit: Edit) -> Vec<Asked> {
+    let edited = edited(book, edit);
+    let moved = moved(*limits, book.counts(), edited.counts());
+    if moved == *limits { vec![(edited, moved)] } else { vec![(edited.clone(), *limits), (edited, moved)] }
+}
+
+/// Full limits instead of all or of one, where the book differs under these too.
+fn with_full_limits((book, limits): Asked, answers: &[&str]) -> Asked {
+    let of_one = |place: usize| [0, 1, 2].map(|other| if other == place { FULL[other] } else { limits[other] });
+    let others = [FULL, of_one(0), of_one(1), of_one(2)];
+    let tried: Vec<Asked> = others.into_iter().filter(|other| *other != limits).map(|other| (book.clone(), other)).collect();
+    match first_that_differs(&tried, answers) {
+        Some(found) => with_full_limits(tried[found].clone(), answers),
+        None => (book, limits),
+    }
+}
+
+/// Writes the book, and tells its limits.
+fn written(bytes: &[u8], limits: Limits) -> i32 {
+    eprintln!("under limits {limits:?}");
+    std::io::stdout().write_all(bytes).map_or(1, |_| 0)
+}
+
+/// Of the first record in a file.
 pub fn run(path: &str, answers: &[&str]) -> i32 {
-    let bytes = compare::file(path);
-    let Some(mut book) = book::read(&bytes) else {
-        return std::io::stdout().write_all(&bytes).map_or(1, |_| 0);
+    let batch = compare::file(path);
+    let Record { limits, book: bytes, .. } = Batch(&batch).next().expect("a record");
+    let Some(book) = book::read(bytes) else {
+        return written(bytes, limits);
     };
+    let mut asked = with_full_limits((book, limits), answers);
     'smaller: loop {
-        let now = measure(&book);
-        for some in all_edits(&book).chunks(AT_A_TIME) {
-            let mut books: Vec<Book> = some.iter().map(|edit| edited(&book, *edit)).collect();
-            books.retain(|book| measure(book) < now);
-            if books.is_empty() {
-                continue;
-            }
-            if let Some(found) = first_that_differs(&books, answers) {
-                book = books.swap_remove(found);
+        let now = measure(&asked.0);
+        for some in all_edits(&asked.0).chunks(AT_A_TIME) {
+            let mut tried: Vec<Asked> = some.iter().flat_map(|edit| smaller(&asked, *edit)).collect();
+            tried.retain(|(book, _)| measure(book) < now);
+            if let Some(found) = first_that_differs(&tried, answers) {
+                asked = tried.swap_remove(found);
                 continue 'smaller;
             }
         }
-        return std::io::stdout().write_all(&book.bytes()).map_or(1, |_| 0);
+        return written(&asked.0.bytes(), asked.1);
     }
 }

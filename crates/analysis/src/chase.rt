@@ -8,11 +8,11 @@ ghost use Rattle.syntax.specs.Interfaces.{interfaceTree};
 ghost use Rattle.analysis.specs.Book.{Readable};
 ghost use Rattle.analysis.specs.Walking.{Started, ChasedAs, isNew, Scanned, NextNew, Counted, noList, nothingMet, WalkedAs, RootIn, InterfaceIn};
 use book::kinds::Kind;
-use book::kinds::Limits;
 use book::read::Entry;
 use book::read::Node;
 use book::tables::Flags;
 use environment::Table;
+use format::Limits;
 use syntax::interface::Interface;
 
 // A number for each of the 512 definitions.

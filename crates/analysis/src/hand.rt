@@ -6,7 +6,7 @@ ghost use Rattle.book.specs.Tables.{flagged};
 ghost use Rattle.refusals.specs.Outcome.{given};
 ghost use Rattle.analysis.specs.Handed.{noNames};
 ghost use Rattle.refusals.specs.Handed.{HandedAs};
-use book::kinds::Limits;
+use format::Limits;
 use refusals::Answer;
 
 // Name numbers: the first `len` of the list.

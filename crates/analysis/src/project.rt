@@ -11,8 +11,8 @@ ghost use Rattle.syntax.specs.Interfaces.{methodsIn};
 ghost use Rattle.listing.specs.Project.{projectFrom, projected};
 ghost use Rattle.refusals.specs.Handed.{HandedAs};
 ghost use Rattle.analysis.specs.Projecting.{Asking, AskedBy, countOne, lowerFar, LowestAs, placeAt, Room, MethodTaken, MethodsTaken, Services, AllProjected};
-use book::kinds::Limits;
 use book::read::Node;
+use format::Limits;
 use refusals::Answer;
 use refusals::Refusal;
 

@@ -9,10 +9,10 @@ ghost use Rattle.environment.specs.Tables.{definitionsIn};
 ghost use Rattle.book.specs.Tables.{zeroTable, noFlags};
 ghost use Rattle.analysis.specs.Reaching.{BookRows, ReachAs, FirstHit, NearAs, Defining, OwnersAs, noRows, noPlaces, LinksAs, KeptFrom, KeptElse, Linked, NearestAs};
 use book::kinds::Kind;
-use book::kinds::Limits;
 use book::read::Entry;
 use book::read::Node;
 use book::tables::Flags;
+use format::Limits;
 
 // For each row the first row from it on that tells; the number of rows where there is none.
 pub type Near = [u16; Limits::NODES + 1];

@@ -6,10 +6,10 @@ ghost use lib.ListN.{length, getD};
 ghost use Rattle.analysis.specs.Book.{Rooted};
 ghost use Rattle.analysis.specs.Marking.{nothingMarked, Begun, InferredAs};
 use book::kinds::Kind;
-use book::kinds::Limits;
 use book::read::Node;
 use book::tables::Flags;
 use environment::Table;
+use format::Limits;
 
 // The names seen and those marked; or the listed name without definition that stopped it.
 pub struct Marks {

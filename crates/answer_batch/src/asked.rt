@@ -3,7 +3,7 @@
 ghost use mathlib.Core.Path.{_≡_};
 ghost use lib.ListN.{length};
 use book::Reading;
-use book::kinds::Limits;
+use format::Limits;
 use refusals::Answer;
 use refusals::Refusal;
 
@@ -33,28 +33,28 @@ pub enum Question {
 }
 
 impl Question {
-    // Places in the tally, after the refusals.
-    const LAYOUT: usize = 18;
+    // Places in the tally, after the refusals, which have their numbers.
+    const LAYOUT: usize = 25;
 
-    const NAME: usize = 19;
+    const NAME: usize = 26;
 
-    const CHECK: usize = 20;
+    const CHECK: usize = 27;
 
-    const INIT_CHECK: usize = 21;
+    const INIT_CHECK: usize = 28;
 
-    const LIST: usize = 22;
+    const LIST: usize = 29;
 
-    const MARKS: usize = 23;
+    const MARKS: usize = 30;
 
-    const INIT_LIST: usize = 24;
+    const INIT_LIST: usize = 31;
 
-    const DRAFT_LIST: usize = 25;
+    const DRAFT_LIST: usize = 32;
 
-    const EMPTINESS: usize = 26;
+    const EMPTINESS: usize = 33;
 
-    const USES: usize = 27;
+    const USES: usize = 34;
 
-    const PROJECTION: usize = 28;
+    const PROJECTION: usize = 35;
 
     pub(crate) fn place(self) -> usize {
         match self {
@@ -85,15 +85,21 @@ impl Question {
     }
 }
 
-pub(crate) fn reply(question: Question, book: &[u8], names: &[u16], out: &mut [u16]) -> Answer {
+pub(crate) fn reply(
+    question: Question,
+    book: &[u8],
+    limits: Limits,
+    names: &[u16],
+    out: &mut [u16],
+) -> Answer {
     match question {
-        Question::MainList => questions::list(book, out),
-        Question::Marks => questions::marks(book, names, out),
-        Question::InitList => questions::init_list(book, out),
-        Question::DraftList => questions::draft_list(book, out),
-        Question::Emptiness => questions::emptiness(book, out),
-        Question::Uses => questions::uses(book, crate::asking::first_of(names), out),
-        Question::Projection => questions::project(book, names, out),
+        Question::MainList => questions::list(book, limits, out),
+        Question::Marks => questions::marks(book, limits, names, out),
+        Question::InitList => questions::init_list(book, limits, out),
+        Question::DraftList => questions::draft_list(book, limits, out),
+        Question::Emptiness => questions::emptiness(book, limits, out),
+        Question::Uses => questions::uses(book, limits, crate::asking::first_of(names), out),
+        Question::Projection => questions::project(book, limits, names, out),
     }
 }
 
@@ -107,10 +113,15 @@ pub(crate) fn print_number(question: Question, place: usize, number: u16, book: 
 }
 
 // A count for each place of the tally.
-pub(crate) fn no_counts() -> [u32; 29]
-    ensures { λ r. ⌜ 29 ≡ length r ⌝ }
+pub(crate) fn no_counts() -> [u32; 36]
+    ensures { λ r. ⌜ 36 ≡ length r ⌝ }
 {
-    [0; 29]
+    [0; 36]
+}
+
+// Whether anything is counted at a place of the tally: 18 to 23 are no refusals yet.
+pub(crate) fn is_counted(place: usize) -> bool {
+    (place < 18) | (23 < place)
 }
 
 // What is counted at a place of the tally.
@@ -133,14 +144,14 @@ pub(crate) fn print_counted(place: usize) {
 
 // ---- What a book is asked
 
-// Every question of a book, a line for each. Broken books have no names.
-pub(crate) fn replay(source: &[u8], book: &[u8], tally: &mut [u32]) {
+// Every question of a book under these limits, a line for each. Broken books have no names.
+pub(crate) fn replay(source: &[u8], book: &[u8], limits: Limits, tally: &mut [u32]) {
     let names = ask_layout(source, book, tally);
     ask_name(source, book, names, tally);
-    ask_checks(source, book, tally);
-    let listed = ask_list(source, book, tally);
-    ask_others(source, book, tally);
-    ask_of_names(source, book, names, listed, tally);
+    ask_checks(source, book, limits, tally);
+    let listed = ask_list(source, book, limits, tally);
+    ask_others(source, book, limits, tally);
+    ask_of_names(source, book, limits, names, listed, tally);
 }
 
 // What the layout is. Answers how many names the book has.
@@ -174,12 +185,12 @@ fn ask_name(source: &[u8], book: &[u8], names: u16, tally: &mut [u32]) {
     crate::tally::count(Question::NAME, tally);
 }
 
-fn ask_checks(source: &[u8], book: &[u8], tally: &mut [u32]) {
+fn ask_checks(source: &[u8], book: &[u8], limits: Limits, tally: &mut [u32]) {
     crate::lines::asks(source, b"check", b"");
-    crate::asking::judge(questions::check(book), Question::CHECK, book, tally);
+    crate::asking::judge(questions::check(book, limits), Question::CHECK, book, tally);
     crate::lines::asks(source, b"init-check", b"");
     crate::asking::judge(
-        questions::init_check(book),
+        questions::init_check(book, limits),
         Question::INIT_CHECK,
         book,
         tally,
@@ -187,7 +198,7 @@ fn ask_checks(source: &[u8], book: &[u8], tally: &mut [u32]) {
 }
 
 // The definition list, and the marks over it, over no names where it is refused. Answers how many are listed.
-fn ask_list(source: &[u8], book: &[u8], tally: &mut [u32]) -> usize {
+fn ask_list(source: &[u8], book: &[u8], limits: Limits, tally: &mut [u32]) -> usize {
     let mut out = crate::asking::room();
     let none = [0u16; 0];
     let listed = crate::asking::ask_both(
@@ -196,22 +207,32 @@ fn ask_list(source: &[u8], book: &[u8], tally: &mut [u32]) -> usize {
         Question::MainList,
         false,
         book,
+        limits,
         &none,
         &mut out,
         tally,
     );
     let end = crate::asking::within(listed, &out);
-    ask_marks(source, book, &out[..end], tally);
+    ask_marks(source, book, limits, &out[..end], tally);
     listed
 }
 
 // The marks over a list, over it from its end, and over it and then each number that is no name's.
-fn ask_marks(source: &[u8], book: &[u8], list: &[u16], tally: &mut [u32]) {
-    crate::asking::ask_again(source, b"marks", Question::Marks, false, book, list, tally);
-    ask_marks_turned(source, book, list, tally);
+fn ask_marks(source: &[u8], book: &[u8], limits: Limits, list: &[u16], tally: &mut [u32]) {
+    crate::asking::ask_again(
+        source,
+        b"marks",
+        Question::Marks,
+        false,
+        book,
+        limits,
+        list,
+        tally,
+    );
+    ask_marks_turned(source, book, limits, list, tally);
 }
 
-fn ask_marks_turned(source: &[u8], book: &[u8], list: &[u16], tally: &mut [u32]) {
+fn ask_marks_turned(source: &[u8], book: &[u8], limits: Limits, list: &[u16], tally: &mut [u32]) {
     let mut back = crate::asking::room_for_names();
     let end = crate::asking::within(crate::asking::put_backwards(list, &mut back), &back);
     crate::asking::ask(
@@ -220,6 +241,7 @@ fn ask_marks_turned(source: &[u8], book: &[u8], list: &[u16], tally: &mut [u32])
         Question::Marks,
         false,
         book,
+        limits,
         &back[..end],
         tally,
     );
@@ -227,6 +249,7 @@ fn ask_marks_turned(source: &[u8], book: &[u8], list: &[u16], tally: &mut [u32])
         source,
         b"marks-outside",
         book,
+        limits,
         &back[..end],
         Asked::OUTSIDE,
         tally,
@@ -235,6 +258,7 @@ fn ask_marks_turned(source: &[u8], book: &[u8], list: &[u16], tally: &mut [u32])
         source,
         b"marks-highest",
         book,
+        limits,
         &back[..end],
         Asked::HIGHEST,
         tally,
@@ -246,6 +270,7 @@ fn ask_marks_and(
     source: &[u8],
     word: &[u8],
     book: &[u8],
+    limits: Limits,
     back: &[u16],
     number: u16,
     tally: &mut [u32],
@@ -259,13 +284,14 @@ fn ask_marks_and(
         Question::Marks,
         false,
         book,
+        limits,
         &more[..last],
         tally,
     );
 }
 
 // The other questions that are asked with no names.
-fn ask_others(source: &[u8], book: &[u8], tally: &mut [u32]) {
+fn ask_others(source: &[u8], book: &[u8], limits: Limits, tally: &mut [u32]) {
     let none = [0u16; 0];
     crate::asking::ask_again(
         source,
@@ -273,6 +299,7 @@ fn ask_others(source: &[u8], book: &[u8], tally: &mut [u32]) {
         Question::InitList,
         false,
         book,
+        limits,
         &none,
         tally,
     );
@@ -282,6 +309,7 @@ fn ask_others(source: &[u8], book: &[u8], tally: &mut [u32]) {
         Question::DraftList,
         false,
         book,
+        limits,
         &none,
         tally,
     );
@@ -291,6 +319,7 @@ fn ask_others(source: &[u8], book: &[u8], tally: &mut [u32]) {
         Question::Emptiness,
         false,
         book,
+        limits,
         &none,
         tally,
     );
@@ -298,7 +327,14 @@ fn ask_others(source: &[u8], book: &[u8], tally: &mut [u32]) {
 
 // The questions about each name and about numbers that are no name's; the methods projected for none, for all names that have one, and for
 // all names. A broken book has none and is not asked.
-fn ask_of_names(source: &[u8], book: &[u8], names: u16, listed: usize, tally: &mut [u32]) {
+fn ask_of_names(
+    source: &[u8],
+    book: &[u8],
+    limits: Limits,
+    names: u16,
+    listed: usize,
+    tally: &mut [u32],
+) {
     if names == 0 {
         return;
     }
@@ -308,13 +344,13 @@ fn ask_of_names(source: &[u8], book: &[u8], names: u16, listed: usize, tally: &m
         &numbers,
     );
     let mut taken = crate::asking::room_for_names();
-    let count = ask_of_each(source, book, &numbers[..end], &mut taken, tally);
-    ask_outside(source, book, tally);
+    let count = ask_of_each(source, book, limits, &numbers[..end], &mut taken, tally);
+    ask_outside(source, book, limits, tally);
     let last = crate::asking::within(count, &taken);
-    ask_together(source, book, names, &taken[..last], tally);
+    ask_together(source, book, limits, names, &taken[..last], tally);
 }
 
-fn ask_outside(source: &[u8], book: &[u8], tally: &mut [u32]) {
+fn ask_outside(source: &[u8], book: &[u8], limits: Limits, tally: &mut [u32]) {
     let outside = [Asked::OUTSIDE];
     crate::asking::ask(
         source,
@@ -322,6 +358,7 @@ fn ask_outside(source: &[u8], book: &[u8], tally: &mut [u32]) {
         Question::Uses,
         false,
         book,
+        limits,
         &outside,
         tally,
     );
@@ -331,6 +368,7 @@ fn ask_outside(source: &[u8], book: &[u8], tally: &mut [u32]) {
         Question::Projection,
         false,
         book,
+        limits,
         &outside,
         tally,
     );
@@ -341,6 +379,7 @@ fn ask_outside(source: &[u8], book: &[u8], tally: &mut [u32]) {
         Question::Projection,
         false,
         book,
+        limits,
         &highest,
         tally,
     );
@@ -350,13 +389,21 @@ fn ask_outside(source: &[u8], book: &[u8], tally: &mut [u32]) {
         Question::Projection,
         false,
         book,
+        limits,
         &outside[..0],
         tally,
     );
 }
 
 // The projection of these names and of all, the last first.
-fn ask_together(source: &[u8], book: &[u8], names: u16, taken: &[u16], tally: &mut [u32]) {
+fn ask_together(
+    source: &[u8],
+    book: &[u8],
+    limits: Limits,
+    names: u16,
+    taken: &[u16],
+    tally: &mut [u32],
+) {
     let mut back = crate::asking::room_for_names();
     let last = crate::asking::within(crate::asking::put_backwards(taken, &mut back), &back);
     crate::asking::ask_again(
@@ -365,6 +412,7 @@ fn ask_together(source: &[u8], book: &[u8], names: u16, taken: &[u16], tally: &m
         Question::Projection,
         false,
         book,
+        limits,
         &back[..last],
         tally,
     );
@@ -381,6 +429,7 @@ fn ask_together(source: &[u8], book: &[u8], names: u16, taken: &[u16], tally: &m
         Question::Projection,
         false,
         book,
+        limits,
         &turned[..next],
         tally,
     );
@@ -390,6 +439,7 @@ fn ask_together(source: &[u8], book: &[u8], names: u16, taken: &[u16], tally: &m
 fn ask_of_each(
     source: &[u8],
     book: &[u8],
+    limits: Limits,
     numbers: &[u16],
     taken: &mut [u16],
     tally: &mut [u32],
@@ -397,7 +447,7 @@ fn ask_of_each(
     let mut end = 0;
     let mut i = 0;
     while i < numbers.len() {
-        let has_method = ask_of(source, book, numbers[i], tally);
+        let has_method = ask_of(source, book, limits, numbers[i], tally);
         end = crate::asking::put(has_method, numbers[i], taken, end);
         i += 1;
     }
@@ -405,16 +455,26 @@ fn ask_of_each(
 }
 
 // The questions about a name. Answers whether it has a method.
-fn ask_of(source: &[u8], book: &[u8], number: u16, tally: &mut [u32]) -> bool {
+fn ask_of(source: &[u8], book: &[u8], limits: Limits, number: u16, tally: &mut [u32]) -> bool {
     let once = [number];
     let twice = [number, number];
-    crate::asking::ask_again(source, b"uses", Question::Uses, true, book, &once, tally);
+    crate::asking::ask_again(
+        source,
+        b"uses",
+        Question::Uses,
+        true,
+        book,
+        limits,
+        &once,
+        tally,
+    );
     let taken = crate::asking::ask(
         source,
         b"project",
         Question::Projection,
         true,
         book,
+        limits,
         &once,
         tally,
     );
@@ -424,6 +484,7 @@ fn ask_of(source: &[u8], book: &[u8], number: u16, tally: &mut [u32]) -> bool {
         Question::Projection,
         true,
         book,
+        limits,
         &twice,
         tally,
     );

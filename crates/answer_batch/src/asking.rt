@@ -5,7 +5,7 @@ ghost use lib.ListN.{length};
 ghost use Rattle.io.specs.Counts.{Counts};
 use crate::asked::Asked;
 use crate::asked::Question;
-use book::kinds::Limits;
+use format::Limits;
 use refusals::Answer;
 use refusals::Refusal;
 use refusals::Verdict;
@@ -31,12 +31,14 @@ pub(crate) fn ask(
     question: Question,
     of_name: bool,
     book: &[u8],
+    limits: Limits,
     asked: &[u16],
     tally: &mut [u32],
 ) -> usize {
     let mut out = room();
     begin(source, word, b"", of_name, book, asked);
-    answer(question, book, asked, &mut out, tally)
+    let said = crate::asked::reply(question, book, limits, asked, &mut out);
+    answer(question, said, &out, book, tally)
 }
 
 // The same and, where it has entries, once more with one place less.
@@ -46,6 +48,7 @@ pub(crate) fn ask_again(
     question: Question,
     of_name: bool,
     book: &[u8],
+    limits: Limits,
     asked: &[u16],
     tally: &mut [u32],
 ) {
@@ -56,6 +59,7 @@ pub(crate) fn ask_again(
         question,
         of_name,
         book,
+        limits,
         asked,
         &mut out,
         tally,
@@ -69,19 +73,22 @@ pub(crate) fn ask_both(
     question: Question,
     of_name: bool,
     book: &[u8],
+    limits: Limits,
     asked: &[u16],
     out: &mut [u16],
     tally: &mut [u32],
 ) -> usize {
     begin(source, word, b"", of_name, book, asked);
-    let end = answer(question, book, asked, out, tally);
+    let said = crate::asked::reply(question, book, limits, asked, out);
+    let end = answer(question, said, out, book, tally);
     let width = question.width();
     if end < width {
         return 0;
     }
     begin(source, word, b"-short", of_name, book, asked);
     let short = within(end - width, out);
-    answer_short(question, book, asked, &mut out[..short], tally);
+    let again = crate::asked::reply(question, book, limits, asked, &mut out[..short]);
+    answer_short(again, book, tally);
     end
 }
 
@@ -94,14 +101,8 @@ fn begin(source: &[u8], word: &[u8], more: &[u8], of_name: bool, book: &[u8], as
 }
 
 // The answer to a question, printed and counted. Answers how many numbers were given.
-fn answer(
-    question: Question,
-    book: &[u8],
-    asked: &[u16],
-    out: &mut [u16],
-    tally: &mut [u32],
-) -> usize {
-    match crate::asked::reply(question, book, asked, out) {
+fn answer(question: Question, said: Answer, out: &[u16], book: &[u8], tally: &mut [u32]) -> usize {
+    match said {
         Answer::Refused(why) => {
             refuse(why, book, tally);
             0
@@ -117,14 +118,8 @@ fn answer(
 }
 
 // The same where the list is too short, after the entries needed.
-fn answer_short(
-    question: Question,
-    book: &[u8],
-    asked: &[u16],
-    out: &mut [u16],
-    tally: &mut [u32],
-) {
-    match crate::asked::reply(question, book, asked, out) {
+fn answer_short(said: Answer, book: &[u8], tally: &mut [u32]) {
+    match said {
         Answer::Refused(why) => {
             crate::lines::counts(b"needs ", why.needed() as usize);
             crate::lines::write(b" ");

@@ -1,6 +1,8 @@
-// Reading the records of a batch: of each a length byte and the source's name, four bytes of length and the book.
+// Reading the records of a batch: of each a length byte and the source's name; the three limits and a length, four bytes each;
+// the book.
 ghost use mathlib.Core.Path.{_≡_};
 ghost use lib.ListN.{length};
+use format::Limits;
 use libc::STDIN_FILENO;
 
 // As many bytes as a source's name has at most: one byte tells its length.
@@ -23,15 +25,11 @@ fn read_exactly(buffer: &mut [u8], size: usize) -> bool {
     io::read_full(STDIN_FILENO, &mut buffer[..end]) == size
 }
 
-// Reads a length in four bytes; more than any book has where they do not come.
-fn read_size() -> usize {
-    let mut word = [0u8; 4];
-    if !read_exactly(&mut word, 4) {
-        return usize::MAX;
-    }
-    let low = crate::lines::wide(word[0]) + 256 * crate::lines::wide(word[1]);
-    let high = crate::lines::wide(word[2]) + 256 * crate::lines::wide(word[3]);
-    low + 65536 * high
+// A number in four bytes, the lowest first.
+fn word_of(a: u8, b: u8, c: u8, d: u8) -> u32 {
+    let low = crate::lines::wide(a) + 256 * crate::lines::wide(b);
+    let high = crate::lines::wide(c) + 256 * crate::lines::wide(d);
+    (low + 65536 * high) as u32
 }
 
 // Replays the next record. Answers whether there was one.
@@ -46,15 +44,25 @@ fn replayed(tally: &mut [u32]) -> bool {
         crate::lines::write(b"the batch is cut\n");
         return false;
     }
+    let mut words = [0u8; 16];
+    if !read_exactly(&mut words, 16) {
+        crate::lines::write(b"the batch is cut\n");
+        return false;
+    }
+    let limits = Limits {
+        names: word_of(words[0], words[1], words[2], words[3]),
+        nodes: word_of(words[4], words[5], words[6], words[7]),
+        definitions: word_of(words[8], words[9], words[10], words[11]),
+    };
     let mut book = room_for_book();
-    let size = read_size();
+    let size = word_of(words[12], words[13], words[14], words[15]) as usize;
     if !read_exactly(&mut book, size) {
         crate::lines::write(b"the batch is cut\n");
         return false;
     }
     let source_end = crate::lines::within(source_size, &source);
     let end = crate::lines::within(size, &book);
-    crate::asked::replay(&source[..source_end], &book[..end], tally);
+    crate::asked::replay(&source[..source_end], &book[..end], limits, tally);
     true
 }
 

@@ -33,16 +33,23 @@ fn wide(count: u32) -> usize {
     count as usize
 }
 
+// Prints a count, and answers whether it is not 0. Where nothing is counted there is nothing to print.
+fn print_count(place: usize, count: u32) -> bool {
+    if !crate::asked::is_counted(place) {
+        return true;
+    }
+    crate::asked::print_counted(place);
+    crate::lines::counts(b" ", wide(count));
+    crate::lines::write(b"\n");
+    0 < count
+}
+
 // All counts, and whether none of them is 0.
 pub(crate) fn print_tally(tally: &[u32]) {
     let mut is_complete = true;
     let mut place = 1;
     while place < tally.len() {
-        let count = tally[place];
-        crate::asked::print_counted(place);
-        crate::lines::counts(b" ", wide(count));
-        crate::lines::write(b"\n");
-        is_complete = is_complete & (0 < count);
+        is_complete = print_count(place, tally[place]) & is_complete;
         place += 1;
     }
     if is_complete {

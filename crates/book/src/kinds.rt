@@ -1,4 +1,4 @@
-// The numbers that document 01 gives to kinds, roles and limits, each with the type that it describes.
+// The numbers that document 01 gives to kinds, roles and modes, each with the type that it describes.
 ghost use mathlib.Core.Path.{_≡_};
 ghost use Rattle.format.specs.Rules.{belowKind};
 ghost use Rattle.format.specs.Layout.{namesPart, nodesPart, definitionsPart, filesPart};
@@ -106,36 +106,6 @@ impl Role {
         ensures { λ r. ⌜ r .number ≡ number ⌝ }
     {
         Role { number }
-    }
-}
-
-// The most that a book holds.
-pub struct Limits {
-    pub names: usize,
-    pub nodes: usize,
-    pub definitions: usize,
-}
-
-impl Limits {
-    pub const BYTES: usize = 65536;
-
-    pub const NAMES: usize = 1024;
-
-    pub const NODES: usize = 4096;
-
-    pub const DEFINITIONS: usize = 512;
-
-    pub const FILES: usize = 16;
-
-    // The limits of every model so far.
-    pub fn full() -> Limits
-        ensures { λ r. ⌜ (r .names ≡ 1024) × (r .nodes ≡ 4096) × (r .definitions ≡ 512) ⌝ }
-    {
-        Limits {
-            names: Limits::NAMES,
-            nodes: Limits::NODES,
-            definitions: Limits::DEFINITIONS,
-        }
     }
 }
 

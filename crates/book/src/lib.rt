@@ -10,11 +10,11 @@ mod rules;
 pub mod tables;
 
 use crate::kinds::Contents;
-use crate::kinds::Limits;
 use crate::read::Entry;
 use crate::read::Node;
 use crate::rules::Next;
 use crate::rules::Walked;
+use format::Limits;
 use format::Place;
 
 // What bytes are: no book, or one with this table of contents.

@@ -5,8 +5,8 @@ ghost use Rattle.format.specs.Layout.{namesOf};
 ghost use Rattle.book.specs.Reading.{Admitted};
 ghost use Rattle.book.specs.Tables.{blankTable, zeroTable, noFlags, NamesIn, HashesOf, PlacesOf};
 use crate::kinds::Contents;
-use crate::kinds::Limits;
 use crate::read::Entry;
+use format::Limits;
 
 // A node number for each of the 1,024 names.
 pub type ByName = [u16; Limits::NAMES];

@@ -10,7 +10,7 @@ use Rattle.refusals.specs.Refusal.{numberOf, nameOf, neededOf}
 use Rattle.refusals.specs.declared.Answer.{Answer}
 use Rattle.refusals.specs.declared.Answer.the-variants.{Given, Refused as RefusedAnswer}
 
--- 0 where it passes; else the refusal's row in document 01 in the high 16 bits, and in the low ones the number of its name, 65,535 for none.
+-- 0 where it passes; else the refusal's number in the high 16 bits, and in the low ones the number of its name, 65,535 for none.
 unfoldable pub coded : Verdict → ℕ
 coded Passed = 0
 coded (Refused r) = numberOf r * 65536 + nameOf r

@@ -14,9 +14,9 @@ ghost use Rattle.environment.specs.Tables.{Nodes, Entries, Roots, Binds,
 pub mod merge;
 
 use book::kinds::Kind;
-use book::kinds::Limits;
 use book::read::Entry;
 use book::read::Node;
+use format::Limits;
 
 // What a table has for a name: a node, or one of these.
 pub struct Table {

@@ -15,6 +15,7 @@ use Rattle.listing.specs.Recursive.{note, noteName, markArm, go, see, listed, i
 use Rattle.listing.specs.Project.{without, take′, projectFrom, lowest, leftOver, projected, project}
 use Rattle.refusals.specs.Outcome.{Outcome, asked, judged}
 use Rattle.listing.specs.Marks.{marked, marksOver}
+use Rattle.format.specs.Within.{within}
 use Rattle.format.specs.Admission.{admittedBy, admitted}
 use Rattle.listing.proofs.Empty.{empty-computed}
 use Rattle.listing.proofs.Examples.{init-listed}
@@ -34,7 +35,7 @@ unfolding
     methodsAt sameKind labelId sameLabel sameForest
     methodsOf importedMethods mergedActor
     serviceVerdict importedVerdict hashesVerdict mainVerdict checkBytes initCheckBytes
-    empty-computed without take′ projectFrom lowest leftOver projected project admittedBy admitted asked judged
+    empty-computed without take′ projectFrom lowest leftOver projected project within admittedBy admitted asked judged
     refusedAs ofVerdict ofOutcome spelt listMarks answer
 answer-computed = answer
 

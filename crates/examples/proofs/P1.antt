@@ -3,15 +3,21 @@
 --     p1-in-three, p1-in-one                     what stands in lent lists of three places and of one
 --     p1-read, p1-admitted, p1-list, p1-marks    its bytes, and what is answered, by computation
 --     p1-draft                                   the sentences hold of it as a draft
-use mathlib.Core.Path.{_≡_, refl, sym, ap, ap₂, _∙_}
+--     p1-within, p1-over                         limits that take it, and limits that do not
+use mathlib.Core.Path.{_≡_, refl, sym, ap, ap₂, subst, _∙_}
 use mathlib.Core.List.{List, [], _∷_, _++_, map, List·Memᴰ·head}
 use Prim.Native.Nat.{ℕ}
 use native.Mathlib.Omega.{arith}
 use lib.ListN.{take-append-drop}
 use Rattle.format.specs.Forest.{end}
 use Rattle.format.specs.Layout.{whole, layout}
-use Rattle.format.specs.Admission.{admittedBy, admitted, onBytes}
-use Rattle.refusals.specs.declared.Refusal.the-variants.{Short}
+use Rattle.format.specs.declared.Limits.{Limits}
+use Rattle.format.specs.Within.{full, sizeOf, Within, Over}
+use Rattle.format.specs.Admission.{Source, _under_, admitted, onBytes}
+use Rattle.format.proofs.Within.{over-says}
+use Rattle.format.proofs.Admission.{admitted-says, admitted-whole}
+use Rattle.format.proofs.Raising.{full-admits}
+use Rattle.refusals.specs.declared.Refusal.the-variants.{Short, OverLimit}
 use Rattle.refusals.specs.declared.Answer.{Answer}
 use Rattle.refusals.specs.declared.Answer.the-variants.{Given, Refused}
 use Rattle.refusals.specs.Handed.{HandedAs}
@@ -22,7 +28,7 @@ use Rattle.judgement.specs.Check.{check}
 use Rattle.format.specs.Distinct.{Distinct}
 use Rattle.judgement.specs.WellFormed.{definedName}
 use Rattle.judgement.proofs.Decs.{once-says}
-use Rattle.refusals.specs.Outcome.{given}
+use Rattle.refusals.specs.Outcome.{refused, given}
 use Rattle.listing.specs.List.{list}
 use Rattle.listing.specs.Marks.{marksOver}
 use Rattle.listing.specs.DraftList.{draftDefinitions}
@@ -32,7 +38,7 @@ use Rattle.listing.proofs.Demand3.{sent-bytes, sent-draft-bytes}
 use Rattle.samples.specs.Bytes as bytes
 use Rattle.samples.specs.Written.{p1}
 use Rattle.samples.specs.Table.{samples}
-use Rattle.samples.proofs.Computed.{samples-computed}
+use Rattle.samples.proofs.Computed.{layout-computed, samples-computed}
 use Rattle.samples.proofs.Theorems.{all-read}
 use Rattle.examples.proofs.Computed.{marks-computed}
 
@@ -40,9 +46,12 @@ pub p1-read : layout bytes.p1 ≡ whole p1
 unfolding samples
 p1-read = all-read _ (List·Memᴰ·head refl)
 
-pub p1-admitted : admitted bytes.p1 ≡ given p1
-unfolding admitted admittedBy
-p1-admitted = rw p1-read
+-- Under document 01's figures.
+abbrev pub p1-source : Source
+p1-source = bytes.p1 under full
+
+pub p1-admitted : admitted p1-source ≡ given p1
+p1-admitted = full-admits bytes.p1 p1-read
 
 -- ---- As a book: it passes, and has an actor
 passes : check p1 ≡ Passed
@@ -53,8 +62,8 @@ has-actor : resolveActor p1 ≡ end → ⊥
 unfolding marks-computed samples-computed
 has-actor e = let z : _≡_ {A = ℕ} 0 1 = cc in omega arith
 
-pub p1-sent : Sent bytes.p1 p1
-p1-sent = sent-bytes bytes.p1 p1 p1-admitted passes has-actor
+pub p1-sent : Sent p1-source p1
+p1-sent = sent-bytes p1-source p1 p1-admitted passes has-actor
 
 abbrev pub p1-answers : Answers p1
 p1-answers = p1-sent .answers
@@ -67,13 +76,13 @@ pub p1-listed : p1-answers .listed ≡ 3 ∷ 6 ∷ []
 p1-listed = let e = sym (p1-answers .listGiven .0) ∙ p1-list in cc
 
 -- In three lent places: two names are told, and the third place keeps what it had. In one place two are needed.
-listed-in : Delivers (HandedAs (onBytes list bytes.p1)) 2 (3 ∷ 6 ∷ [])
+listed-in : Delivers (HandedAs (onBytes list p1-source)) 2 (3 ∷ 6 ∷ [])
 listed-in = rw p1-listed at (p1-sent .listSent)
 
-pub p1-in-three : {x y z : ℕ} {new : List ℕ} {r : Answer} → HandedAs (onBytes list bytes.p1) (x ∷ y ∷ z ∷ []) new r → (r ≡ Given 2) × (new ≡ 3 ∷ 6 ∷ z ∷ [])
+pub p1-in-three : {x y z : ℕ} {new : List ℕ} {r : Answer} → HandedAs (onBytes list p1-source) (x ∷ y ∷ z ∷ []) new r → (r ≡ Given 2) × (new ≡ 3 ∷ 6 ∷ z ∷ [])
 p1-in-three {new = new} h = let d = listed-in .enough h (omega arith) in (d .answer, sym (take-append-drop 2 new) ∙ ap₂ _++_ (d .front) (d .rest))
 
-pub p1-in-one : {x : ℕ} {new : List ℕ} {r : Answer} → HandedAs (onBytes list bytes.p1) (x ∷ []) new r → (r ≡ Refused (Short 2)) × (new ≡ x ∷ [])
+pub p1-in-one : {x : ℕ} {new : List ℕ} {r : Answer} → HandedAs (onBytes list p1-source) (x ∷ []) new r → (r ≡ Refused (Short 2)) × (new ≡ x ∷ [])
 p1-in-one h = let k = listed-in .short h (omega arith) in (k .answer, k .same)
 
 pub p1-marks : marksOver p1 (3 ∷ 6 ∷ []) ≡ given (6 ∷ [])
@@ -92,8 +101,24 @@ once : Distinct (map definedName (draftDefinitions p1))
 unfolding drafted samples-computed
 once = once-says (draftDefinitions p1) .0 refl
 
-pub p1-draft-sent : SentDraft bytes.p1 p1
-p1-draft-sent = sent-draft-bytes bytes.p1 p1 p1-admitted main-actor once
+pub p1-draft-sent : SentDraft p1-source p1
+p1-draft-sent = sent-draft-bytes p1-source p1 p1-admitted main-actor once
 
 abbrev pub p1-draft : DraftAnswers p1
 p1-draft = p1-draft-sent .answers
+
+-- ---- Under limits: it has 7 names, 10 nodes and 3 definitions
+abbrev pub p1-has : Limits
+p1-has = record { names = 7; nodes = 10; definitions = 3 }
+
+p1-size : p1-has ≡ sizeOf p1
+unfolding layout-computed samples-computed
+p1-size = refl
+
+pub p1-within : (l : Limits) → Within p1-has l → admitted (bytes.p1 under l) ≡ given p1
+p1-within l w = admitted-says (bytes.p1 under l) p1 .1 (p1-read, subst (λ (s : Limits). Within s l) p1-size w)
+
+pub p1-over : (l : Limits) → Over p1-has l → admitted (bytes.p1 under l) ≡ refused OverLimit
+p1-over l o =
+    admitted-whole (bytes.p1 under l) p1 p1-read
+    ∙ rw (over-says (sizeOf p1) l .1 (subst (λ (s : Limits). Over s l) p1-size o))

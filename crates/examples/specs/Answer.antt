@@ -13,12 +13,14 @@ use Rattle.judgement.specs.Check.{checkBytes, initCheckBytes}
 use Rattle.refusals.specs.Outcome.{Outcome, given}
 use Rattle.refusals.specs.Outcome as outcomes
 use Rattle.listing.specs.Marks.{marksOver}
-use Rattle.format.specs.Admission.{onBytes}
+use Rattle.format.specs.Within.{full}
+use Rattle.format.specs.Admission.{_under_, onBytes}
 use Rattle.listing.specs.List as lists
 use Rattle.listing.specs.Project as projection
 use Rattle.listing.specs.Empty as empties
 
--- The hash is asked of a name's bytes, all others of a book's. Marks are those of the book's own list; names are asked for by number.
+-- The hash is asked of a name's bytes, all others of a book's. Marks are those of the book's own list; names are asked for by
+-- number. Limits are document 01's figures.
 pub data Question : Type 0 where
   hash check initCheck list marks emptiness : Question
   project : List ℕ → Question
@@ -52,9 +54,9 @@ listMarks b (given l) = marksOver b l
 
 unfoldable pub answer : Question → List ℕ → Answer
 answer hash bs = number (labelNumber bs)
-answer check bs = ofVerdict bs (checkBytes bs)
-answer initCheck bs = ofVerdict bs (initCheckBytes bs)
-answer list bs = ofOutcome bs (spelt bs) (onBytes lists.list bs)
-answer marks bs = ofOutcome bs (spelt bs) (onBytes (λ b. listMarks b (lists.list b)) bs)
-answer emptiness bs = ofOutcome bs (spelt bs) (onBytes empties.emptiness bs)
-answer (project asked) bs = ofOutcome bs methods (onBytes (λ b. projection.project b asked) bs)
+answer check bs = ofVerdict bs (checkBytes (bs under full))
+answer initCheck bs = ofVerdict bs (initCheckBytes (bs under full))
+answer list bs = ofOutcome bs (spelt bs) (onBytes lists.list (bs under full))
+answer marks bs = ofOutcome bs (spelt bs) (onBytes (λ b. listMarks b (lists.list b)) (bs under full))
+answer emptiness bs = ofOutcome bs (spelt bs) (onBytes empties.emptiness (bs under full))
+answer (project asked) bs = ofOutcome bs methods (onBytes (λ b. projection.project b asked) (bs under full))

@@ -1,15 +1,17 @@
 -- Laws of admission. Whatever it comes to refuse, callers use these. Assumes nothing.
---     admitted-laid, admitted-fits     what is admitted is laid out, and fits
+--     admitted-says, admitted-laid, ..
+--                                      what is admitted is laid out, within the limits, and fits
 --     not-admitted, admission-refuses  a refusal lies in its row, and a row is refused
 --     judged-says, judged-refuses, ..  what is said of a check of every book, on bytes
 --     asked-is, asked-refuses          a question on bytes is that on the book, and refuses just what that does
 --     asked-row, row-numbers           what a question on bytes refuses, in so many places, and the numbers of the rows that there are
-use mathlib.Core.Path.{_≡_, refl, ap, _∙_}
-use mathlib.Core.Logic.{_↔_, _⊎_, inl, inr, ⊎-elim}
-use mathlib.Core.List.{List, _++_, List·Memᴰ, List·Memᴰ·head, Memᴰ·append-left, Memᴰ·append-right}
+use mathlib.Core.Path.{_≡_, refl, ap, subst, _∙_}
+use mathlib.Core.Logic.{_↔_, inl, inr, ⊎-elim}
+use mathlib.Core.Bool.{Bool, true, false, cond}
+use mathlib.Core.List.{List, _++_, List·Memᴰ, List·Memᴰ·head, List·Memᴰ·tail, Memᴰ·append-left, Memᴰ·append-right}
 use Prim.Native.Nat.{ℕ}
-use native.Mathlib.Omega.{arith}
 use Rattle.refusals.specs.declared.Refusal.{Refusal}
+use Rattle.refusals.specs.declared.Refusal.the-variants.{OverLimit}
 use Rattle.refusals.specs.Refusal.{numberOf}
 use Rattle.refusals.specs.declared.Verdict.{Verdict}
 use Rattle.refusals.specs.declared.Verdict.the-variants.{Passed, Refused}
@@ -18,32 +20,64 @@ use Rattle.refusals.proofs.Verdicts.{refused-passed}
 use Rattle.format.specs.Book.{Book}
 use Rattle.format.specs.Fits.{Fits}
 use Rattle.format.specs.Layout.{Layout, broken, whole, layout}
-use Rattle.format.specs.Admission.{admittedBy, admitted, onBytes, AdmissionRow, admissionRows, BookIn, InRow}
+use Rattle.format.specs.Within.{clamped, sizeOf, Within, within}
+use Rattle.format.specs.Admission.{Source, admittedBy, admitted, onBytes, AdmissionRow, admissionRows, BookIn, InRow}
+use Rattle.format.proofs.Logic.{is-true, of-true, clash}
 use Rattle.format.proofs.Theorems.{found}
+use Rattle.format.proofs.Within.{within-says, over-says, clamped-says, within-clamped}
 
-module _ (bs : List ℕ) where
-  pub admitted-laid : {b : Book} → admitted bs ≡ given b → layout bs ≡ whole b
-  unfolding admitted admittedBy
-  admitted-laid {b} = go (layout bs)
+module _ (bs : Source) where
+  -- a layout that is admitted is that of the book, and this is within what the limits count as
+  by-layout : {b : Book} (l : Layout) → admittedBy (bs .limits) l ≡ given b → (l ≡ whole b) × Within (sizeOf b) (clamped (bs .limits))
+  unfolding admittedBy
+  by-layout {b} broken e = clash cc
+  by-layout {b} (whole c) e = go (within (sizeOf c) (clamped (bs .limits))) refl e
     where
-      go : (l : Layout) → admittedBy l ≡ given b → l ≡ whole b
-      go broken e = let z : _≡_ {A = ℕ} 0 1 = cc in absurd (omega arith)
-      go (whole c) e = ap whole cc
+      go : (t : Bool) → within (sizeOf c) (clamped (bs .limits)) ≡ t → cond t (given c) (refused OverLimit) ≡ given b →
+          (whole c ≡ whole b) × Within (sizeOf b) (clamped (bs .limits))
+      go true w e =
+          let same : c ≡ b = cc in
+          (ap whole same, within-says (sizeOf b) (clamped (bs .limits)) .0 (of-true (within (sizeOf b) (clamped (bs .limits))) (subst (λ (d : Book). within (sizeOf d) (clamped (bs .limits)) ≡ true) same w)))
+      go false w e = clash cc
+
+  pub admitted-laid : {b : Book} → admitted bs ≡ given b → layout (bs .bytes) ≡ whole b
+  unfolding admitted
+  admitted-laid e = by-layout (layout (bs .bytes)) e .0
 
   pub admitted-fits : {b : Book} → admitted bs ≡ given b → Fits b
-  admitted-fits {b} e = found bs b .0 (admitted-laid e) .0
+  admitted-fits {b} e = found (bs .bytes) b .0 (admitted-laid e) .0
+
+  -- Admitted is what is laid out and within the limits.
+  pub admitted-says : (b : Book) → (admitted bs ≡ given b) ↔ ((layout (bs .bytes) ≡ whole b) × Within (sizeOf b) (bs .limits))
+  unfolding admitted admittedBy
+  admitted-says b = (
+    λ e. (admitted-laid e, clamped-says b (admitted-fits e) (bs .limits) .0 (by-layout (layout (bs .bytes)) e .1)),
+    λ p.
+        let w = clamped-says b (found (bs .bytes) b .0 (p .0) .0) (bs .limits) .1 (p .1) in
+        rw (p .0, is-true (within (sizeOf b) (clamped (bs .limits))) (within-says (sizeOf b) (clamped (bs .limits)) .1 w)),
+  )
+
+  -- A whole book is judged by its limits as they are given.
+  pub admitted-whole : (b : Book) → layout (bs .bytes) ≡ whole b → admitted bs ≡ cond (within (sizeOf b) (bs .limits)) (given b) (refused OverLimit)
+  unfolding admitted admittedBy
+  admitted-whole b w = rw (w, within-clamped b (found (bs .bytes) b .0 w .0) (bs .limits))
 
   pub not-admitted : {r : Refusal} → admitted bs ≡ refused r → AdmissionRow bs r
   unfolding admitted admittedBy
-  not-admitted {r} = go (layout bs) refl
+  not-admitted {r} = go (layout (bs .bytes)) refl
     where
-      go : (l : Layout) → layout bs ≡ l → admittedBy l ≡ refused r → AdmissionRow bs r
-      go broken w e = (cc, w)
-      go (whole b) w e = let z : _≡_ {A = ℕ} 0 1 = cc in absurd (omega arith)
+      look : (b : Book) → layout (bs .bytes) ≡ whole b → (t : Bool) → within (sizeOf b) (clamped (bs .limits)) ≡ t → cond t (given b) (refused OverLimit) ≡ refused r → AdmissionRow bs r
+      look b w true t e = clash cc
+      look b w false t e = inr (cc, (b, w, over-says (sizeOf b) (clamped (bs .limits)) .0 t))
+
+      go : (l : Layout) → layout (bs .bytes) ≡ l → admittedBy (bs .limits) l ≡ refused r → AdmissionRow bs r
+      go broken w e = inl (cc, w)
+      go (whole b) w e = look b w (within (sizeOf b) (clamped (bs .limits))) refl e
 
   pub admission-refuses : {r : Refusal} → AdmissionRow bs r → admitted bs ≡ refused r
   unfolding admitted admittedBy
-  admission-refuses x = rw (x .1, x .0)
+  admission-refuses (inl x) = rw (x .1, x .0)
+  admission-refuses (inr x) = let (b, w, o) = x .1 in rw (w, over-says (sizeOf b) (clamped (bs .limits)) .1 o, x .0)
 
   -- ---- A check
   module _ (f : Book → Verdict) (P : Book → Type 0) where
@@ -104,7 +138,8 @@ module _ (bs : List ℕ) where
       go (given b) w e = inr record { book = b; laidOut = w; holds = row b (admitted-fits w) e }
 
   admission-numbers : {r : Refusal} → AdmissionRow bs r → List·Memᴰ (numberOf r) admissionRows
-  admission-numbers x = List·Memᴰ·head (ap numberOf (x .0))
+  admission-numbers (inl x) = List·Memᴰ·head (ap numberOf (x .0))
+  admission-numbers (inr x) = List·Memᴰ·tail (List·Memᴰ·head (ap numberOf (x .0)))
 
   pub row-numbers : (Row : Book → Refusal → Type 0) (rows : List ℕ) (r : Refusal) → ((b : Book) → Row b r → List·Memᴰ (numberOf r) rows) → InRow bs Row r →
       List·Memᴰ (numberOf r) (admissionRows ++ rows)

@@ -12,7 +12,9 @@ pub mod Occurs
 pub mod Entries
 pub mod Stored
 pub mod Encoded
+pub mod Within
 pub mod Decoded
 pub mod Theorems
 pub mod Admitted
 pub mod Admission
+pub mod Raising

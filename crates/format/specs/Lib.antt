@@ -1,10 +1,12 @@
--- What a declaration book is. Read in this order: Forest, Node, Book, Encode, Fits, Layout, Admission; References, Occurs, Distinct and Labels speak of trees.
+-- What a declaration book is. Read in this order: Forest, Node, Book, Encode, Fits, Layout, Within, Admission;
+-- References, Occurs, Distinct and Labels speak of trees.
 pub mod Forest
 pub mod Node
 pub mod Book
 pub mod Encode
 pub mod Fits
 pub mod Layout
+pub mod Within
 pub mod Rules
 pub mod Whole
 pub mod References

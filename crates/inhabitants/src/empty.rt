@@ -8,10 +8,10 @@ ghost use Rattle.format.specs.Whole.{Within, Whole};
 ghost use Rattle.listing.specs.Empty.{visitFields, isEmpty};
 ghost use Rattle.inhabitants.specs.Empty.{Environment, namesFrom, mayBeEmpty, MarkEach, NextName, noStack, Stacked, allEmpty, Fields, newMarks, Visited, isSettled, EmptiedAs};
 use book::kinds::Kind;
-use book::kinds::Limits;
 use book::read::Node;
 use book::tables::Flags;
 use environment::Table;
+use format::Limits;
 
 // What a walk knows of a name. EMPTY is a flag that is set, and no other mark is.
 struct Mark {

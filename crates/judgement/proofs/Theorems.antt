@@ -5,7 +5,8 @@
 --     actor-trees, actor-hashes                    it is well-formed, and its methods differ by hash where there are service imports
 --     without-init                                 without an init file both say the same
 --     no-init-definitions, no-init-tree            there are then no definitions and no arguments of it
---     check-bytes-says, init-check-bytes-says      all of this on bytes, which are broken or a book
+--     check-bytes-says, init-check-bytes-says      all of this on bytes, which are refused by admission or a book
+--     check-raised, init-check-raised              raising limits turns no verdict into another, but 24 into what the roomier model says
 use mathlib.Core.Path.{_≡_, refl, sym, subst}
 use mathlib.Core.Logic.{_↔_, _⊎_}
 use mathlib.Core.Bool.{false}
@@ -16,11 +17,15 @@ use Rattle.format.specs.Forest.{Forest, end}
 use Rattle.format.specs.Node.{Node}
 use Rattle.format.specs.Book.{Role, Main, TypeImport, ServiceImport, InitArgs, File, Book}
 use Rattle.format.specs.Fits.{isInitRole, Fits}
-use Rattle.format.specs.Admission.{BookIn, Source}
+use Rattle.format.specs.declared.Limits.{Limits}
+use Rattle.format.specs.Within.{Within}
+use Rattle.format.specs.Admission.{BookIn, Source, _under_, Raised}
 use Rattle.format.specs.Distinct.{Distinct}
 use Rattle.format.proofs.Lists.{all-of}
 use Rattle.format.proofs.Admission.{judged-says}
-use Rattle.refusals.specs.declared.Verdict.the-variants.{Passed}
+use Rattle.format.proofs.Raising.{raised-check}
+use Rattle.refusals.specs.declared.Refusal.the-variants.{OverLimit}
+use Rattle.refusals.specs.declared.Verdict.the-variants.{Passed, Refused}
 use Rattle.refusals.proofs.Verdicts.{pass-both, and-passed}
 use Rattle.judgement.specs.Environment.{roleAt, mainDefinitions, initDefinitions, findType, mergeDefinitions, kidsOf}
 use Rattle.judgement.specs.Actor.{serviceImports, initTree, NoInit, belowClass}
@@ -137,3 +142,13 @@ pub init-check-bytes-says : (bs : Source) →
     (initCheckBytes bs ≡ Passed) ↔ BookIn bs (λ b. (Typed b × Rust b) × (TypedInit b × RustInit b))
 unfolding initCheckBytes
 init-check-bytes-says bs = judged-says bs initCheck (λ b. (Typed b × Rust b) × (TypedInit b × RustInit b)) init-check-says
+
+-- ---- Under limits
+module _ (bs : List ℕ) {l m : Limits} (h : Within l m) where
+  pub check-raised : Raised (Refused OverLimit) (checkBytes (bs under l)) (checkBytes (bs under m))
+  unfolding checkBytes
+  check-raised = raised-check bs h check
+
+  pub init-check-raised : Raised (Refused OverLimit) (initCheckBytes (bs under l)) (initCheckBytes (bs under m))
+  unfolding initCheckBytes
+  init-check-raised = raised-check bs h initCheck

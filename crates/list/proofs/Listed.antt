@@ -1,5 +1,5 @@
 -- The lines of the listed names one after another, and what the functions that are called ensure, as parts of what is printed. Assumes nothing.
-use mathlib.Core.Path.{_≡_, refl, sym, ap, _∙_}
+use mathlib.Core.Path.{_≡_, refl, sym, ap, subst, _∙_}
 use mathlib.Core.Bool.{Bool, true, false}
 use mathlib.Core.List.{List, [], _∷_, _++_, append-assoc, append-nil}
 use Prim.Native.Nat.{ℕ, suc, _+_, _≤_, _<_}
@@ -9,7 +9,10 @@ use native.Mathlib.Omega.{arith}
 use borrow.Author.Tests.{eq-eqb, ne-eqb}
 use lib.ListN.{length, getD, take, drop, drop-of-length-le}
 use lib.Seq.{take-suc, take-all, drop-cons, length-take-le}
+use Rattle.format.specs.declared.Limits.{Limits}
 use Rattle.format.specs.Layout.{nameIn}
+use Rattle.format.specs.Within.{full}
+use Rattle.format.specs.Admission.{_under_}
 use Rattle.refusals.specs.declared.Refusal.{Refusal}
 use Rattle.judgement.specs.Check.{member, checkBytes}
 use Rattle.refusals.specs.Outcome.{given, fit}
@@ -21,8 +24,9 @@ use Rattle.listing.specs.List.{list}
 use Rattle.listing.specs.Marks.{marksOver}
 use Rattle.listing.proofs.List.{list-after}
 use Rattle.typing.specs.declared.prog.Passed.{Passed}
+use Rattle.typing.specs.declared.prog.Found.{Found}
 use Rattle.typing.specs.Passing.{PassedBook}
-use Rattle.passed.specs.Stages.{BookPassed}
+use Rattle.passed.specs.Stages.{BookPassed, PassAs}
 use Rattle.passed.proofs.Asking.{stops, answered, handed-as}
 use Rattle.print.specs.Laid.{Laid}
 use Rattle.print.proofs.Laid.{nothing, then, alias}
@@ -105,17 +109,20 @@ module _ (bs marked : List ℕ) where
   table-is l = refl
 
 -- ---- What is printed, by the verdict of the check
-pub check-refused : (bs : List ℕ) {why : Refusal} → checkBytes bs ≡ Refuses why → refusalOf bs why ≡ printed bs
+pub full-passed : {bs roots ends′ : List ℕ} {l : Limits} {r : Found} → l ≡ full → PassAs (bs under l) roots ends′ r → PassAs (bs under full) roots ends′ r
+full-passed {bs} {roots} {ends′} {r = r} e x = subst (λ (m : Limits). PassAs (bs under m) roots ends′ r) e x
+
+pub check-refused : (bs : List ℕ) {why : Refusal} → checkBytes (bs under full) ≡ Refuses why → refusalOf bs why ≡ printed bs
 unfolding fit listIn listedText printed
-check-refused bs e = rw (stops list bs list-after e)
+check-refused bs e = rw (stops list (bs under full) list-after e)
 
 -- ---- and by the answers to the questions on a book that passed, which are those on bytes
-module _ {bs roots ends′ : List ℕ} {p : Passed} (x : BookPassed bs roots ends′ p) {old new : List ℕ} {r : Answer} where
+module _ {bs roots ends′ : List ℕ} {p : Passed} (x : BookPassed (bs under full) roots ends′ p) {old new : List ℕ} {r : Answer} where
   pub marks-handed : (l : List ℕ) → ((b : PassedBook bs roots ends′ p) → HandedAs (marksOver (b .admitted .book) l) old new r) → HandedAs (marksAsked bs l) old new r
-  marks-handed l h = handed-as (answered (λ b. marksOver b l) bs (x .is)) (h (x .book))
+  marks-handed l h = handed-as (answered (λ b. marksOver b l) (bs under full) (x .is)) (h (x .book))
 
   pub list-handed : ((b : PassedBook bs roots ends′ p) → HandedAs (list (b .admitted .book)) old new r) → HandedAs (listAsked bs) old new r
-  list-handed h = handed-as (answered list bs (x .is)) (h (x .book))
+  list-handed h = handed-as (answered list (bs under full) (x .is)) (h (x .book))
 
 module _ (bs l : List ℕ) {old new : List ℕ} {r : Answer} (h : HandedAs (marksAsked bs l) old new r) (n : 1024 ≡ length old) where
   pub marks-refused : {why : Refusal} → r ≡ Refused why → refusalOf bs why ≡ markedText bs l (marksIn bs l)

@@ -26,7 +26,7 @@ use Rattle.samples.specs.Bytes as bytes
 use Rattle.samples.specs.Notation.{spelled}
 use Rattle.samples.specs.Notation as notation
 use Rattle.samples.specs.Written.{p1}
-use Rattle.examples.proofs.P1.{p1-read, p1-list, p1-marks}
+use Rattle.examples.proofs.P1.{p1-read, p1-source, p1-admitted, p1-list, p1-marks}
 use Rattle.listing.specs.Demand3.{Answers}
 use Rattle.listing.proofs.Demand3.{asked as sent-on, sent}
 use Rattle.print.specs.Ascii.{ascii}
@@ -34,7 +34,8 @@ use Rattle.print.specs.Decimal.{digit, digits, decimal}
 use Rattle.print.specs.Quoted.{plain, escape, escapes, quoted}
 use Rattle.print.specs.Refused.{namedOrDash, refusalOf}
 use Rattle.list.specs.Printed.{heading, markOf, line, lines, listIn, marksIn, markedText, listedText, printed}
-use Rattle.format.specs.Admission.{admitted, admittedBy}
+use Rattle.format.specs.Within.{full}
+use Rattle.format.specs.Admission.{_under_, admitted, admittedBy}
 use Rattle.format.proofs.Admission.{admitted-fits}
 
 -- Both questions are answered.
@@ -43,9 +44,9 @@ unfolding markedText listedText printed
 text bs e f = rw (e, f)
 
 -- ---- A book that is passed and has an actor
-module _ (bs : List ℕ) (b : Book) (read : admitted bs ≡ given b) (passed : check b ≡ Passed) (some : resolveActor b ≡ end → ⊥) where
+module _ (bs : List ℕ) (b : Book) (read : admitted (bs under full) ≡ given b) (passed : check b ≡ Passed) (some : resolveActor b ≡ end → ⊥) where
   abbrev answers : Answers b
-  answers = sent bs b read passed some
+  answers = sent (bs under full) b read passed some
 
   -- The lists that are lent are long enough.
   few-listed : length (answers .listed) ≤ 512
@@ -55,7 +56,7 @@ module _ (bs : List ℕ) (b : Book) (read : admitted bs ≡ given b) (passed : c
         arith,
         pigeonhole (answers .lists .once) (map definedName ds) (answers .lists .defined),
         length-map ds definedName,
-        main-few b (admitted-fits bs read),
+        main-few b (admitted-fits (bs under full) read),
       )
 
   few-marked : length (answers .marked) ≤ 1024
@@ -69,8 +70,8 @@ module _ (bs : List ℕ) (b : Book) (read : admitted bs ≡ given b) (passed : c
   pub shown : printed bs ≡ heading (length (answers .listed)) (length (answers .marked)) ++ lines bs (answers .marked) 1 (answers .listed)
   unfolding listIn marksIn
   shown =
-      text bs (ap (fit 512) (sent-on bs b read list) ∙ answers .listGiven .1 512 few-listed)
-      (ap (fit 1024) (sent-on bs b read (λ c. marksOver c (answers .listed))) ∙ answers .marksGiven .1 1024 few-marked)
+      text bs (ap (fit 512) (sent-on (bs under full) b read list) ∙ answers .listGiven .1 512 few-listed)
+      (ap (fit 1024) (sent-on (bs under full) b read (λ c. marksOver c (answers .listed))) ∙ answers .marksGiven .1 1024 few-marked)
 
 -- ---- A broken layout, as that of every input that is longer than a book may be
 pub broken-shown : (bs : List ℕ) → layout bs ≡ broken → printed bs ≡ ascii "refused 1 -\n"
@@ -89,13 +90,9 @@ p1-names : p1 .names ≡ map ascii ("" ∷ "fork" ∷ "leaf" ∷ "pair" ∷ "put
 unfolding p1 spelled notation.asciiBytes
 p1-names = refl
 
-p1-admitted : admitted bytes.p1 ≡ given p1
-unfolding admitted admittedBy
-p1-admitted = rw p1-read
-
 pub p1-shown : printed bytes.p1 ≡ ascii "list 2 marked 1\n1 - \"pair\"\n2 r \"tree\"\n"
 unfolding fit listIn marksIn heading line lines markOf member nameIn decimal digits digit quoted escapes escape plain
 p1-shown =
-    text bytes.p1 (ap (fit 512) (sent-on bytes.p1 p1 p1-admitted list ∙ p1-list))
-    (ap (fit 1024) (sent-on bytes.p1 p1 p1-admitted (λ c. marksOver c (3 ∷ 6 ∷ [])) ∙ p1-marks))
+    text bytes.p1 (ap (fit 512) (sent-on p1-source p1 p1-admitted list ∙ p1-list))
+    (ap (fit 1024) (sent-on p1-source p1 p1-admitted (λ c. marksOver c (3 ∷ 6 ∷ [])) ∙ p1-marks))
     ∙ rw (p1-read, p1-names)

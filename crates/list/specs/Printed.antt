@@ -1,4 +1,4 @@
--- What is printed for the bytes of a book (document 01, "Listed, marked, refused"). Definitions; assumes nothing.
+-- What is printed for the bytes of a book (document 01, "Listed, marked, refused"), under full limits. Definitions; assumes nothing.
 use mathlib.Core.Bool.{cond}
 use mathlib.Core.List.{List, [], _∷_, _++_}
 use Prim.Native.Nat.{ℕ, suc}
@@ -8,7 +8,8 @@ use Rattle.judgement.specs.Check.{member}
 use Rattle.refusals.specs.Outcome.{Outcome, refused, given, fit}
 use Rattle.listing.specs.List.{list}
 use Rattle.listing.specs.Marks.{marksOver}
-use Rattle.format.specs.Admission.{onBytes}
+use Rattle.format.specs.Within.{full}
+use Rattle.format.specs.Admission.{_under_, onBytes}
 use Rattle.print.specs.Ascii.{ascii}
 use Rattle.print.specs.Decimal.{decimal}
 use Rattle.print.specs.Quoted.{quoted}
@@ -33,7 +34,7 @@ lines book marked position (n ∷ listed) = line position (markOf marked n) (nam
 
 -- What the listed names come to with their marks, which are asked for into a list of 1,024 places.
 abbrev pub marksAsked : List ℕ → List ℕ → Outcome (List ℕ)
-marksAsked book listed = onBytes (λ b. marksOver b listed) book
+marksAsked book listed = onBytes (λ b. marksOver b listed) (book under full)
 
 unfoldable pub marksIn : List ℕ → List ℕ → Outcome (List ℕ)
 marksIn book listed = fit 1024 (marksAsked book listed)
@@ -44,7 +45,7 @@ markedText book listed (given marked) = heading (length listed) (length marked) 
 
 -- What the definition list comes to, which is asked for into a list of 512 places.
 abbrev pub listAsked : List ℕ → Outcome (List ℕ)
-listAsked book = onBytes list book
+listAsked book = onBytes list (book under full)
 
 unfoldable pub listIn : List ℕ → Outcome (List ℕ)
 listIn book = fit 512 (listAsked book)

@@ -6,13 +6,15 @@ ghost use lib.ListN.{length, take};
 ghost use Rattle.judgement.specs.Check.{member};
 ghost use Rattle.refusals.specs.Outcome.{given};
 ghost use Rattle.format.specs.Layout.{nameIn};
+ghost use Rattle.format.specs.Within.{full};
+ghost use Rattle.format.specs.Admission.{_under_};
 ghost use Rattle.book.specs.Reading.{Admitted};
 ghost use Rattle.book.specs.Tables.{PlacesOf};
 ghost use Rattle.passed.specs.Stages.{BookPassed};
 ghost use Rattle.print.specs.Laid.{Laid, LaidWithin};
 ghost use Rattle.list.specs.Printed.{heading, markOf, line, lines, marksIn, markedText, printed};
 use book::kinds::Contents;
-use book::kinds::Limits;
+use format::Limits;
 use refusals::Answer;
 use refusals::Verdict;
 use stdio::Input;
@@ -136,7 +138,7 @@ fn marked(
     listed: &[u16],
     out: &mut [u8],
 ) -> usize
-    requires { ⌜ BookPassed (now book) (now roots) (now ends) p × (length (now listed) ≤ 512) ⌝ }
+    requires { ⌜ BookPassed (now book under full) (now roots) (now ends) p × (length (now listed) ≤ 512) ⌝ }
     ensures { λ r. ⌜ LaidWithin 409600 (markedText (now (book .entry)) (now (listed .entry)) (marksIn (now (book .entry)) (now (listed .entry)))) (now (out .entry)) 0 r (now (out .exit)) ⌝ }
 {
     let mut room = room_for_marks();
@@ -155,7 +157,7 @@ fn room_for_list() -> [u16; Limits::DEFINITIONS]
 
 // What is printed of a book that passed.
 fn print_passed(book: &[u8], p: Passed, roots: &[u16], ends: &[u16], out: &mut [u8]) -> usize
-    requires { ⌜ BookPassed (now book) (now roots) (now ends) p ⌝ }
+    requires { ⌜ BookPassed (now book under full) (now roots) (now ends) p ⌝ }
     ensures { λ r. ⌜ LaidWithin 409600 (printed (now (book .entry))) (now (out .entry)) 0 r (now (out .exit)) ⌝ }
 {
     let mut room = room_for_list();
@@ -172,7 +174,7 @@ fn print(book: &[u8], out: &mut [u8]) -> usize
 {
     let mut roots = book::tables::blank();
     let mut ends = book::tables::blank();
-    let found = passed::pass(book, &mut roots, &mut ends);
+    let found = passed::pass(book, Limits::full(), &mut roots, &mut ends);
     let v = found.verdict;
     let p = found.passed;
     match v {

@@ -19,7 +19,7 @@ use Rattle.refusals.specs.Outcome.{Outcome, refused, given, after, asked, judge
 use Rattle.refusals.specs.Handed.{Use, answerOf, leftIn, HandedAs, usesLeft, UsesAs}
 use Rattle.refusals.proofs.Verdicts.{refused-passed}
 use Rattle.format.specs.Book.{Book}
-use Rattle.format.specs.Admission.{admitted, onBytes}
+use Rattle.format.specs.Admission.{Source, admitted, onBytes}
 use Rattle.format.proofs.Admission.{asked-is}
 use Rattle.book.specs.declared.kinds.Contents.{Contents}
 use Rattle.book.specs.Tables.{blankTable}
@@ -40,7 +40,7 @@ use Rattle.listing.proofs.Room as rooms
 use Rattle.passed.specs.Stages.{noContents, contentsIn, BookPassed, PassAs}
 
 -- ---- What `pass` finds
-module _ (bs roots ends′ : List ℕ) where
+module _ (bs : Source) (roots ends′ : List ℕ) where
   pub pass-refused : {why : Refusal} {c : Contents} {r : Found} → NotAdmitted why ≡ admissionOf (admitted bs) → c ≡ noContents → r ≡ foundNone c (Refused why) →
       roots ≡ blankTable → ends′ ≡ blankTable → PassAs bs roots ends′ r
   unfolding checkBytes judged
@@ -55,12 +55,12 @@ module _ (bs roots ends′ : List ℕ) where
       })
 
   -- the contents are those that admission found
-  book-passed : {p : Passed} {c : Contents} (a : Admitted bs c) → PassedAs a roots ends′ p → admitted bs ≡ given (a .book) → BookPassed bs roots ends′ p
+  book-passed : {p : Passed} {c : Contents} (a : Admitted (bs .bytes) c) → PassedAs a roots ends′ p → admitted bs ≡ given (a .book) → BookPassed bs roots ends′ p
   book-passed {p} a x =
-      subst (λ (d : Contents). (a : Admitted bs d) → PassedAs a roots ends′ p → admitted bs ≡ given (a .book) → BookPassed bs roots ends′ p) (x .contents)
+      subst (λ (d : Contents). (a : Admitted (bs .bytes) d) → PassedAs a roots ends′ p → admitted bs ≡ given (a .book) → BookPassed bs roots ends′ p) (x .contents)
       (λ a x e. record { book = record { admitted = a; passed = x }; is = e }) a x
 
-  pub pass-goes : {c : Contents} {r : Found} → IsAdmitted c ≡ admissionOf (admitted bs) → ((a : Admitted bs c) → FoundAs a roots ends′ r) → PassAs bs roots ends′ r
+  pub pass-goes : {c : Contents} {r : Found} → IsAdmitted c ≡ admissionOf (admitted bs) → ((a : Admitted (bs .bytes) c) → FoundAs a roots ends′ r) → PassAs bs roots ends′ r
   unfolding checkBytes judged
   pass-goes {c} {r} e f =
       let g = admission-gives bs e in
@@ -83,7 +83,7 @@ module _ {bs : List ℕ} {c : Contents} {a : Admitted bs c} {roots ends′ : Lis
   has-actor f = rooms.answered (a .book) (x .passed) (some-actor x is f) o
 
 -- ---- A question on bytes
-module _ {A : Type 0} (question : Book → Outcome A) (bs : List ℕ) where
+module _ {A : Type 0} (question : Book → Outcome A) (bs : Source) where
   pub unadmitted : {r : Refusal} → NotAdmitted r ≡ admissionOf (admitted bs) → onBytes question bs ≡ refused r
   unfolding asked
   unadmitted e = rw (admission-refuses bs e)
@@ -115,7 +115,7 @@ pub uses-as : {o p : Outcome (List Use)} {old new : List ℕ} {r : Answer} → o
 uses-as {old = old} {new = new} {r = r} e x = subst (λ q. UsesAs q old new r) (sym e) x
 
 -- ---- The init check, which is no question but starts in the same way
-module _ {bs roots ends′ : List ℕ} where
+module _ {bs : Source} {roots ends′ : List ℕ} where
   pub init-stops : {r : Found} → PassAs bs roots ends′ r → isPassed (r .verdict) ≡ false → r .verdict ≡ initCheckBytes bs
   unfolding checkBytes initCheckBytes judged initCheck
   init-stops {r} x f = x .verdict ∙ go (admitted bs) (sym (ap isPassed (x .verdict)) ∙ f)

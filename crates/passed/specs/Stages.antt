@@ -7,7 +7,7 @@ use Rattle.refusals.specs.declared.Verdict.the-variants.{Passed as passes}
 use Rattle.refusals.specs.Verdict.{isPassed}
 use Rattle.refusals.specs.Outcome.{Outcome, refused, given}
 use Rattle.format.specs.Book.{Book}
-use Rattle.format.specs.Admission.{admitted}
+use Rattle.format.specs.Admission.{Source, admitted}
 use Rattle.book.specs.declared.kinds.Contents.{Contents}
 use Rattle.book.specs.Reading.{contentsOf}
 use Rattle.book.specs.Tables.{blankTable}
@@ -27,12 +27,12 @@ contentsIn (refused r) = noContents
 contentsIn (given b) = contentsOf b
 
 -- Bytes that were admitted and passed, with what the check hands on.
-pub record BookPassed (bs roots ends′ : List ℕ) (p : Passed) : Type 0 where
-  pub book : PassedBook bs roots ends′ p
+pub record BookPassed (bs : Source) (roots ends′ : List ℕ) (p : Passed) : Type 0 where
+  pub book : PassedBook (bs .bytes) roots ends′ p
   pub is : admitted bs ≡ given (book .admitted .book)
 
 -- The verdict is that of the check on bytes; a refused book has nothing to go on with, and both tables have nothing, as they were lent.
-pub record PassAs (bs roots ends′ : List ℕ) (r : Found) : Type 0 where
+pub record PassAs (bs : Source) (roots ends′ : List ℕ) (r : Found) : Type 0 where
   pub verdict : r .verdict ≡ checkBytes bs
   pub passed : r .verdict ≡ passes → BookPassed bs roots ends′ (r .passed)
   pub refused : isPassed (r .verdict) ≡ false → r ≡ foundNone (contentsIn (admitted bs)) (r .verdict)

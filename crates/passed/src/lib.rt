@@ -1,6 +1,7 @@
 // The stages that a book goes through before it is asked anything, admitted and passed, and the questions on a book that passed, a module for
 // each; the draft list's is on an admitted book. Who asks several questions of one book, as the program list does, lets it pass once.
 ghost use mathlib.Core.Path.{_≡_};
+ghost use Rattle.format.specs.Admission.{_under_};
 ghost use Rattle.book.specs.Tables.{blankTable};
 ghost use Rattle.passed.specs.Stages.{PassAs, noContents};
 
@@ -15,6 +16,7 @@ pub mod uses;
 
 use admission::Admission;
 use book::kinds::Contents;
+use format::Limits;
 use refusals::Verdict;
 use typing::prog::Found;
 
@@ -34,11 +36,11 @@ fn no_contents() -> Contents
 }
 
 // Admits a book and checks it, into tables that have nothing, and have nothing again where it is refused.
-pub fn pass(book: &[u8], roots: &mut [u16], ends: &mut [u16]) -> Found
+pub fn pass(book: &[u8], limits: Limits, roots: &mut [u16], ends: &mut [u16]) -> Found
     requires { ⌜ (now roots ≡ blankTable) × (now ends ≡ blankTable) ⌝ }
-    ensures { λ r. ⌜ PassAs (now (book .entry)) (now (roots .exit)) (now (ends .exit)) r ⌝ }
+    ensures { λ r. ⌜ PassAs (now (book .entry) under limits) (now (roots .exit)) (now (ends .exit)) r ⌝ }
 {
-    match admission::admit(book) {
+    match admission::admit(book, limits) {
         Admission::Refused(why) => typing::prog::nothing(no_contents(), Verdict::Refused(why)),
         Admission::Admitted(c) => typing::prog::check_prog(book, c, roots, ends),
     }

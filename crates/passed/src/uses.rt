@@ -6,7 +6,7 @@ ghost use Rattle.listing.specs.Uses.{uses};
 ghost use Rattle.analysis.specs.Entries.{Offered};
 ghost use Rattle.passed.specs.Uses.{UsesHanded};
 ghost use lib.ListN.{length};
-use book::kinds::Limits;
+use format::Limits;
 use refusals::Answer;
 use refusals::Refusal;
 use syntax::interface::Interface;

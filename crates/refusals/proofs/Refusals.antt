@@ -1,7 +1,7 @@
 -- Laws of refusals by cases. They stand here alone, so that a new refusal adds one line here and none in the crates above. Assumes nothing.
 --     number-few, number-some     a number has at most two digits, and none is 0
 --     needed-short, row-short     entries are needed in row 16 alone, which tells nothing else
---     row-settles                 what document 01 says of a refusal settles it
+--     row-settles                 what is said of a refusal settles it
 use mathlib.Core.Path.{_≡_, refl, sym, ap, _∙_}
 use mathlib.Core.Logic.{_⊎_, inl, inr}
 use mathlib.Core.List.{List, [], _∷_}
@@ -9,14 +9,14 @@ use Prim.Native.Nat.{ℕ, _≤_, _<_}
 use lib.Dec.{lit<, lit≤}
 use lib.ListN.{getD}
 use Rattle.refusals.specs.declared.Refusal.{Refusal}
-use Rattle.refusals.specs.declared.Refusal.the-variants.{Broken, Twice, Unbound, Class, Modes, Oneway, Circle, NoFunction, MethodNoFunction, NoService, Differs, ImportWithoutActor, ImportNoService, SameHash, Absent, Short, NoActor}
+use Rattle.refusals.specs.declared.Refusal.the-variants.{Broken, Twice, Unbound, Class, Modes, Oneway, Circle, NoFunction, MethodNoFunction, NoService, Differs, ImportWithoutActor, ImportNoService, SameHash, Absent, Short, NoActor, OverLimit}
 use Rattle.refusals.specs.Refusal.{numberOf, nameOf, neededOf}
 
--- The rows in order, where they tell this name, or that so many entries are needed; none has number 0.
+-- The rows in order, where they tell this name, or that so many entries are needed; none has number 0, nor yet 18 to 23.
 abbrev rows : ℕ → ℕ → List Refusal
 rows n k =
     Broken ∷ Broken ∷ Twice n ∷ Unbound n ∷ Class ∷ Modes ∷ Oneway ∷ Circle n ∷ NoFunction ∷ MethodNoFunction n ∷ NoService ∷ Differs n
-    ∷ ImportWithoutActor n ∷ ImportNoService n ∷ SameHash n ∷ Absent n ∷ Short k ∷ NoActor ∷ []
+    ∷ ImportWithoutActor n ∷ ImportNoService n ∷ SameHash n ∷ Absent n ∷ Short k ∷ NoActor ∷ Broken ∷ Broken ∷ Broken ∷ Broken ∷ Broken ∷ Broken ∷ OverLimit ∷ []
 
 abbrev row : ℕ → ℕ → ℕ → Refusal
 row number n k = getD (rows n k) number Broken
@@ -46,6 +46,7 @@ ruled (SameHash n) = record { some = lit≤ tt; few = lit< tt; back = refl; shor
 ruled (Absent n) = record { some = lit≤ tt; few = lit< tt; back = refl; short = inl refl }
 ruled (Short n) = record { some = lit≤ tt; few = lit< tt; back = refl; short = inr refl }
 ruled NoActor = record { some = lit≤ tt; few = lit< tt; back = refl; short = inl refl }
+ruled OverLimit = record { some = lit≤ tt; few = lit< tt; back = refl; short = inl refl }
 
 pub number-few : (r : Refusal) → numberOf r < 100
 number-few r = ruled r .few

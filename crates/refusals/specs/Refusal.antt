@@ -1,15 +1,15 @@
--- Document 01's number of each refusal, and what it tells beside that. Definitions; assumes nothing.
+-- The number of each refusal in documents 01 and 02, and what it tells beside that. Definitions; assumes nothing.
 use mathlib.Core.Bool.{Bool, true, false}
 use Prim.Native.Nat.{ℕ}
 use Rattle.refusals.specs.declared.Refusal.{Refusal}
-use Rattle.refusals.specs.declared.Refusal.the-variants.{Broken, Twice, Unbound, Class, Modes, Oneway, Circle, NoFunction, MethodNoFunction, NoService, Differs, ImportWithoutActor, ImportNoService, SameHash, Absent, Short, NoActor}
+use Rattle.refusals.specs.declared.Refusal.the-variants.{Broken, Twice, Unbound, Class, Modes, Oneway, Circle, NoFunction, MethodNoFunction, NoService, Differs, ImportWithoutActor, ImportNoService, SameHash, Absent, Short, NoActor, OverLimit}
 
 -- What a refusal tells beside its number: nothing, a name's number, or the entries needed.
 pub data Told : Type 0 where
   nothing : Told
   name needed : ℕ → Told
 
--- Document 01's table: the row's number, and what it tells.
+-- Their table: the row's number, and what it tells.
 abbrev pub saysOf : Refusal → ℕ × Told
 saysOf Broken = (1, nothing)
 saysOf (Twice n) = (2, name n)
@@ -28,6 +28,7 @@ saysOf (SameHash n) = (14, name n)
 saysOf (Absent n) = (15, name n)
 saysOf (Short n) = (16, needed n)
 saysOf NoActor = (17, nothing)
+saysOf OverLimit = (24, nothing)
 
 abbrev pub numberOf : Refusal → ℕ
 numberOf r = saysOf r .0

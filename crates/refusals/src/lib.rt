@@ -1,4 +1,4 @@
-// What the reader says: document 01's table of refusals, the verdict of a check and the answer of a question. It stands below the book, so
+// What the reader says: the refusals of documents 01 and 02, the verdict of a check and the answer of a question. It stands below the book, so
 // that definitions need no code for it.
 ghost use mathlib.Core.Path.{_≡_};
 ghost use Prim.Native.Nat.{_<_};
@@ -8,8 +8,8 @@ ghost use Rattle.refusals.specs.Verdict.{isPassed};
 ghost use Rattle.refusals.specs.Outcome.{given};
 ghost use Rattle.refusals.specs.Handed.{HandedAs};
 
-// Rows 1 to 17 in order. Those with a name hold its number: a place in the book's table of names, unless a question was asked with a number
-// outside that table. Then 3 and 15 hold the number as it was asked, even 65,535.
+// Rows 1 to 17 of document 01 in order, then those of document 02. Those with a name hold its number: a place in the book's table of names, unless
+// a question was asked with a number outside that table. Then 3 and 15 hold the number as it was asked, even 65,535.
 pub enum Refusal {
     // 1: the layout is broken.
     Broken,
@@ -45,6 +45,8 @@ pub enum Refusal {
     Short(u32),
     // 17: the question needs an actor.
     NoActor,
+    // 24: the book has more names, nodes or definitions than the limit.
+    OverLimit,
 }
 
 // What a refusal says: its number, whether it names something, the name's number, the entries needed.
@@ -54,7 +56,7 @@ impl Refusal {
     // Stands for the name's number where a refusal names nothing. It may also be a number that is named: `names` tells them apart.
     pub const NO_NAME: u16 = 65535;
 
-    // Document 01's table, one line for each refusal as in the definition `saysOf`.
+    // The table of refusals, one line for each refusal as in the definition `saysOf`.
     fn says(self) -> Said
         ensures { λ r. ⌜ (r .0 ≡ numberOf self) × (r .1 ≡ namesOf self) × (r .2 ≡ nameOf self) × (r .3 ≡ neededOf self) ⌝ }
     {
@@ -76,10 +78,11 @@ impl Refusal {
             Refusal::Absent(n) => Said(15, true, n, 0),
             Refusal::Short(n) => Said(16, false, Refusal::NO_NAME, n),
             Refusal::NoActor => Said(17, false, Refusal::NO_NAME, 0),
+            Refusal::OverLimit => Said(24, false, Refusal::NO_NAME, 0),
         }
     }
 
-    // Its row in document 01.
+    // Its row.
     pub fn number(self) -> u16
         ensures { λ r. ⌜ r ≡ numberOf self ⌝ }
     {

@@ -24,11 +24,11 @@ use crate::interface::ByFile;
 use crate::interface::Interface;
 use book::kinds::Contents;
 use book::kinds::Kind;
-use book::kinds::Limits;
 use book::read::Entry;
 use book::read::Node;
 use environment::Alias;
 use environment::Table;
+use format::Limits;
 use refusals::Refusal;
 use refusals::Verdict;
 

@@ -3,8 +3,8 @@ ghost use mathlib.Core.Path.{_≡_};
 ghost use mathlib.Core.Bool.{_||_, not};
 ghost use lib.Dec.{eqb};
 ghost use Rattle.syntax.specs.Interfaces.{noServices, noInterface};
-use book::kinds::Limits;
 use book::read::Entry;
+use format::Limits;
 
 // The actor that a book means: main's root as written, or NO_ROOT; where `merged`, the methods are those of several files' services. The
 // arguments of main's class are the trees from `from` up to `until`, the methods those of the first `count` services. An actor as written

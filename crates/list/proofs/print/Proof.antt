@@ -1,7 +1,7 @@
 -- `print` meets its contract: a refused book's line or what is printed of one that passed, and there is room for it. Assumes nothing.
 use mathlib.Core.Path.{refl, sym, _∙_}
 use native.Mathlib.Omega.{arith}
-use Rattle.list.proofs.Listed.{check-refused}
+use Rattle.list.proofs.Listed.{full-passed, check-refused}
 use Rattle.list.proofs.Room.{printed-laid}
 use borrow.Author.Needs.{needs}
 use Rattle.list.proofs.print.Statement.{statement}
@@ -12,6 +12,9 @@ blank-requires c κs = search needs
 
 blank-requires-2 : tie.Need-blank-requires-2
 blank-requires-2 c κs = search needs
+
+full-requires : tie.Need-full-requires
+full-requires c κs = search needs
 
 slice-aggregate-pass : tie.Need-slice-aggregate-pass
 slice-aggregate-pass c = search needs
@@ -38,7 +41,9 @@ slice-aggregate-print-passed-2 : tie.Need-slice-aggregate-print-passed-2
 slice-aggregate-print-passed-2 c = search needs
 
 print-passed-requires : tie.Need-print-passed-requires
-print-passed-requires c κs = c .before .before .before .before .before .before .before .before .pass .ensures .passed (c .before .before .before .enum-told .given .1)
+print-passed-requires c κs =
+    let checked : tie.After-pass = c .before .before .before .before .before .before .before .before in
+    full-passed (checked .before .before .before .full .ensures) (checked .pass .ensures) .passed (c .before .before .before .enum-told .given .1)
 
 same-length : tie.Need-same-length
 same-length c = search needs
@@ -47,7 +52,7 @@ returns : tie.Need-returns
 returns c =
     let told : tie.After-v = c .before .before .before .before .before in
     let checked : tie.After-pass = told .before .before .before .before .before in
-    printed-laid _ (checked .before .before .before .before .before .before .before .pre) (omega arith) (check-refused _ (sym (checked .pass .ensures .verdict) ∙ told .v .given .1)) (c .before .before .refusal .ensures)
+    printed-laid _ (checked .before .before .before .before .before .before .before .before .pre) (omega arith) (check-refused _ (sym (full-passed (checked .before .before .before .full .ensures) (checked .pass .ensures) .verdict) ∙ told .v .given .1)) (c .before .before .refusal .ensures)
 
 same-length-2 : tie.Need-same-length-2
 same-length-2 c = search needs
@@ -56,7 +61,7 @@ returns-2 : tie.Need-returns-2
 returns-2 c =
     let shown : tie.After-print-passed = c .before .before in
     let checked : tie.After-pass = shown .before .before .before .before .before .before .before .before .before in
-    printed-laid _ (checked .before .before .before .before .before .before .before .pre) (omega arith) refl (shown .print-passed .ensures)
+    printed-laid _ (checked .before .before .before .before .before .before .before .before .pre) (omega arith) refl (shown .print-passed .ensures)
 
 pub print-spec : {M : Type 1} → statement M
 print-spec =
@@ -64,6 +69,7 @@ print-spec =
     (tie.spec
     blank-requires
     blank-requires-2
+    full-requires
     slice-aggregate-pass
     slice-aggregate-pass-2
     pass-requires

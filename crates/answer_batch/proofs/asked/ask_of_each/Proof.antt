@@ -7,10 +7,10 @@ use Rattle.answer_batch.proofs.asked.ask_of_each.Statement.{statement}
 use Rattle.answer_batch.proofs.asked.ask_of_each.Tie as tie
 
 abbrev Inv-loop : tie.InvT-loop
-Inv-loop source book numbers taken₀ tally₀ end₀ i₀ taken tally end i = (length taken ≡ length taken₀) × (length tally ≡ length tally₀)
+Inv-loop source book limits numbers taken₀ tally₀ end₀ i₀ taken tally end i = (length taken ≡ length taken₀) × (length tally ≡ length tally₀)
 
 abbrev μ-loop : tie.MeasureT-loop
-μ-loop source book numbers taken₀ tally₀ end₀ i₀ taken tally end i = length numbers - i
+μ-loop source book limits numbers taken₀ tally₀ end₀ i₀ taken tally end i = length numbers - i
 
 loop-holds : tie.Need-loop-holds Inv-loop μ-loop
 loop-holds c = search needs
