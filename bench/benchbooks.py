@@ -167,7 +167,7 @@ def aliases(count):
 
 
 def methods(count):
-    return f"type f = func (nat) -> (text) query; service : {{ repeat {count} {{ m : f; }} }}"
+    return f"type f = func (nat) -> (text) query; service : {{ repeat {count} {{ m#### : f; }} }}"
 
 
 def imports(count):
@@ -196,7 +196,7 @@ def sources():
         yield f"depth-{depth}", nested(depth)
     for count in (8, 32, 64, 128, 256, 512):
         yield f"aliases-{count}", aliases(count)
-    for count in (62, 250, 1000, 4000):
+    for count in (16, 62, 250, 1000):
         yield f"methods-{count}", methods(count)
     for count in (64, 128, 256, 512, 1000):
         yield f"imports-{count}", imports(count)

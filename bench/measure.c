@@ -13,7 +13,7 @@
 #include "ask.h"
 
 /* No book has more uses of a name. */
-enum { STACK = 8 << 20, FILL = 0xa5, MEASURED_US = 200000, USES = 4186116 };
+enum { STACK = 8 << 20, FILL = 0xa5, MEASURED_US = 200000, USES = 3143680 };
 
 static uint8_t book[LUDZEPIN_BYTES + 1];
 static uint16_t listed[LUDZEPIN_DEFINITIONS], out[3 * USES];

@@ -32,6 +32,8 @@ try list tests/list/p01.did 1 $'check passed\nlist refused 16 needed 2' 0
 try list tests/list/p10.did 0 $'check passed\nlist 0' 0
 try list tests/list/p03.did 1 'check refused 7 name 1'
 try list tests/list/p04.did 1 $'check passed\nlist refused 17 -'
+try list tests/check/row-18-record.did 1 'check refused 18 name 2'
+try list tests/check/row-18-number.did 1 'check refused 18 -'
 try list tests/layout/length-0.did 1 'check refused 1 -'
 try list tests/layout/length-31.did 1 'check refused 1 -'
 try list tests/layout/length-65537.did 1 'check refused 1 -'
@@ -74,8 +76,8 @@ ask tests/list/class-arguments.did 2 5 4096
 ask tests/list/p03.did 2 1 4096
 ask tests/layout/length-0.did 0 0 4096
 # The second reading stops at 4,097 uses.
-right=$(python3 tools/answers.py tests/list/large-uses-most.did 1 3 4096)
-try questions tests/list/large-uses-most.did 0 "${right/needs 4097/needs 4186116}" 1 3 4096
+right=$(python3 tools/answers.py bench/uses-most.did 1 3 4096)
+try questions bench/uses-most.did 0 "${right/needs 4097/needs 3143680}" 1 3 4096
 
 # within SOURCE NAMES NODES DEFINITIONS: under the counts of a book as limits, and each of them one lower and one higher; under none at all.
 within() {
@@ -104,7 +106,9 @@ ask tests/list/p01.did 6 4 4096 7 0 3
 ask tests/list/p01.did 6 4 4096 7 10 0
 # LUDZEPIN_FULL takes the largest book.
 ask tests/layout/limit-all.did 6 4 4096
-# A repeated label or method does not come before 24.
+# A repeated label or method is 18, after 24.
+ask tests/list/repeat-every-question.did 6 4 4096
+ask tests/list/repeat-none.did 65535 65535 0
 ask tests/limits/repeat-label.did 6 4 4096 4 6 1
 ask tests/limits/repeat-label.did 6 4 4096 3 6 1
 ask tests/limits/repeat-method.did 6 4 4096 1024 4096 512

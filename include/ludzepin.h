@@ -29,13 +29,13 @@ extern "C" {
  * the terminal model takes, a larger one counting as the figure above. A whole book that has more of one is LUDZEPIN_OVER_LIMIT. */
 #define LUDZEPIN_FULL LUDZEPIN_NAMES, LUDZEPIN_NODES, LUDZEPIN_DEFINITIONS
 
-/* The name number of a refusal that names nothing: 1, 4, 5, 6, 8, 10, 17 and 24. */
+/* The name number of a refusal that names nothing: 1, 4, 5, 6, 8, 10, 17, 24, and 18 where the label is not spelled. */
 #define LUDZEPIN_NO_NAME 65535
 
 /* The first number of a use by an argument of the actor's class, where others have a method's position. */
 #define LUDZEPIN_OF_CLASS 65535
 
-/* Refusals: rows of document 01, and 24 of document 02. */
+/* Refusals: rows of document 01, and 18 and 24 of document 02. */
 enum {
     LUDZEPIN_BROKEN = 1,
     LUDZEPIN_TWICE = 2,
@@ -54,10 +54,11 @@ enum {
     LUDZEPIN_ABSENT = 15,
     LUDZEPIN_SHORT = 16,
     LUDZEPIN_NO_ACTOR = 17,
+    LUDZEPIN_REPEATED = 18,
     LUDZEPIN_OVER_LIMIT = 24
 };
 
-/* 0 if the book passes; else a refusal (1, 24, 2 to 10, 12 to 14; of the init check 11 too) with the number of its name. */
+/* 0 if the book passes; else a refusal (1, 24, 18, 2 to 10, 12 to 14; of the init check 11 too) with the number of its name. */
 uint32_t ludzepin_check(const uint8_t *book, size_t bytes, uint32_t names, uint32_t nodes, uint32_t definitions);
 uint32_t ludzepin_init_check(const uint8_t *book, size_t bytes, uint32_t names, uint32_t nodes, uint32_t definitions);
 
@@ -65,7 +66,7 @@ uint32_t ludzepin_init_check(const uint8_t *book, size_t bytes, uint32_t names, 
  * of the check, 17, 16), with `out` as it was. */
 uint32_t ludzepin_list(const uint8_t *book, size_t bytes, uint32_t names, uint32_t nodes, uint32_t definitions, uint16_t *out, size_t places);
 
-/* The same of what the init arguments lead to (a refusal of the init check, 16), and of a draft, unchecked (1, 24, 17, 2, 3, 16). */
+/* The same of what the init arguments lead to (a refusal of the init check, 16), and of a draft, unchecked (1, 24, 18, 17, 2, 3, 16). */
 uint32_t ludzepin_init_list(const uint8_t *book, size_t bytes, uint32_t names, uint32_t nodes, uint32_t definitions, uint16_t *out, size_t places);
 uint32_t ludzepin_draft_list(const uint8_t *book, size_t bytes, uint32_t names, uint32_t nodes, uint32_t definitions, uint16_t *out, size_t places);
 

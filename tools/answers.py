@@ -3,7 +3,7 @@ r"""Answers the questions on a book, by the papers alone:
 
     python3 tools/answers.py BOOK-OR-SOURCE.did [NAME METHOD PLACES [NAMES NODES DEFINITIONS]]
 
-This is a second reading of document 01, of the Rust functions that it names and of the limits of document 02, for the tests;
+This is a second reading of document 01, of the Rust functions that it names and of requests 1 and 14 of document 02, for the tests;
 tools/layout.py reads the bytes. It prints, one line each, what the program answer_batch prints of the book after its name:
 
     layout OUTCOME          whether the layout is whole, with the counts of names, nodes, definitions and files
@@ -38,6 +38,8 @@ they take:
 
 Every question but layout and name is asked under three limits: `refused 24 -` if a whole book has more names, nodes or definitions than
 its limit, before all else. A limit above document 01's figure counts as that figure. Without limits told, all three are these figures, FULL.
+Then each is `refused 18` if a label is repeated anywhere in the book: two children of one record or variant with equal label numbers, or two
+methods of one service with equal names. It names the later one's label if it is spelled, of the lowest node that has such an earlier sibling.
 
 QUESTIONS below is the table of them all; a new question is a row there. With the numbers of a NAME and of a METHOD and the PLACES lent, in
 numbers, it prints what c/questions.c has to: each question once, uses of NAME and a projection to METHOD, names by number; with limits
@@ -100,10 +102,39 @@ class Book:
         return [row for row in self.definitions if self.files[row.file].role in roles]
 
 
+    def trees(self):
+        """Those of all definitions, then of all files: their nodes in preorder are the book's in order."""
+        return [row.type for row in [*self.definitions, *self.files] if row.type is not None]
+
+
 def within(book, limits):
     """24: all that a whole book has is counted, used or not, of every file."""
     if any(count > min(limit, most) for count, limit, most in zip(book.counts, limits, FULL)):
         raise Refused(24)
+
+
+@functools.cache
+def repeated(book):
+    """The lowest node of all trees that has an earlier sibling of an equal label, None where none has."""
+    later = set()  # a parent comes before its children, so these are known when they are met
+    for tree in book.trees():
+        for node in nodes(tree):
+            if id(node) in later:
+                return node
+            labels = set()
+            for kid in node.kids if node.kind in (RECORD, VARIANT, SERVICE) else []:
+                label = label_of(book.names, node, kid)
+                if label in labels:
+                    later.add(id(kid))
+                labels.add(label)
+    return None
+
+
+def distinct(book):
+    """18: whatever is asked, and in whatever tree the repeat is."""
+    later = repeated(book)
+    if later is not None:
+        raise Refused(18, later.label if later.label_kind == 2 else None)
 
 
 # Trees
@@ -115,6 +146,12 @@ def nodes(tree):
         found.append(left.pop())
         left += reversed(found[-1].kids)
     return found
+
+
+def label_of(names, parent, kid):
+    """What tells a child from its siblings: a field's label number, a method's name."""
+    by_number = parent.kind != SERVICE and kid.label_kind == 2
+    return layout.label_number(names[kid.label]) if by_number else kid.label
 
 
 def arguments_of(function):
@@ -230,6 +267,8 @@ def check_actor(env, actor):
 
 
 def examine(book):
+    """18, and then the check of document 01."""
+    distinct(book)
     for file in book.files:
         if file.role == SERVICE_IMPORT and file.type is None:
             raise Refused(12, file.name)
@@ -258,11 +297,7 @@ def check(book):
 
 def merging(names, tree):
     """What a merge compares: a node's children are told by their labels, fields by label number, methods by name."""
-    def label(parent, kid):
-        by_number = parent.kind != SERVICE and kid.label_kind == 2
-        return layout.label_number(names[kid.label]) if by_number else kid.label
-
-    return [(node.kind, node.value, [label(node, kid) for kid in node.kids]) for node in nodes(tree)]
+    return [(node.kind, node.value, [label_of(names, node, kid) for kid in node.kids]) for node in nodes(tree)]
 
 
 def init_check(book):
@@ -326,7 +361,8 @@ def init_list(book):
 
 
 def draft_list(book):
-    """The main file alone, unchecked: 17, 2, 3."""
+    """The main file alone, unchecked but for repeated labels: 18, 17, 2, 3."""
+    distinct(book)
     actor = book.files[0].type
     if actor is None:
         raise Refused(17)
@@ -545,7 +581,7 @@ def outcomes(data, limits=FULL):
     return Lines(book, limits).all()
 
 
-REFUSALS = (*range(1, 18), 24)
+REFUSALS = (*range(1, 19), 24)
 
 
 class Tally:

@@ -65,8 +65,8 @@ def whose(question, theirs):
         return "the oracle's own, layout broken"
     if word in ("layout", "name"):
         return "the oracle's own, its reader of books"
-    if outcome == "refused 24 -":
-        return "the oracle's own, 24"
+    if outcome.startswith(("refused 24 ", "refused 18 ")):
+        return f"the oracle's own, {outcome.split(' ')[1]}"
     if word.endswith("-short") or outcome == "refused 16 -":
         return "the oracle's own, 16"
     if word in ("marks-outside", "marks-highest") and theirs["marks"].startswith("given"):

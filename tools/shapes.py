@@ -5,8 +5,8 @@
     python3 tools/shapes.py choose BATCH FOLDER    the books of a batch of `oracle generate` that have what the list lacks, written as
                                                    sources; fewest and smallest first
 
-A book within its limits has each shape below; and if it passes and has an actor, each two of those marked * together. Books are chosen
-under document 01's figures.
+A book within its limits and without repeated labels has each shape below; and if it passes and has an actor, each two of those marked *
+together. A book with repeated labels has the shape of the first of them. Books are chosen under document 01's figures.
 """
 
 import functools
@@ -24,6 +24,7 @@ import replay
 ROLE = ("main", "a type import", "a service import", "an init file")
 KIND = ("leaf",) * 18 + ("name", "opt", "vec", "record", "variant", "func", "service", "class", "args")
 MODE = (None, "oneway", "query", "composite_query")
+LABEL = (None, "number", "name", "unnamed")
 
 
 def places(tree, place):
@@ -61,30 +62,38 @@ def of_names(names):
             yield "a name outside UTF-8"
 
 
-def of_trees(book):
+def all_places(book):
+    """Each node of a book with where it stands."""
     trees = [(row.type, f"definition of {ROLE[book.files[row.file].role]}") for row in book.definitions]
     trees += [(file.type, f"actor of {ROLE[file.role]}") for file in book.files if file.type and file.role != answers.INIT]
     trees += [(file.type, "init argument list") for file in book.files if file.role == answers.INIT]
     for root, place in trees:
-        for tree, where in places(root, place):
-            yield f"{KIND[tree.kind]} as {where}"
-            if tree.kind < answers.NAME:
-                yield f"{layout.LEAVES[tree.kind]}"
-            labels = [(kid.label_kind, kid.label) for kid in tree.kids]
-            if tree.kind in (answers.RECORD, answers.VARIANT):
-                numbers = [layout.label_number(book.names[label]) if kind == 2 else label for kind, label in labels]
-                yield from (f"label {('number', 'name', 'unnamed')[kind - 1]} in a {KIND[tree.kind]}" for kind, _ in labels)
-                if len(set(labels)) < len(labels):
-                    yield f"a {KIND[tree.kind]}'s label twice *"
-                if len(set(numbers)) < len(set(labels)):
-                    yield f"two labels of one number in a {KIND[tree.kind]} *"
-            if tree.kind == answers.SERVICE and len(set(labels)) < len(labels):
-                yield "a method twice *"
-            if tree.kind == answers.FUNC:
-                modes = answers.modes_of(tree)
-                yield f"{len(modes)} modes" if len(modes) > 1 else f"mode {MODE[modes[0]] if modes else 'none'}"
-            if not tree.kids and tree.kind > answers.NAME:
-                yield f"{KIND[tree.kind]} without children"
+        yield from places(root, place)
+
+
+def of_trees(book):
+    for tree, where in all_places(book):
+        yield f"{KIND[tree.kind]} as {where}"
+        if tree.kind < answers.NAME:
+            yield f"{layout.LEAVES[tree.kind]}"
+        if tree.kind in (answers.RECORD, answers.VARIANT):
+            yield from (f"label {LABEL[kid.label_kind]} in a {KIND[tree.kind]}" for kid in tree.kids)
+        if tree.kind == answers.FUNC:
+            modes = answers.modes_of(tree)
+            yield f"{len(modes)} modes" if len(modes) > 1 else f"mode {MODE[modes[0]] if modes else 'none'}"
+        if not tree.kids and tree.kind > answers.NAME:
+            yield f"{KIND[tree.kind]} without children"
+
+
+def of_repeat(book):
+    """Where the child that is refused has the label of an earlier one, and how both are labelled."""
+    later = answers.repeated(book)
+    tree, where = next((tree, where) for tree, where in all_places(book) if any(kid is later for kid in tree.kids))
+    label = answers.label_of(book.names, tree, later)
+    first = next(kid for kid in tree.kids if answers.label_of(book.names, tree, kid) == label)
+    other = "another " if first.label_kind == later.label_kind and first.label != later.label else ""
+    yield f"a repeat in a {KIND[tree.kind]} as {where}"
+    yield f"a {KIND[tree.kind]}'s {LABEL[first.label_kind]} again as {other}{LABEL[later.label_kind]}"
 
 
 def of_files(book):
@@ -115,7 +124,7 @@ def of_outcomes(outcomes):
         word, said = question.split(" ")[0], outcome.split(" ")
         if said[0] == "given":
             entries = int(said[1])
-            yield f"{word} given {entries if entries < 2 else 'more'}" + (" *" if entries and word in ("marks", "empty", "init", "twice") else "")
+            yield f"{word} given {entries if entries < 2 else 'more'}" + (" *" if entries and word in ("marks", "empty", "init") else "")
             if word == "uses":
                 yield from ("uses of a class argument *" for use in said[2:] if use.startswith("65535."))
                 yield from ("uses of a result" for use in said[2:] if use.split(".")[1] == "1")
@@ -155,6 +164,8 @@ def shapes(data, outcomes=None):
     outcomes = outcomes or answers.outcomes(data)
     if outcomes["check"] == "refused 24 -":  # nothing was looked at
         return set(of_outcomes(outcomes))
+    if outcomes["check"].startswith("refused 18 "):  # nothing but labels was
+        return {*of_repeat(book), *of_outcomes(outcomes)}
     found = {*of_names(book.names), *of_trees(book), *of_files(book), *of_outcomes(outcomes)}
     refused = outcomes["check"].split(" ")[1] if outcomes["check"] != "passed" else None
     roles = {file.role for file in book.files}

@@ -65,6 +65,8 @@ class List(unittest.TestCase):
         for folder, name, refusal in (
             ("check", "p03", '7 "a"'), ("check", "p06", '2 "b"'), ("list", "p04", "17 -"), ("check", "row-04-definition", "4 -"),
             ("check", "p09-import", '14 "\\00a"'), ("list", "broken", "1 -"),
+            ("check", "row-18-record", '18 "x"'), ("check", "row-18-number", "18 -"), ("check", "row-18-zero-byte", '18 "\\00a"'),
+            ("check", "row-18-type-import-actor", '18 "m"'),
         ):
             self.writes(book_of("tests", folder, name + ".did"), f"refused {refusal}\n", name)
 
@@ -98,7 +100,7 @@ class List(unittest.TestCase):
                 self.writes(book, right, f"{folder}/{name}")
                 listed += right.startswith("list")
                 numbers |= {int(right.split()[1])} if right.startswith("refused") else set()
-        self.assertEqual(numbers, {*range(1, 11), 12, 13, 14, 17})
+        self.assertEqual(numbers, {*range(1, 11), 12, 13, 14, 17, 18})
         self.assertGreater(listed, 150)
 
     def test_damaged(self):

@@ -37,8 +37,10 @@ LIST_BOOKS = {name: mkbook.book(text) for name, text in LIST_SOURCES.items()}
 LIMITS_FOLDER = os.path.join(HERE, "..", "tests", "limits")
 LIMITS_SOURCES = dict(mkbatch.sources(LIMITS_FOLDER))
 LIMITS_BOOKS = {name: mkbook.book(text) for name, text in LIMITS_SOURCES.items()}
+with open(os.path.join(HERE, "..", "bench", "uses-most.did"), encoding="utf-8") as uses_most:
+    MOST_USES = mkbook.book(uses_most.read())
 NAMED = {2, 3, 7, 9, 12, 13, 14}  # the check's refusals that name something
-NAMELESS = {4, 5, 6, 8, 10}
+NAMELESS = {4, 5, 6, 8, 10}  # those that do not; 18 names a label that is spelled
 SHORT = {f"{row.word}-short" for row in answers.QUESTIONS if row.again}
 QUESTIONS = {*answers.ROWS, *SHORT}
 FULL = (1024, 4096, 512)  # document 01's figures of names, nodes and definitions
@@ -114,6 +116,7 @@ class Encoding(unittest.TestCase):
             "keep 31": whole[:31],
             "repeat 2 { append # }": whole + b"\x00\x01",
             "nest 2 { append 1# | append 2# } { append 3 }": whole + bytes([10, 11, 3, 21, 20]),
+            "repeat 4 { append #*3%7 2#*100%7 }": whole + bytes([0, 20, 3, 22, 6, 24, 2, 26]),
         }.items():
             self.assertEqual(mkbook.book("type a = nat; " + damage), book, damage)
         for nonsense in ("type a = ;", "type a", "service : {", "patch nodes[1].size = 0", "patch nodes[0].age = 0",
@@ -182,6 +185,9 @@ class CheckSources(unittest.TestCase):
             number, named = mkbatch.verdict(text)
             book = layout.Reader(CHECK_BOOKS[name]).book
             said.add(number)
+            if number == 18:
+                self.assertIn(named, [None, *(book.names[node.label] for node in book.nodes if node.label_kind == 2)], name)
+                continue
             self.assertEqual(named is not None, number in NAMED, name)
             if number in (12, 13):
                 self.assertIn(named, [book.names[file.name] for file in book.files if file.role == 2], name)
@@ -191,7 +197,7 @@ class CheckSources(unittest.TestCase):
                 self.assertIn(named, [book.names[row.name] for row in book.definitions], name)
             elif number == 3:
                 self.assertIn(named, [book.names[node.value] for node in book.nodes if node.kind == 18], name)
-        self.assertEqual(said, {None} | NAMED | NAMELESS)
+        self.assertEqual(said, {None, 18} | NAMED | NAMELESS)
 
     def test_books_differ(self):
         self.assertEqual(len(CHECK_BOOKS), len(set(CHECK_BOOKS.values())))
@@ -285,13 +291,14 @@ class Answers(unittest.TestCase):
         self.assertEqual(asked(answers.marks, answers.Book(BOOKS["p03"]), [65535]), (7, 1))
 
     def test_projection_of_any_list(self):
-        book = answers.Book(LIST_BOOKS["project-repeated"])  # m n m m; the empty name has number 0
+        book = answers.Book(mkbook.book("service : { n : () -> (); m : () -> (); o : () -> () }"))  # the names are "" m n o
         for names, outcome in {
-            (): [], (1,): [0], (2,): [1], (1, 1, 1): [0, 2, 3], (2, 1): [0, 1], (1, 2, 1): [0, 1, 2],
-            (1, 1, 1, 1): (15, 1), (2, 2, 0): (15, 0), (2, 1, 2, 1, 1, 1): (15, 1), (65535,): (15, 65535), (65535, 3): (15, 3),
+            (): [], (1,): [1], (2,): [0], (2, 1): [0, 1], (1, 2): [0, 1], (3, 1): [1, 2], (3, 2, 1): [0, 1, 2],
+            (1, 1): (15, 1), (2, 2, 0): (15, 0), (2, 1, 2, 3, 3): (15, 2), (65535,): (15, 65535), (65535, 4): (15, 4),
         }.items():
             self.assertEqual(asked(answers.project, book, names), outcome, names)
         self.assertEqual(answers.uses(book, 65535), [])
+        self.assertEqual(asked(answers.project, answers.Book(LIST_BOOKS["project-repeated"]), [65535]), (18, 1))
 
     def test_references(self):
         """Document 01, References: listed is what is reachable; each circle has a marked one and each marked one a circle."""
@@ -320,10 +327,12 @@ class Answers(unittest.TestCase):
         self.assertGreater(passed, 150)
 
     def test_numbered(self):
-        """By hand, what c/build.sh tries. Names: "" fork leaf pair put spare tree; a b c d init m main; "" r s t; "" a b c d m; "" a f m."""
+        """By hand, what c/build.sh tries. Names: "" fork leaf pair put spare tree; a b c d init m main; "" r s t; "" a b c d m; "" f m000 m001 ..;
+        "" a m."""
         p1 = {"check": "passed", "init-check": "passed", "list": "given 2 3 6", "marks": "given 1 6", "init": "given 0",
               "draft": "given 2 3 6", "empty": "given 0", "uses": "given 1 0.0.0", "project": "given 1 0"}
         short, circle = "refused 16 needs", "refused 7 1"
+        books = LIST_BOOKS | {"uses-most": MOST_USES}
         for (name, *asked), right in {
             ("p01", 6, 4, 4096): p1,
             ("p01", 5, 6, 4096): p1 | {"uses": "given 0", "project": "refused 15 6"},
@@ -339,11 +348,13 @@ class Answers(unittest.TestCase):
                                         "uses": "refused 17 -", "project": "refused 17 -"},
             ("class-arguments", 2, 5, 4096): {"init": "given 0", "draft": "given 4 4 2 3 1", "marks": "given 0", "empty": "given 0",
                                               "uses": "given 1 65535.0.1", "project": "given 1 0"},
-            ("large-uses-most", 1, 3, 4096): {"init": "given 0", "draft": "given 2 1 2", "marks": "given 0", "empty": "given 0",
-                                              "uses": f"{short} 4097", "project": "given 1 0"},
+            ("uses-most", 1, 3, 4096): {"init": "given 0", "draft": "given 1 1", "marks": "given 1 1", "empty": "given 0",
+                                        "uses": f"{short} 4097", "project": "given 1 3"},
+            ("repeat-every-question", 6, 4, 4096): dict.fromkeys(p1, "refused 18 7"),
+            ("repeat-none", 65535, 65535, 0): dict.fromkeys(p1, "refused 18 -"),
             ("p03", 2, 1, 4096): dict.fromkeys(p1, circle) | {"draft": "refused 17 -"},
         }.items():
-            found = dict(line.split(" ", 1) for line in answers.numbered(LIST_BOOKS[name], *asked))
+            found = dict(line.split(" ", 1) for line in answers.numbered(books[name], *asked))
             self.assertEqual({word: found.get(word) for word in right}, right, (name, *asked))
         self.assertEqual(answers.numbered(b"", 0, 0, 4096), [f"{word} refused 1 -" for word in found])
 
@@ -488,7 +499,7 @@ class Limits(unittest.TestCase):
                 continue
             refused |= {outcome.split()[1] for outcome in answers.outcomes(book).values() if outcome.startswith("refused")}
             self.is_over(book, (0, 4096, 512), name)  # every whole book has a file's name
-        self.assertEqual(refused, {str(number) for number in range(2, 18) if number != 16})
+        self.assertEqual(refused, {str(number) for number in range(2, 19) if number != 16})
 
     def test_names_asked(self):
         """Of a book over its limits no name is listed, so that of more than 514 names some alone are asked about."""
@@ -499,6 +510,118 @@ class Limits(unittest.TestCase):
         self.assertEqual(over, '"" "a" "m" "n000" "n001" "n002" "n003" "n004" "n504" "n505" "n506" "n507" "n508" "n509" "n510" "n511"'.split())
         book = mkbook.book('names repeat 511 { "n###" }; type a = nat; service : { m : (a) -> () }')
         self.assertEqual(len([question for question in answers.outcomes(book, (0, 0, 0)) if question.startswith("uses ")]), 514)
+
+
+class Repeats(unittest.TestCase):
+    """18, by request 1 of document 02: directly after 1 and 24 and before all else, in drafts too; layout and name refuse nothing."""
+
+    def outcome(self, source, limits=FULL):
+        """What every line but layout and name says; these are as they are of any whole book."""
+        book = mkbook.book(source)
+        found, names = answers.outcomes(book, limits), answers.Book(book).names
+        self.assertEqual(found["layout"], " ".join(["whole", *map(str, answers.Book(book).counts)]), source)
+        self.assertEqual(found["name"], " ".join([f"given {len(names) + 2}", *map(layout.quoted, [*names, b"", b""])]), source)
+        said = {outcome for question, outcome in found.items() if question not in ("layout", "name")}
+        self.assertEqual({question.split(" ")[0] for question in found}, set(answers.ROWS), source)
+        self.assertEqual(len(said), 1, source)
+        return said.pop()
+
+    def test_labels(self):
+        """Of a record and a variant, as definition, argument, actor and init argument, with other refusals to come."""
+        for fields, named in {
+            "x : nat; x : nat": '"x"', "97 : nat; a : nat": '"a"', "a : nat; 97 : nat": "-", "7 : nat; 7 : nat": "-",
+            "unnamed 97 : nat; a : nat": '"a"', "a : nat; unnamed 97 : nat": "-", "unnamed 7 : nat; 7 : nat": "-", "7 : nat; unnamed 7 : nat": "-",
+            "unnamed 0 : nat; unnamed 0 : nat": "-", 'a : nat; "\\00a" : nat': '"\\00a"', '"\\00a" : nat; a : nat': '"a"',
+            "foluv : nat; fisasac : nat": '"fisasac"', "fisasac : nat; foluv : nat": '"foluv"', '"" : nat; 0 : nat': "-", '0 : nat; "" : nat': '""',
+            "name : nat; 1224700491 : nat": "-", "1224700491 : nat; name : nat": '"name"', "id : nat; 23515 : nat; id : nat": "-",
+            "97 : nat; a : nat; unnamed 97 : nat": '"a"', "a : nat; 97 : nat; a : nat": "-", "x : nat; x : nat; x : nat": '"x"',
+            "x : nat; y : nat; y : nat; x : nat": '"y"', "x : nat; y : nat; x : nat; y : nat": '"x"', "b : z; c : z; b : z": '"b"',
+            "0 : record { x : nat; x : nat }; 0 : nat": '"x"', "y : nat; y : record { x : nat; x : nat }": '"y"',
+            "x : opt vec func () -> (variant { y; y }); x : nat": '"y"', "s : service { m : nat; n : nat; m : nat }; s : nat": '"m"',
+            "4294967295 : nat; 0 : nat; 4294967295 : nat": "-", "a : record { 97 : nat; 98 : nat; b : nat }; 97 : nat": '"b"',
+        }.items():
+            for kind in ("record", "variant"):
+                tree = f"{kind} {{ {fields} }}"
+                for source in (f"type t = {tree};", f"type t = u; type t = func (z, {tree}) -> () query oneway; type s = service {{ m : t }};",
+                               f"service : {tree}", f"service : ({tree}, z) -> z", f"service : {{ m : () -> (z, {tree}) oneway; n : nat }}",
+                               f"service : {{ n : {tree} }}", f'file "m" main file "i" type service : class ({tree}) -> z',
+                               f'file "m" main service : {{}} file "i" service file "j" service type z = z; service : {tree}',
+                               f'file "m" main file "i" init type t = {tree}; args (z)', f'file "m" main type t = nat; file "i" init type t = text; args (z, {tree})'):
+                    self.assertEqual(self.outcome(source), f"refused 18 {named}", source)
+
+    def test_methods(self):
+        """By name, not by hash."""
+        for methods, named in {"m : z; m : z": "m", "m : nat; n : nat; m : nat": "m", "m : z; n : z; n : z; m : z": "n", "a : z; \"\\00a\" : z; a : z": "a",
+                               "m : (record { x : z; x : z }) -> (); m : z": "x", "m : z; m : (record { x : z; x : z }) -> ()": "m"}.items():
+            service = f"{{ {methods} }}"
+            for source in (f"type t = service {service};", f"service : {service}", f"service : (z) -> {service}", f"type t = class () -> {service};",
+                           f'file "m" main file "i" service service : {service}', f'file "m" main service : {service} file "i" service service : {service}',
+                           f'file "m" main service : {{}} file "i" type service : {service}', f'file "m" main file "i" init args (service {service})'):
+                self.assertEqual(self.outcome(source), f'refused 18 "{named}"', source)
+        for source, outcome in {
+            'service : { a : () -> (); "\\00a" : () -> () }': "passed",
+            'type s = service { foluv : () -> (); fisasac : () -> () };': "passed",
+            'file "m" main service : { a : () -> () } file "i" service service : { "\\00a" : () -> () }': 'refused 14 "\\00a"',
+            'file "m" main service : { m : () -> () } file "i" service service : { m : () -> () }': 'refused 14 "m"',
+            'file "m" main service : { m : () -> () } file "i" type service : { m : () -> () }': "passed",
+        }.items():
+            self.assertEqual(answers.outcomes(mkbook.book(source))["check"], outcome, source)
+
+    def test_none(self):
+        """Equal labels of different parents, of a parent and a child, and what has no labels."""
+        for tree in ("record { x : record { x : nat }; y : record { x : nat } }", "func (nat, nat) -> (nat, nat)", "record { nat; nat; 2 : nat }",
+                     "record { 1 : nat; t : nat; 0 : nat }",  # the name t has number 1
+                     "record { 97 : variant { a }; b : service { a : () -> (); b : () -> () } }", "service { m : (service { m : () -> () }) -> () }",
+                     "variant { 0; 2147483648; 4294967295; 1; 65536 }", "record { b : record { 98 : nat }; c : record { 98 : nat } }"):
+            self.assertIsNone(answers.repeated(answers.Book(mkbook.book(f"type t = {tree};"))), tree)
+        book = mkbook.book('file "m" main service : (nat, nat) -> { m : () -> () } file "i" init args (nat, nat)')
+        self.assertEqual(answers.outcomes(book)["init-check"], "passed")
+
+    def test_order(self):
+        """Definitions of every file in their order, then the files' trees."""
+        def tree(name):
+            return f"record {{ {name} : nat; {name} : nat }}"
+
+        book = f"""file "m" main type z = {tree('a')}; type y = {tree('b')}; service : ({tree('g')}) -> {{ m : ({tree('h')}) -> () }}
+                   file "t" type type z = {tree('c')}; service : {tree('i')} file "s" service type x = {tree('d')}; service : {tree('j')}
+                   file "i" init type w = {tree('e')}; type v = {tree('f')}; args ({tree('k')}, {tree('l')})"""
+        for name in "abcdefghijkl":
+            self.assertEqual(self.outcome(book), f'refused 18 "{name}"')
+            book = book.replace(tree(name), "nat")
+        self.assertEqual(answers.outcomes(mkbook.book(book))["check"], 'refused 2 "z"')
+
+    def test_limits(self):
+        """24 before 18, whatever is over; 1 before both."""
+        source = "type a = record { x : nat; x : nat };"  # 3 names, 3 nodes, 1 definition
+        for limits in (FULL, (3, 3, 1), (3, 4096, 512), (1024, 3, 512), (1024, 4096, 1), (2**32 - 1,) * 3):
+            self.assertEqual(self.outcome(source, answers.Limits(*limits)), 'refused 18 "x"', limits)
+        for limits in ((2, 3, 1), (3, 2, 1), (3, 3, 0), (0, 4096, 512), (0, 0, 0)):
+            self.assertEqual(self.outcome(source, answers.Limits(*limits)), OVER, limits)
+        for damage in ("truncate 1", "append 0", "patch nodes[1].label = 3", "patch definitions[0].zero = 1"):
+            self.assertEqual(answers.outcomes(mkbook.book(source + damage)), answers.BROKEN, damage)
+
+    def test_lowest(self):
+        """Of the stored books, each two siblings compared: the lowest of those nodes that have an earlier one with an equal label."""
+        repeats = 0
+        for name, data in [*BOOKS.items(), *CHECK_BOOKS.items(), *LIST_BOOKS.items(), *LIMITS_BOOKS.items()]:
+            rows = layout.Reader(data).book
+            if layout.faults(data) or len(rows.nodes) > 1100:
+                continue
+
+            def label(parent, child):
+                is_hashed = rows.nodes[parent].kind != 24 and rows.nodes[child].label_kind == 2
+                return layout.label_number(rows.names[rows.nodes[child].label]) if is_hashed else rows.nodes[child].label
+
+            later = []
+            for parent in range(len(rows.nodes)):
+                children = layout.Printer(rows).children(parent) if rows.nodes[parent].kind in (21, 22, 24) else []
+                labels = [label(parent, child) for child in children]
+                later += [child for place, child in enumerate(children) if labels[place] in labels[:place]]
+            node = rows.nodes[min(later)] if later else None
+            right = node and (18, node.label if node.label_kind == 2 else None)
+            self.assertEqual(asked(answers.distinct, answers.Book(data)), right, name)
+            repeats += bool(later)
+        self.assertGreater(repeats, 150)
 
 
 class LimitsSources(unittest.TestCase):
@@ -514,7 +637,7 @@ class LimitsSources(unittest.TestCase):
 
     def test_what_is_there(self):
         """Each limit at a count, one below it and one above; 0 and above the figures; 24 in the place of each early refusal and of what
-        passes; books with repeated labels on both sides."""
+        passes, 18 too."""
         at, below, above, instead, drafts, values = set(), set(), set(), set(), set(), set()
         for name, text in LIMITS_SOURCES.items():
             full = answers.outcomes(LIMITS_BOOKS[name])
@@ -532,14 +655,16 @@ class LimitsSources(unittest.TestCase):
                     at |= {place for place in range(3) if spare[place] == 0}
                     above |= {place for place in range(3) if spare[place] == 1}
         self.assertEqual((at, below, above), ({0, 1, 2},) * 3)
-        self.assertEqual(instead, {"passed", "2", "3", "4", "7", "12"})
-        self.assertEqual(drafts, {"given", "2", "3", "17"})
+        self.assertEqual(instead, {"passed", "2", "3", "4", "7", "12", "18"})
+        self.assertEqual(drafts, {"given", "2", "3", "17", "18"})
         for limit in (1025, 4097, 513, 2**32 - 1):
             self.assertLessEqual({(limit, "within"), (limit, "broken")}, values)
         self.assertLessEqual({(0, stated) for stated in ("within", "over", "broken")}, values)
-        for name in ("repeat-label", "repeat-method"):
-            self.assertEqual(set(mkbatch.limited(LIMITS_SOURCES[name]).values()), {"within", "over"})
-            self.assertTrue(any("twice *" in shape and " and " not in shape for shape in shapes.shapes(LIMITS_BOOKS[name])), name)
+        for name in LIMITS_SOURCES:
+            if name.startswith("repeat-"):
+                self.assertEqual(set(mkbatch.limited(LIMITS_SOURCES[name]).values()), {"within", "over"})
+                self.assertEqual({outcome.split()[1] for question, outcome in answers.outcomes(LIMITS_BOOKS[name]).items()
+                                  if question not in ("layout", "name")}, {"18"}, name)
         self.assertEqual(answers.Book(LIMITS_BOOKS["largest"]).counts, [*FULL, 1])
         self.assertEqual(LIMITS_BOOKS["p01"], LIST_BOOKS["p01"])
 
@@ -608,7 +733,7 @@ class ListSources(unittest.TestCase):
                 if outcome.startswith("refused"):
                     refusals.add(int(outcome.split()[1]))
         self.assertEqual(questions, QUESTIONS)
-        self.assertEqual(refusals, set(range(1, 18)))
+        self.assertEqual(refusals, set(range(1, 19)))
 
     def test_books_differ(self):
         self.assertEqual(len(LIST_BOOKS), len(set(LIST_BOOKS.values())))
@@ -626,9 +751,10 @@ class ListSources(unittest.TestCase):
         for name, book in books.items():
             if name.startswith("large-nested-"):
                 self.assertGreaterEqual(len(book.nodes), 4001, name)
-        uses = answers.Book(LIST_BOOKS["large-uses-most"])
-        function = uses.definitions[1].type
-        self.assertEqual(len(uses.files[0].type.kids) * len(function.kids), 4_186_116)
+        for data, counts, count in ((MOST_USES, [1024, 4096, 1, 1], 3_143_680), (LIST_BOOKS["large-uses-many"], [34, 4096, 1, 1], 129_984)):
+            uses = answers.Book(data)
+            self.assertEqual(uses.counts, counts)
+            self.assertEqual(len(uses.files[0].type.kids) * len(uses.definitions[0].type.kids), count)
 
     def test_stated_lines(self):
         head = "// answers: x\n"
@@ -670,17 +796,19 @@ class ListSources(unittest.TestCase):
             *(f"a {word} refused 1 -\n" for word in "check init-check list marks marks-back marks-outside marks-highest init draft empty".split())])
 
     def test_tally(self):
-        """By hand: P10's lines, those of a broken book, and P10's when a limit is passed. Numbers 18 to 23 have no refusal."""
+        """By hand: P10's lines, those of a broken book, and P10's when a limit is passed, and a service of P10's method
+        twice. Numbers 19 to 23 have no refusal."""
         lines = list(replay.printed([("a", answers.outcomes(LIST_BOOKS["p10"])), ("b", answers.outcomes(b"")),
-                                     ("c", answers.outcomes(LIST_BOOKS["p10"], (2, 1, 0)))]))
-        refused = {1: 11, 3: 2, 15: 6, 16: 1, 24: 22}
-        given = {"layout": 2, "name": 3, "check": 1, "init-check": 1, "project": 2}
+                                     ("c", answers.outcomes(LIST_BOOKS["p10"], (2, 1, 0))),
+                                     ("d", answers.outcomes(CHECK_BOOKS["order-hash-alone"]))]))
+        refused = {1: 11, 3: 2, 15: 6, 16: 1, 18: 22, 24: 22}
+        given = {"layout": 3, "name": 4, "check": 1, "init-check": 1, "project": 2}
         words = "layout name check init-check list marks init draft empty uses project".split()
-        self.assertEqual(lines[-30:], [
-            *(f"tally refused {number} {refused.get(number, 0)}\n" for number in (*range(1, 18), 24)),
+        self.assertEqual(lines[-31:], [
+            *(f"tally refused {number} {refused.get(number, 0)}\n" for number in (*range(1, 19), 24)),
             *(f"tally given {word} {given.get(word, 0)}\n" for word in words),
             "tally incomplete\n"])
-        self.assertFalse(lines[-31].startswith("tally "))
+        self.assertFalse(lines[-32].startswith("tally "))
         tally = answers.Tally()
         for question, word in (("marks", "marks"), ("marks-back", "marks"), ("uses-outside", "uses"), ('uses "a"', "uses"),
                                ('twice "-"', "project"), ("project-all", "project"), ("init", "init"), ("name", "name")):
@@ -691,7 +819,7 @@ class ListSources(unittest.TestCase):
         tally.add('uses-short "refused 4 -"', "needs 5 refused 16 -")
         tally.add('uses "refused 4 -"', OVER)
         self.assertEqual({number: count for number, count in tally.refused.items() if count}, {16: 1, 24: 1})
-        for number in range(18, 24):
+        for number in range(19, 24):
             with self.assertRaises(KeyError):
                 tally.add("check", f"refused {number} -")
 
@@ -700,7 +828,7 @@ class ListSources(unittest.TestCase):
         tally = answers.Tally()
         for word in answers.ROWS:
             tally.add(word, "given 1 x")
-        for number in range(1, 18):
+        for number in range(1, 19):
             tally.add("check", f"refused {number} -")
         self.assertEqual(tally.lines()[-1], "tally incomplete\n")
         tally.add("check", OVER)
@@ -718,7 +846,7 @@ class Replay(unittest.TestCase):
     def test_tally(self):
         """Every refusal and every answer with entries is in the list."""
         tally = [line for line in self.lines.splitlines() if line.startswith("tally ")]
-        self.assertEqual(len(tally), 18 + 11 + 1)
+        self.assertEqual(len(tally), 19 + 11 + 1)
         self.assertEqual(tally[-1], "tally complete")
         for line in tally[:-1]:
             self.assertGreater(int(line.split()[-1]), 0, line)
@@ -730,15 +858,15 @@ class Replay(unittest.TestCase):
             for question, outcome in outcomes.items():
                 words = outcome.split()
                 found[question.split()[0]].add(int(words[1]) if words[0] == "refused" else words[0] if words[1:] != ["0"] else "none")
-        check = {1, 24, *NAMED, *NAMELESS}
+        check = {1, 18, 24, *NAMED, *NAMELESS}
         given = {"given", "none"}
         self.assertEqual(found, {
             "layout": {"whole", 1}, "name": {"given"},
             "check": {"passed", *check}, "init-check": {"passed", 11, *check},
             "list": {17, *check, *given}, "marks": {*check, *given}, "marks-back": {*check, *given},
             "marks-outside": check, "marks-highest": check,
-            "init": {11, *check, *given}, "draft": {1, 2, 3, 17, 24, *given}, "empty": {*check, *given},
-            "uses": {16, 17, *check, *given} - {1}, "project": {15, 17, "given", *check} - {1}, "twice": {15, 17, "given", *check} - {1},
+            "init": {11, *check, *given}, "draft": {1, 2, 3, 17, 18, 24, *given}, "empty": {*check, *given},
+            "uses": {16, 17, *check, *given} - {1}, "project": {15, 17, "given", *check} - {1}, "twice": {15, 17, *check} - {1},
             "uses-outside": {17, "none", *check} - {1}, "project-outside": {15, 17, *check} - {1}, "project-highest": {15, 17, *check} - {1},
             "project-none": {17, "none", *check} - {1},
             "project-all": {17, *check, *given} - {1}, "project-every": {15, 17, "given", *check} - {1},
@@ -760,9 +888,11 @@ class Replay(unittest.TestCase):
         needed |= {"the empty name", "a name of 255 bytes", "a name outside ASCII", "a name outside UTF-8", "two names of one hash",
                    "a name with a control byte", "a name with a quote or a backslash", "two files of one name"}
         needed |= {shape + " *" for shape in (
-            "a type import with an actor", "a method twice", "a record's label twice", "a variant's label twice", "an unreached definition",
-            "two labels of one number in a record", "two labels of one number in a variant", "two service imports", "two type imports",
-            "a func inside a method's func", "a service inside a method's func", "a name defined in the init file and in another")}
+            "a type import with an actor", "an unreached definition", "two service imports", "two type imports", "a func inside a method's func",
+            "a service inside a method's func", "a name defined in the init file and in another")}
+        needed |= {f"a repeat in a {kind} as {place}" for kind in ("record", "variant", "service") for place in places}
+        again = [(first, later) for first in shapes.LABEL[1:] for later in shapes.LABEL[1:]] + [("name", "another name")]
+        needed |= {f"a {kind}'s {first} again as {later}" for kind in ("record", "variant") for first, later in again}
         self.assertEqual(needed - found, set())
 
     def test_sources(self):
@@ -781,8 +911,8 @@ class Replay(unittest.TestCase):
                 self.assertEqual(mkbook.book(layout.text(book)), book, name)
             if not name.startswith("limits/"):
                 self.assertEqual(limits, FULL, name)
-        self.assertLess(len(self.records), 4_000_000)
-        self.assertLess(len(self.lines), 4_000_000)
+        self.assertLess(len(self.records), 5_000_000)  # a book of 4,096 nodes has 49,000
+        self.assertLess(len(self.lines), 5_000_000)
 
     def test_layouts_and_checks(self):
         """Every book of tests/layout and of tests/check is there, with what its source says of the layout or of the two checks, and with
@@ -839,7 +969,7 @@ class Replay(unittest.TestCase):
         self.assertGreater(len(shown), 350)
         self.assertEqual([line for line in shown if line not in lines], [])
         refused = {int(number) for line in shown for number in re.findall(r" refused ([0-9]+) ", line)}
-        self.assertEqual(refused, {*range(1, 18), 24})
+        self.assertEqual(refused, {*range(1, 19), 24})
         self.assertEqual({re.sub(r"^\S+ (\S+) .*", r"\1", line) for line in shown}, QUESTIONS)
 
     def test_joined(self):
@@ -863,6 +993,17 @@ class Replay(unittest.TestCase):
         self.assertEqual(joined(other)[1]["tools/answers.py says something else"], 2)
         with self.assertRaises(SystemExit):
             joined(rust + ["c check passed\n"])
+
+    def test_joined_repeats(self):
+        """18 is no line of the Rust's."""
+        data = mkbatch.record("a", CHECK_BOOKS["row-18-record"]) + mkbatch.record("b", CHECK_BOOKS["row-18-number"])
+        right = [line for line in replay.printed(replay.answered(data)) if not line.startswith("tally ")]
+        told = collections.defaultdict(collections.Counter)
+        self.assertEqual([line for line in replay.printed(replay.joined(data, "".join(right), told)) if not line.startswith("tally ")], right)
+        self.assertIn('a draft refused 18 "x"\n', right)
+        self.assertIn("b draft refused 18 -\n", right)
+        self.assertEqual({which: sum(words.values()) for which, words in told.items()}, {
+            "the oracle's own, its reader of books": 4, "the oracle's own, 18": 25 + 22})
 
     def test_joined_limits(self):
         """Each book of a batch is asked under its own limits, and 24 is no line of the Rust's."""

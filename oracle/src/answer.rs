@@ -5,7 +5,7 @@
 pub mod bench;
 
 use crate::analysis::{chase_actor, chase_def_use, chase_types, infer_rec, project_methods};
-use crate::book::{self, quoted, Batch, Book, Limits, Node};
+use crate::book::{self, number_of, quoted, Batch, Book, Limits, Node};
 use crate::rows;
 use crate::syntax::{
     Binding, Dec, FuncType, IDLActorType, IDLArgType, IDLInitArgs, IDLMergedProg, IDLProg, IDLType, PrimType, TypeField,
@@ -35,6 +35,9 @@ const HIGHEST: usize = 65535;
 /// Of every question about a book that is over its limits.
 pub const OVER_LIMIT: &str = "refused 24 -";
 
+/// Of every question about a book with a repeated label, which is named after it.
+pub const REPEATED: &str = "refused 18 ";
+
 /// Why there is no result.
 #[derive(Clone, PartialEq)]
 enum Fail {
@@ -58,10 +61,6 @@ struct Texts<'a> {
     book: &'a Book,
     names: Vec<String>,
     renamed: bool,
-}
-
-fn number_of(name: &[u8]) -> u32 {
-    name.iter().fold(0, |sum, byte| sum.wrapping_mul(223).wrapping_add(*byte as u32))
 }
 
 /// Texts for the names of a book where its own are outside UTF-8 or make an error's text ambiguous. The Rust compares
@@ -577,16 +576,24 @@ fn lines_of_reader(book: Option<&Book>) -> Vec<Line> {
     vec![("layout".into(), layout), ("name".into(), format!("given {} {}", names.len(), names.join(" ")))]
 }
 
-/// The lines of a book under limits. The Rust knows none, so that it is asked of books within them alone.
+/// The lines of a book under limits. The Rust knows none and leaves repeated labels to its grammar, so that it is asked of books within them
+/// and without these alone.
 fn lines(bytes: &[u8], limits: Limits) -> Vec<Line> {
     let book = book::read(bytes);
     let mut lines = lines_of_reader(book.as_ref());
     lines.extend(match &book {
-        Some(book) if book.is_within(limits) => lines_of_rust(book),
-        Some(book) => all_alike(book, OVER_LIMIT),
+        Some(book) if !book.is_within(limits) => all_alike(book, OVER_LIMIT),
+        Some(book) => repeated(book).map_or_else(|| lines_of_rust(book), |refusal| all_alike(book, &refusal)),
         None => words(Of::Book).map(|word| (word, "refused 1 -".into())).collect(),
     });
     lines
+}
+
+/// The refusal of a book with a repeated label: it names the later one if that is spelled.
+fn repeated(book: &Book) -> Option<String> {
+    let later = book.repeat()?.later;
+    let is_spelled = later.label_kind == book::BY_NAME;
+    Some(format!("{REPEATED}{}", if is_spelled { named(book, later.label as usize) } else { "-".into() }))
 }
 
 /// One outcome to every question; of names those are asked that are where none is listed.

@@ -255,6 +255,9 @@ impl<'a> Asked<'a> {
 /// The lines of a book, or why there are none: check, init check and list, or uses.
 fn lines_of_book(bytes: &[u8], of_uses: bool, samples: usize, length: Duration) -> Result<Vec<String>, &'static str> {
     let book = book::read(bytes).ok_or("broken")?;
+    if book.repeat().is_some() {
+        return Err("a repeated label");
+    }
     let names = texts(book.names.clone()).ok_or("utf-8")?;
     let own = Texts { book: &book, names, renamed: false };
     let (found, unvalidated) = own.check();

@@ -1,5 +1,7 @@
 //! Declaration books, read by document 01 ("The book"), and batches of them.
 
+use std::collections::HashMap;
+
 pub const NAME: u8 = 18;
 pub const OPT: u8 = 19;
 pub const VEC: u8 = 20;
@@ -20,6 +22,11 @@ pub const SERVICE_IMPORT: u16 = 2;
 pub const INIT: u16 = 3;
 
 pub const NO_ROOT: u16 = 65535;
+
+/// The label number of a name.
+pub fn number_of(name: &[u8]) -> u32 {
+    name.iter().fold(0, |sum, byte| sum.wrapping_mul(223).wrapping_add(*byte as u32))
+}
 
 /// The most names, nodes and definitions that the terminal model takes, in this order.
 pub type Limits = [u32; 3];
@@ -128,6 +135,33 @@ fn tree(rows: &[u8], names: usize, at: usize, end: usize, parent: Option<u8>, is
     (counted && valued).then_some((node, at + size))
 }
 
+/// Two children of one node with equal labels.
+pub struct Repeat<'a> {
+    pub parent: &'a Node,
+    pub first: &'a Node,
+    pub later: &'a Node,
+}
+
+/// That with the lowest later child: a child comes before what is below it, and that before the next child.
+fn repeat<'a>(names: &[Vec<u8>], parent: &'a Node) -> Option<Repeat<'a>> {
+    let label = |kid: &Node| match (parent.kind, kid.label_kind) {
+        (RECORD | VARIANT, BY_NAME) => Some(number_of(&names[kid.label as usize])),
+        (RECORD | VARIANT | SERVICE, _) => Some(kid.label),
+        _ => None,
+    };
+    let mut firsts = HashMap::new();
+    for later in &parent.kids {
+        if let Some(first) = label(later).and_then(|label| firsts.insert(label, later)) {
+            return Some(Repeat { parent, first, later });
+        }
+        let below = repeat(names, later);
+        if below.is_some() {
+            return below;
+        }
+    }
+    None
+}
+
 /// The book in bytes, none where the layout is broken.
 pub fn read(bytes: &[u8]) -> Option<Book> {
     if bytes.len() < 32 || bytes.len() > 65536 {
@@ -233,9 +267,13 @@ impl Book {
         [bytes, table, nodes, definitions, files].concat()
     }
 
+    /// In the order of their nodes.
+    fn trees(&self) -> impl Iterator<Item = &Node> {
+        self.definitions.iter().map(|row| &row.tree).chain(self.files.iter().filter_map(|file| file.tree.as_ref()))
+    }
+
     pub fn nodes(&self) -> usize {
-        let trees = self.definitions.iter().map(|row| &row.tree).chain(self.files.iter().filter_map(|file| file.tree.as_ref()));
-        trees.map(|tree| tree.nodes()).sum()
+        self.trees().map(|tree| tree.nodes()).sum()
     }
 
     /// All that is there, used or not, to be held against limits.
@@ -251,6 +289,11 @@ impl Book {
 
     pub fn is_within(&self, limits: Limits) -> bool {
         self.over(limits).is_empty()
+    }
+
+    /// Its first repeated label, in any tree; none in most books.
+    pub fn repeat(&self) -> Option<Repeat<'_>> {
+        self.trees().find_map(|tree| repeat(&self.names, tree))
     }
 
     pub fn is_of(&self, definition: &Definition, is_init: bool) -> bool {

@@ -1,7 +1,7 @@
 //! Our lines and the Rust's, line by line.
 
-use crate::answer::OVER_LIMIT;
-use crate::book::{self, Batch, Book, Limits, Record, FULL};
+use crate::answer::{OVER_LIMIT, REPEATED};
+use crate::book::{self, Batch, Book, Limits, Record, Repeat, FULL};
 use std::collections::{BTreeMap, HashSet};
 use std::io::Write;
 use std::iter::Peekable;
@@ -57,6 +57,8 @@ pub struct Counts {
     passed: u64,
     with_actor: u64,
     under: Under,
+    /// Whole books within their limits and with a repeated label, by what it is.
+    repeats: BTreeMap<String, u64>,
     lines: u64,
     skipped: BTreeMap<String, u64>,
     books_skipped: BTreeMap<String, u64>,
@@ -103,6 +105,16 @@ impl Under {
     }
 }
 
+/// What a repeat is: a method, or how both fields are labelled.
+fn told(Repeat { parent, first, later }: Repeat) -> String {
+    let label = |kind: u8| ["", "number", "name", "unnamed"][kind as usize];
+    match parent.kind {
+        book::SERVICE => "method".into(),
+        _ if first.label_kind == later.label_kind && first.label != later.label => "names of one number".into(),
+        _ => format!("{} and {}", label(first.label_kind), label(later.label_kind)),
+    }
+}
+
 pub struct Difference {
     book: Vec<u8>,
     limits: Limits,
@@ -138,6 +150,9 @@ pub fn compared(batch: &[u8], ours: &str, rust: &str) -> (Counts, Vec<Difference
         let whole = book::read(bytes);
         counts.whole += whole.is_some() as u64;
         whole.iter().for_each(|book| counts.under.count(book, limits));
+        if let Some(repeat) = whole.as_ref().filter(|book| book.is_within(limits)).and_then(|book| book.repeat()) {
+            *counts.repeats.entry(told(repeat)).or_default() += 1;
+        }
         #[cfg(exports)]
         let exported = crate::exported::said(bytes, limits, whole.as_ref());
         #[cfg(exports)]
@@ -191,6 +206,8 @@ pub fn compared(batch: &[u8], ours: &str, rust: &str) -> (Counts, Vec<Difference
                 *counts.own.entry("1 for a broken book").or_default() += 1;
             } else if line.outcome == OVER_LIMIT {
                 *counts.own.entry("24 for a book over its limits").or_default() += 1;
+            } else if line.outcome.starts_with(REPEATED) {
+                *counts.own.entry("18 for a repeated label").or_default() += 1;
             } else if ["marks-outside", "marks-highest"].contains(&line.word) && marked {
                 *counts.own.entry("3 for a number outside").or_default() += 1;
             } else if line.asked_before().is_some() {
@@ -237,6 +254,8 @@ fn print(counts: &Counts, differences: &[Difference]) {
     let Under { over, over_one: [names, nodes, definitions], within_full, within_others, at_one } = counts.under;
     println!("whole books within full limits: {within_full}; within others: {within_others}, {at_one} of them with just as many as a limit");
     println!("over their limits: {over}; over one alone: names {names}, nodes {nodes}, definitions {definitions}");
+    let kinds: Vec<String> = counts.repeats.iter().map(|(what, books)| format!("{what} {books}")).collect();
+    println!("within their limits and with a repeated label: {} ({})", counts.repeats.values().sum::<u64>(), kinds.join(", "));
     println!("{} lines compared, {} differ", counts.lines, differences.len());
     #[cfg(exports)]
     println!("{} answers of the exported functions compared with the same lines, {} calls", counts.exported, counts.calls);

@@ -8,6 +8,8 @@
 //! - modes are none and oneway; with main alone and at most one definition, also two modes at once;
 //! - a method's type is a func, a name or nat; the class below an actor's top is `class { service {} }`, which nobody opens;
 //! - labels are fixed, except with an init file, where they are compared; a lone method is `m`, with a service import also `a`;
+//! - labels repeat only with main alone and at most one definition, and with other files and none: two fields in each way, two
+//!   methods; elsewhere the Rust is asked of every book;
 //! - an actor is a class, a service, a name or nat; in a book of main alone without definitions, any type of up to 3 nodes; a
 //!   type import's, which is ignored, any type;
 //! - a main file without an actor counts as a node, except with an init file: its definitions stand beside `service {}` too;
@@ -51,8 +53,16 @@ type Label = (u8, u32);
 const SPELLINGS: [Label; 3] = [(book::BY_NAME, A), (book::BY_NUMBER, 97), (book::BY_NAME, B)];
 const SECOND_FIELD: Label = (book::BY_NUMBER, 98);
 
-/// The first only with a service import, where methods of one name clash.
-const METHODS: [&[u32]; 6] = [&[A], &[], &[M], &[M, M], &[A, M], &[M, A]];
+/// Two fields of one number.
+const REPEATED_FIELDS: [[Label; 2]; 4] = [
+    [(book::BY_NAME, A), (book::BY_NAME, A)],
+    [(book::BY_NUMBER, 97), (book::BY_NAME, A)],
+    [(book::BY_NAME, A), (book::UNNAMED, 97)],
+    [(book::UNNAMED, 97), (book::BY_NUMBER, 97)],
+];
+
+/// The first only with a service import, where methods of one name clash; the last only where labels repeat.
+const METHODS: [&[u32]; 6] = [&[A], &[], &[M], &[A, M], &[M, A], &[M, M]];
 
 fn node(kind: u8, value: u32, kids: &[Node]) -> Node {
     Node { kind, label_kind: 0, value, label: 0, kids: kids.to_vec() }
@@ -94,6 +104,8 @@ struct Makings<'a> {
     names: &'a [u32],
     modes: &'a [u32],
     field: &'a [Label],
+    /// Whether two fields may have equal labels.
+    repeats: bool,
     /// The names of a service's methods.
     methods: &'a [&'a [u32]],
     /// Up to how many nodes an actor is any type.
@@ -146,8 +158,11 @@ impl Makings<'_> {
                 others.push(node(book::OPT, 0, kids));
                 others.extend(self.field.iter().map(|label| labelled(node(book::RECORD, 0, kids), &[*label])));
             });
-            let two = [self.field[0], SECOND_FIELD];
-            below(&[&types, &types], &mut |kids| others.push(labelled(node(book::RECORD, 0, kids), &two)));
+            let two = if self.repeats { &REPEATED_FIELDS[..] } else { &[] };
+            let two = [&[[self.field[0], SECOND_FIELD]], two].concat();
+            below(&[&types, &types], &mut |kids| {
+                others.extend(two.iter().map(|labels| labelled(node(book::RECORD, 0, kids), labels)));
+            });
 
             let mut actor = vec![];
             for count in 0..nodes {
@@ -206,13 +221,15 @@ impl Shape<'_> {
             NODES - (has(book::MAIN, false) && !has_init) as usize
         };
         let alone = files.len() == 1;
+        let repeats = !self.sound && definitions.len() < 1 + alone as usize;
         let made = Makings {
             sound: self.sound,
             largest: (most + 1).saturating_sub(trees),
             names: &names,
             modes: if alone && !self.sound && definitions.len() < 2 { &[0, ONEWAY, QUERY_AND_ONEWAY] } else { &[0, ONEWAY] },
             field: if has_init { &SPELLINGS } else { &SPELLINGS[..1] },
-            methods: if has(book::SERVICE_IMPORT, true) { &METHODS } else { &METHODS[1..] },
+            repeats,
+            methods: &METHODS[!has(book::SERVICE_IMPORT, true) as usize..METHODS.len() - !repeats as usize],
             any_actor: if alone && definitions.is_empty() { 3 } else { 0 },
         }
         .made();

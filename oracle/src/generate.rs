@@ -1,10 +1,11 @@
 //! Random books from a seed. Book i of a seed is the same whatever the count.
 //!
 //! Three in four books are planned: definitions, services and actors that pass, and in some of them faults on purpose. The
-//! others are wild (whatever the layout allows) or of a special shape: long chains, deep trees, ladders, many uses. Some are
-//! damaged afterwards. Half of them are asked under full limits.
+//! others are wild (whatever the layout allows) or of a special shape: long chains, deep trees, ladders, many uses, wide
+//! records. Labels repeat in one book of eight, so that the Rust is asked of the others. Some are damaged afterwards. Half of
+//! them are asked under full limits.
 
-use crate::book::{self, Book, Definition, File, Limits, Node, Record, FULL};
+use crate::book::{self, number_of, Book, Definition, File, Limits, Node, Record, FULL};
 use candid::idl_hash;
 use std::collections::{BTreeMap, BTreeSet, HashMap, HashSet};
 use std::io::Write;
@@ -118,6 +119,24 @@ enum Label {
     Number(u32),
     Name(Name),
     Unnamed(u32),
+}
+
+/// What tells a child from its siblings: a method's name, a field's number.
+#[derive(Hash, PartialEq, Eq)]
+enum Told {
+    Method(Name),
+    Field(u32),
+}
+
+impl Label {
+    fn told(&self, parent: u8) -> Option<Told> {
+        match self {
+            Label::None => None,
+            Label::Name(name) if parent == book::SERVICE => Some(Told::Method(name.clone())),
+            Label::Name(name) => Some(Told::Field(number_of(name))),
+            Label::Number(number) | Label::Unnamed(number) => Some(Told::Field(*number)),
+        }
+    }
 }
 
 #[derive(Clone, Debug)]
@@ -280,6 +299,8 @@ struct Gen<'a> {
     functions: Vec<Name>,
     services: Vec<Name>,
     faults: Vec<Fault>,
+    /// Whether labels may be as they come, or are made to differ.
+    repeats: bool,
     /// Hashes of methods that stand in actors with service imports, where they may not repeat.
     taken: HashSet<u32>,
     apart: bool,
@@ -342,6 +363,78 @@ impl Gen<'_> {
         }
     }
 
+    /// Another label for each child that has the label of an earlier one, unless labels may repeat.
+    fn set_apart(&mut self, kind: u8, kids: &mut [Tree]) {
+        if self.repeats || !matches!(kind, book::RECORD | book::VARIANT | book::SERVICE) {
+            return;
+        }
+        let mut taken: HashSet<Option<Told>> = HashSet::new();
+        for (place, kid) in kids.iter_mut().enumerate() {
+            let mut tries = 0;
+            while !taken.insert(kid.label.told(kind)) {
+                kid.label = match (kind, tries) {
+                    (book::SERVICE, 0..=7) => Label::Name(self.pooled()),
+                    (book::SERVICE, _) => Label::Name([self.word(), self.word()].concat()),
+                    (_, 0..=7) => self.label(place),
+                    _ => Label::Number(self.random.next() as u32),
+                };
+                tries += 1;
+            }
+        }
+    }
+
+    /// The same in a whole tree.
+    fn set_all_apart(&mut self, tree: &mut Tree) {
+        self.set_apart(tree.kind, &mut tree.kids);
+        tree.kids.iter_mut().for_each(|kid| self.set_all_apart(kid));
+    }
+
+    /// A name, its number or that number unnamed.
+    fn spelling(&mut self, name: &Name) -> Label {
+        match self.random.below(3) {
+            0 => Label::Number(number_of(name)),
+            1 => Label::Unnamed(number_of(name)),
+            _ => Label::Name(name.clone()),
+        }
+    }
+
+    /// Gives two children of a node equal labels, and a node with one child a second one.
+    fn repeat(&mut self, root: &mut Tree) {
+        let is_parent = |tree: &Tree| matches!(tree.kind, book::RECORD | book::VARIANT | book::SERVICE) && !tree.kids.is_empty();
+        let Some(parent) = root.any(&mut self.random, &is_parent) else {
+            return;
+        };
+        if parent.kids.len() == 1 {
+            let kid = parent.kids[0].clone();
+            parent.kids.push(kid);
+        }
+        let (one, other) = (self.random.below(parent.kids.len()), self.random.between(1, parent.kids.len() - 1));
+        let other = (one + other) % parent.kids.len();
+        let (first, second) = match self.random.below(8) {
+            0..=4 if parent.kind != book::SERVICE => {
+                let name = self.pooled();
+                (self.spelling(&name), self.spelling(&name))
+            }
+            5 if parent.kind != book::SERVICE => {
+                let (one, other) = self.random.one(self.collisions).clone();
+                (Label::Name(one), Label::Name(other))
+            }
+            _ => (parent.kids[one].label.clone(), parent.kids[one].label.clone()),
+        };
+        (parent.kids[one].label, parent.kids[other].label) = (first, second);
+    }
+
+    /// Puts repeats into some of a book's trees.
+    fn put_repeats(&mut self, draft: &mut Draft) {
+        for _ in 0..*self.random.one(&[1, 1, 2, 3]) {
+            let at = self.random.below(draft.rows.len() + draft.files.len());
+            match draft.rows.len() {
+                rows if at < rows => self.repeat(&mut draft.rows[at].tree),
+                rows => draft.files[at - rows].2.iter_mut().for_each(|tree| self.repeat(tree)),
+            }
+        }
+    }
+
     fn types(&mut self, most: usize, depth: usize) -> Vec<Tree> {
         let count = *self.random.one(&[0, 1, 1, 1, 2, 2, 3, most]);
         (0..count.min(most)).map(|_| self.typ(depth)).collect()
@@ -387,7 +480,8 @@ impl Gen<'_> {
     fn fields(&mut self, depth: usize) -> Tree {
         let kind = if self.random.percent(60) { book::RECORD } else { book::VARIANT };
         let kids = self.types(6, depth + 1);
-        let kids = kids.into_iter().enumerate().map(|(place, kid)| kid.labelled(self.label(place))).collect();
+        let mut kids: Vec<Tree> = kids.into_iter().enumerate().map(|(place, kid)| kid.labelled(self.label(place))).collect();
+        self.set_apart(kind, &mut kids);
         tree(kind, kids)
     }
 
@@ -428,17 +522,17 @@ impl Gen<'_> {
             let mut method = self.pooled();
             // With service imports, the services of definitions and actors keep apart.
             if self.apart && depth == 0 && !self.faulty(Hash, 40) {
-                let number = |name: &Name| name.iter().fold(0u32, |s, b| s.wrapping_mul(223).wrapping_add(*b as u32));
                 let mut tries = 0;
-                while self.taken.contains(&number(&method)) && tries < 30 {
+                while self.taken.contains(&number_of(&method)) && tries < 30 {
                     method = if tries < 8 { self.pooled() } else { [self.word(), self.word()].concat() };
                     tries += 1;
                 }
-                self.taken.insert(number(&method));
+                self.taken.insert(number_of(&method));
             }
             let method_type = self.method_type(depth + 1);
             kids.push(method_type.labelled(Label::Name(method)));
         }
+        self.set_apart(book::SERVICE, &mut kids);
         tree(book::SERVICE, kids)
     }
 
@@ -488,7 +582,9 @@ impl Gen<'_> {
                         let kid = if self.random.percent(60) { self.reference() } else { self.typ(2) };
                         kid.labelled(self.label(i))
                     });
-                    tree(book::RECORD, kids.collect())
+                    let mut kids: Vec<Tree> = kids.collect();
+                    self.set_apart(book::RECORD, &mut kids);
+                    tree(book::RECORD, kids)
                 }
                 (Sort::Data, _) => match self.typ(0) {
                     alias if alias.kind == book::NAME && !self.faulty(Circle, 50) => tree(book::OPT, vec![alias]),
@@ -606,6 +702,7 @@ impl Gen<'_> {
             }
             if self.faulty(Init, 30) {
                 self.change(&mut row.tree);
+                self.set_all_apart(&mut row.tree);
             }
         }
         let (bound, functions) = (self.bound.clone(), self.functions.clone());
@@ -648,7 +745,7 @@ impl Gen<'_> {
             if !is_service && self.random.percent(60) {
                 let number = match &kid.label {
                     Label::Number(n) | Label::Unnamed(n) => Some(*n),
-                    Label::Name(name) => Some(name.iter().fold(0u32, |s, b| s.wrapping_mul(223).wrapping_add(*b as u32))),
+                    Label::Name(name) => Some(number_of(name)),
                     Label::None => None,
                 };
                 if let Some(number) = number {
@@ -758,6 +855,7 @@ impl Gen<'_> {
                 _ => Label::None,
             };
         }
+        self.set_apart(kind, &mut kids);
         match kind {
             book::NAME if self.bound.is_empty() || self.random.percent(1) => {
                 let any = self.pooled();
@@ -827,7 +925,9 @@ impl Gen<'_> {
                         };
                         method.labelled(Label::Name(self.pooled()))
                     });
-                    Some(tree(book::SERVICE, kids.collect()))
+                    let mut kids: Vec<Tree> = kids.collect();
+                    self.set_apart(book::SERVICE, &mut kids);
+                    Some(tree(book::SERVICE, kids))
                 }
                 _ => Some(self.wild_tree(0)),
             };
@@ -836,6 +936,54 @@ impl Gen<'_> {
     }
 
     // Special shapes
+
+    /// A record, a variant or a service of many children in some order, in most cases around the width at which our search for repeats
+    /// changes, with or without a repeat.
+    fn wide(&mut self) -> Draft {
+        let kind = *self.random.one(&[book::RECORD, book::VARIANT, book::SERVICE]);
+        let figure = if kind == book::SERVICE { 1000 } else { 4000 };
+        let count = match self.random.below(8) {
+            0 => self.random.between(2, 16),
+            1..=4 => self.random.between(30, 36),
+            5 | 6 => self.random.between(17, 200),
+            _ => self.random.between(200, figure),
+        };
+        // Multiples of a step, so that the lowest bits agree in some books; times an odd number they are in no order.
+        let (step, odd) = (1u32 << self.random.below(21), self.random.next() as u32 | 1);
+        let order = self.random.below(4);
+        let number = |i: usize| match order {
+            0 => i as u32,
+            1 => u32::MAX - i as u32,
+            2 => (i as u32).wrapping_mul(odd),
+            _ => (i as u32).wrapping_mul(odd).wrapping_mul(step),
+        };
+        let spelled = if self.random.percent(50) { 0 } else { self.random.below(100) };
+        let mut names = 0;
+        let mut kids: Vec<Tree> = Vec::new();
+        for i in 0..count {
+            let own = format!("n{}", number(i)).into_bytes();
+            let label = match self.random.below(100) {
+                n if kind == book::SERVICE || n < spelled && names < 900 => {
+                    names += 1;
+                    Label::Name(own)
+                }
+                n if n % 5 == 0 => Label::Unnamed(number(i)),
+                _ => Label::Number(number(i)),
+            };
+            let body = if kind == book::SERVICE { func(vec![], vec![], vec![]) } else { leaf(2) };
+            kids.push(body.labelled(label));
+        }
+        self.pool = vec![b"a".to_vec(), b"z".to_vec(), b"\0z".to_vec()];
+        self.set_apart(kind, &mut kids);
+        let mut body = tree(kind, kids);
+        if self.random.percent(50) {
+            self.repeat(&mut body);
+        }
+        let rows = vec![Row { name: b"t".to_vec(), file: 0, tree: body }];
+        let method = func(vec![name(b"t")], vec![], vec![]).labelled(Label::Name(b"m".to_vec()));
+        let actor = if self.random.percent(70) { Some(tree(book::SERVICE, vec![method])) } else { None };
+        Draft { rows, files: vec![(b"main".to_vec(), book::MAIN, actor)], extra: vec![] }
+    }
 
     fn special(&mut self) -> Draft {
         let main =
@@ -898,7 +1046,7 @@ impl Gen<'_> {
                 // Many uses: around 4,096.
                 let (args, methods) = (self.random.between(60, 66), self.random.between(60, 66));
                 let f = func((0..args).map(|_| name(b"t")).collect(), vec![], vec![]);
-                let kids = (0..methods).map(|i| method(&format!("m{}", i % 50), name(b"f"))).collect();
+                let kids = (0..methods).map(|i| method(&format!("m{i}"), name(b"f"))).collect();
                 main(vec![row("f".into(), f), row("t".into(), leaf(2))], tree(book::SERVICE, kids))
             }
             4 => {
@@ -1021,16 +1169,28 @@ pub fn run(seed: u64, count: u64, all_damaged: bool) -> i32 {
             functions: vec![],
             services: vec![],
             faults: vec![],
+            repeats: false,
             taken: HashSet::new(),
             apart: false,
             left: 0,
             plain_services: 0,
         };
-        let draft = match gen.random.below(400) {
+        // Labels as they come, or made to differ and then two of them equal.
+        let (as_they_come, put) = match gen.random.below(16) {
+            0 => (true, false),
+            1 => (false, true),
+            _ => (false, false),
+        };
+        gen.repeats = as_they_come;
+        let mut draft = match gen.random.below(400) {
             0 => gen.special(),
-            1..=100 => gen.wild(),
+            1..=4 => gen.wide(),
+            5..=100 => gen.wild(),
             _ => gen.planned(),
         };
+        if put {
+            gen.put_repeats(&mut draft);
+        }
         let book = draft.book();
         let mut bytes = book.bytes();
         if !fits(&bytes) {

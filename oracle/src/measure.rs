@@ -163,8 +163,8 @@ fn measure(name: &str, bytes: &[u8], stack: &Stack, out: &mut [u16]) {
     let book = book::read(bytes);
     let names = book.as_ref().map_or(0, |book| book.names.len());
     let own = book.as_ref().and_then(|book| Some(Texts { book, names: texts(book.names.clone())?, renamed: false }));
-    // A book with a method ring is not asked: its answers come from other functions.
-    let own = own.filter(|own| !has_ring(own.book, false) && !has_ring(own.book, true));
+    // A book with a repeated label is not asked, nor one with a method ring: its answers come from other functions.
+    let own = own.filter(|own| own.book.repeat().is_none() && !has_ring(own.book, false) && !has_ring(own.book, true));
     let nodes = bytes.get(12..16).map_or(0, |count| u32::from_le_bytes(count.try_into().expect("four bytes")));
     for word in words() {
         let ours = stack.taken(&mut |stack| ask_ours(stack, word, bytes, names, out));

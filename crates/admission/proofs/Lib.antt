@@ -1,2 +1,3 @@
 -- Laws that callers of admission cite.
 pub mod Admitting
+mod Whole

@@ -119,9 +119,9 @@ pub(crate) fn no_counts() -> [u32; 36]
     [0; 36]
 }
 
-// Whether anything is counted at a place of the tally: 18 to 23 are no refusals yet.
+// Whether anything is counted at a place of the tally: 19 to 23 are no refusals yet.
 pub(crate) fn is_counted(place: usize) -> bool {
-    (place < 18) | (23 < place)
+    (place < 19) | (23 < place)
 }
 
 // What is counted at a place of the tally.

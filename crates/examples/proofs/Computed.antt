@@ -13,9 +13,11 @@ use Rattle.judgement.specs.Resolve.{methodsOf, importedMethods, mergedActor}
 use Rattle.judgement.specs.Check.{serviceVerdict, importedVerdict, hashesVerdict, mainVerdict, checkBytes, initCheckBytes}
 use Rattle.listing.specs.Recursive.{note, noteName, markArm, go, see, listed, inferFrom, inferRec, sorted}
 use Rattle.listing.specs.Project.{without, take′, projectFrom, lowest, leftOver, projected, project}
-use Rattle.refusals.specs.Outcome.{Outcome, asked, judged}
+use Rattle.refusals.specs.declared.Verdict.{Verdict}
+use Rattle.refusals.specs.Outcome.{Outcome, after, asked, judged}
 use Rattle.listing.specs.Marks.{marked, marksOver}
 use Rattle.format.specs.Within.{within}
+use Rattle.format.specs.Repeats.{spelling, hasLabels, isAmong, firstRepeat, labelsVerdict}
 use Rattle.format.specs.Admission.{admittedBy, admitted}
 use Rattle.listing.proofs.Empty.{empty-computed}
 use Rattle.listing.proofs.Examples.{init-listed}
@@ -28,14 +30,19 @@ unfoldable pub marks-computed : Book → List ℕ → Outcome (List ℕ)
 unfolding init-listed beside note noteName markArm go see listed inferFrom inferRec sorted marked marksOver
 marks-computed = marksOver
 
+-- Repeated labels.
+unfoldable pub labels-computed : Book → Verdict
+unfolding layout-computed weightedSum labelNumber labelId sameLabel spelling hasLabels isAmong firstRepeat labelsVerdict
+labels-computed = labelsVerdict
+
 -- The answers, by every definition of the format, the check and the questions.
 unfoldable pub answer-computed : Question → List ℕ → Answer
 unfolding
-    weightedSum labelNumber layout-computed nameIn marks-computed
-    methodsAt sameKind labelId sameLabel sameForest
+    labels-computed nameIn marks-computed
+    methodsAt sameKind sameForest
     methodsOf importedMethods mergedActor
     serviceVerdict importedVerdict hashesVerdict mainVerdict checkBytes initCheckBytes
-    empty-computed without take′ projectFrom lowest leftOver projected project within admittedBy admitted asked judged
+    empty-computed without take′ projectFrom lowest leftOver projected project within admittedBy admitted after asked judged
     refusedAs ofVerdict ofOutcome spelt listMarks answer
 answer-computed = answer
 

@@ -1,7 +1,7 @@
 -- P1 of document 01, as it is read from its bytes, is a book and a draft as demand 3 speaks of. Assumes nothing.
 --     p1-answers, p1-listed, p1-marked           the demand's sentences hold of it; its list is pair and tree, and tree is marked
 --     p1-in-three, p1-in-one                     what stands in lent lists of three places and of one
---     p1-read, p1-admitted, p1-list, p1-marks    its bytes, and what is answered, by computation
+--     p1-read, p1-labels, p1-list, p1-marks      its bytes, its labels, and what is answered, by computation
 --     p1-draft                                   the sentences hold of it as a draft
 --     p1-within, p1-over                         limits that take it, and limits that do not
 use mathlib.Core.Path.{_≡_, refl, sym, ap, ap₂, subst, _∙_}
@@ -10,13 +10,16 @@ use Prim.Native.Nat.{ℕ}
 use native.Mathlib.Omega.{arith}
 use lib.ListN.{take-append-drop}
 use Rattle.format.specs.Forest.{end}
+use Rattle.format.specs.Book.{trees}
 use Rattle.format.specs.Layout.{whole, layout}
+use Rattle.format.specs.Labels.{Labels}
 use Rattle.format.specs.declared.Limits.{Limits}
 use Rattle.format.specs.Within.{full, sizeOf, Within, Over}
 use Rattle.format.specs.Admission.{Source, _under_, admitted, onBytes}
 use Rattle.format.proofs.Within.{over-says}
 use Rattle.format.proofs.Admission.{admitted-says, admitted-whole}
 use Rattle.format.proofs.Raising.{full-admits}
+use Rattle.format.proofs.Repeats.{labels-say}
 use Rattle.refusals.specs.declared.Refusal.the-variants.{Short, OverLimit}
 use Rattle.refusals.specs.declared.Answer.{Answer}
 use Rattle.refusals.specs.declared.Answer.the-variants.{Given, Refused}
@@ -40,7 +43,7 @@ use Rattle.samples.specs.Written.{p1}
 use Rattle.samples.specs.Table.{samples}
 use Rattle.samples.proofs.Computed.{layout-computed, samples-computed}
 use Rattle.samples.proofs.Theorems.{all-read}
-use Rattle.examples.proofs.Computed.{marks-computed}
+use Rattle.examples.proofs.Computed.{marks-computed, labels-computed}
 
 pub p1-read : layout bytes.p1 ≡ whole p1
 unfolding samples
@@ -50,8 +53,12 @@ p1-read = all-read _ (List·Memᴰ·head refl)
 abbrev pub p1-source : Source
 p1-source = bytes.p1 under full
 
+pub p1-labels : Labels (p1 .names) (trees p1)
+unfolding labels-computed samples-computed
+p1-labels = labels-say p1 .0 refl
+
 pub p1-admitted : admitted p1-source ≡ given p1
-p1-admitted = full-admits bytes.p1 p1-read
+p1-admitted = full-admits bytes.p1 p1-read p1-labels
 
 -- ---- As a book: it passes, and has an actor
 passes : check p1 ≡ Passed
@@ -116,7 +123,7 @@ unfolding layout-computed samples-computed
 p1-size = refl
 
 pub p1-within : (l : Limits) → Within p1-has l → admitted (bytes.p1 under l) ≡ given p1
-p1-within l w = admitted-says (bytes.p1 under l) p1 .1 (p1-read, subst (λ (s : Limits). Within s l) p1-size w)
+p1-within l w = admitted-says (bytes.p1 under l) p1 .1 (p1-read, subst (λ (s : Limits). Within s l) p1-size w, p1-labels)
 
 pub p1-over : (l : Limits) → Over p1-has l → admitted (bytes.p1 under l) ≡ refused OverLimit
 p1-over l o =

@@ -9,6 +9,8 @@ pub mod Rows
 pub mod Nodes
 pub mod References
 pub mod Occurs
+pub mod Numbered
+pub mod Repeats
 pub mod Entries
 pub mod Stored
 pub mod Encoded

@@ -1,7 +1,7 @@
 -- What limits change, and what they do not (document 02, request 14): said once of admission, and of all that goes by it. Assumes nothing.
 --     within-as-before, full-as-before    of a book within its limits, and under full ones, admission is what it was before there were any
 --     within-answer                       and so is all that follows it
---     full-admits                         under full limits what is laid out is admitted
+--     full-admits                         under full limits what is laid out is admitted, unless a label is repeated
 --     clamped-same, clamped-answer        a limit above its figure is the figure
 --     raised                              raising limits turns no outcome into another, but 24 into what the roomier model says
 --     raised-answer                       and so with whatever follows admission:
@@ -13,6 +13,7 @@ use mathlib.Core.List.{List}
 use Prim.Native.Nat.{ℕ, _/_}
 use native.Mathlib.Omega.{arith}
 use lib.ListN.{length}
+use Rattle.refusals.specs.declared.Refusal.{Refusal}
 use Rattle.refusals.specs.declared.Refusal.the-variants.{OverLimit}
 use Rattle.refusals.specs.declared.Verdict.{Verdict}
 use Rattle.refusals.specs.declared.Verdict.the-variants.{Refused}
@@ -21,20 +22,22 @@ use Rattle.refusals.specs.declared.Answer.the-variants.{Refused as RefusedAnswe
 use Rattle.refusals.specs.Outcome.{Outcome, refused, given, asked, judged, fit}
 use Rattle.refusals.specs.Handed.{Use, answerOf, leftIn, HandedAs, usesLeft, UsesAs}
 use Rattle.format.specs.declared.Limits.{Limits}
-use Rattle.format.specs.Book.{Book}
+use Rattle.format.specs.Book.{Book, trees}
 use Rattle.format.specs.Layout.{Layout, broken, whole, layout}
-use Rattle.format.specs.Within.{full, clamped, sizeOf, Within}
-use Rattle.format.specs.Admission.{_under_, admittedBy, admitted, onBytes, unlimited, Raised}
+use Rattle.format.specs.Within.{full, clamped, sizeOf, Within, within}
+use Rattle.format.specs.Labels.{Labels}
+use Rattle.format.specs.Admission.{_under_, admittedBy, admitted, onBytes, AdmissionRow, isBroken, isOver, isRepeated, unlimited, Raised}
 use Rattle.format.proofs.Theorems.{found}
-use Rattle.format.proofs.Within.{within-within, clamped-twice, fits-full}
-use Rattle.format.proofs.Admission.{admitted-says, not-admitted, admission-refuses}
+use Rattle.format.proofs.Logic.{is-true}
+use Rattle.format.proofs.Within.{within-says, within-within, clamped-twice, fits-full}
+use Rattle.format.proofs.Admission.{admitted-says, admitted-whole, not-admitted, admission-refuses}
 
 full-full : Within full full
 full-full = record { names = omega arith; nodes = omega arith; definitions = omega arith }
 
 module _ (bs : List ℕ) where
   pub within-as-before : (l : Limits) {b : Book} → layout bs ≡ whole b → Within (sizeOf b) l → admitted (bs under l) ≡ unlimited (layout bs)
-  within-as-before l {b} w h = admitted-says (bs under l) b .1 (w, h) ∙ sym (ap unlimited w)
+  within-as-before l {b} w h = rw (admitted-whole (bs under l) b w, is-true (within (sizeOf b) l) (within-says (sizeOf b) l .1 h), w)
 
   pub full-as-before : (l : Limits) → Within full l → admitted (bs under l) ≡ unlimited (layout bs)
   unfolding admitted admittedBy
@@ -49,8 +52,8 @@ module _ (bs : List ℕ) where
       answer (admitted (bs under l)) ≡ answer (admitted (bs under full))
   within-answer answer l w h = ap answer (within-as-before l w h ∙ sym (full-as-before full full-full))
 
-  pub full-admits : {b : Book} → layout bs ≡ whole b → admitted (bs under full) ≡ given b
-  full-admits w = full-as-before full full-full ∙ ap unlimited w
+  pub full-admits : {b : Book} → layout bs ≡ whole b → Labels (b .names) (trees b) → admitted (bs under full) ≡ given b
+  full-admits {b} w d = admitted-says (bs under full) b .1 (w, fits-full b (found bs b .0 w .0), d)
 
   pub clamped-same : (l : Limits) → admitted (bs under clamped l) ≡ admitted (bs under l)
   unfolding admitted admittedBy
@@ -67,15 +70,17 @@ module _ (bs : List ℕ) where
     pub raised : Raised (refused OverLimit) (admitted (bs under l)) (admitted (bs under m))
     raised = go (admitted (bs under l)) refl
       where
+        row : {r : Refusal} → admitted (bs under l) ≡ refused r → AdmissionRow (bs under l) r → Raised (refused OverLimit) (admitted (bs under l)) (admitted (bs under m))
+        row e (isBroken x) = inr (e ∙ sym (admission-refuses (bs under m) (isBroken x)))
+        row e (isOver x) = inl e
+        row e (isRepeated x) =
+            inr (e ∙ sym (admission-refuses (bs under m) (isRepeated record { book = x .book; laidOut = x .laidOut; within = within-within (x .within) h; holds = x .holds })))
+
         go : (o : Outcome Book) → admitted (bs under l) ≡ o → Raised (refused OverLimit) (admitted (bs under l)) (admitted (bs under m))
         go (given b) e =
             let p = admitted-says (bs under l) b .0 e in
-            inr (e ∙ sym (admitted-says (bs under m) b .1 (p .0, within-within (p .1) h)))
-        go (refused r) e =
-            ⊎-elim
-            (λ x. inr (e ∙ sym (admission-refuses (bs under m) (inl x))))
-            (λ x. inl (e ∙ ap refused (x .0)))
-            (not-admitted (bs under l) e)
+            inr (e ∙ sym (admitted-says (bs under m) b .1 (p .0, within-within (p .1) h, p .2)))
+        go (refused r) e = row e (not-admitted (bs under l) e)
 
     pub raised-answer : {A : Type 0} (answer : Outcome Book → A) → Raised (answer (refused OverLimit)) (answer (admitted (bs under l))) (answer (admitted (bs under m)))
     raised-answer answer = ⊎-elim (λ e. inl (ap answer e)) (λ e. inr (ap answer e)) raised

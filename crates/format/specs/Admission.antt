@@ -5,12 +5,13 @@ use mathlib.Core.Bool.{cond}
 use mathlib.Core.List.{List, [], _∷_}
 use Prim.Native.Nat.{ℕ}
 use Rattle.refusals.specs.declared.Refusal.{Refusal}
-use Rattle.refusals.specs.declared.Refusal.the-variants.{Broken, OverLimit}
-use Rattle.refusals.specs.Outcome.{Outcome, refused, given, asked}
+use Rattle.refusals.specs.declared.Refusal.the-variants.{Broken, Repeated, OverLimit}
+use Rattle.refusals.specs.Outcome.{Outcome, refused, given, after, asked}
 use Rattle.format.specs.declared.Limits.{Limits}
 use Rattle.format.specs.Book.{Book}
 use Rattle.format.specs.Layout.{Layout, broken, whole, layout}
-use Rattle.format.specs.Within.{clamped, sizeOf, within, Over}
+use Rattle.format.specs.Within.{clamped, sizeOf, Within, within, Over}
+use Rattle.format.specs.Repeats.{RepeatOf, labelsVerdict}
 
 infix 20 _under_
 -- What a question is asked of: bytes, under the limits of a terminal model.
@@ -21,10 +22,10 @@ pub record Source : Type 0 where
 abbrev pub _under_ : List ℕ → Limits → Source
 bs under l = record { bytes = bs; limits = l }
 
--- 1: a book whose layout is broken. 24: a whole one that has more of one than its limit.
+-- 1: a book whose layout is broken. 24: a whole one that has more of one than its limit. 18: one within them with a repeated label.
 unfoldable pub admittedBy : Limits → Layout → Outcome Book
 admittedBy l broken = refused Broken
-admittedBy l (whole b) = cond (within (sizeOf b) (clamped l)) (given b) (refused OverLimit)
+admittedBy l (whole b) = cond (within (sizeOf b) (clamped l)) (after (labelsVerdict b) (given b)) (refused OverLimit)
 
 unfoldable pub admitted : Source → Outcome Book
 admitted bs = admittedBy (bs .limits) (layout (bs .bytes))
@@ -40,11 +41,20 @@ BrokenRow bs = layout (bs .bytes) ≡ broken
 abbrev pub OverRow : Source → Type 0
 OverRow bs = (b : Book) × (layout (bs .bytes) ≡ whole b) × Over (sizeOf b) (clamped (bs .limits))
 
-abbrev pub AdmissionRow : Source → Refusal → Type 0
-AdmissionRow bs r = ((r ≡ Broken) × BrokenRow bs) ⊎ ((r ≡ OverLimit) × OverRow bs)
+-- The bytes lay out a book within the limits of which P holds: what is known without a word of admission.
+pub record LaidIn (bs : Source) (P : Book → Type 0) : Type 0 where
+  pub book : Book
+  pub laidOut : layout (bs .bytes) ≡ whole book
+  pub within : Within (sizeOf book) (bs .limits)
+  pub holds : P book
+
+pub data AdmissionRow (bs : Source) : Refusal → Type 0 where
+  isBroken : BrokenRow bs → AdmissionRow bs Broken
+  isOver : OverRow bs → AdmissionRow bs OverLimit
+  isRepeated : {n : ℕ} → LaidIn bs (λ b. RepeatOf b n) → AdmissionRow bs (Repeated n)
 
 abbrev pub admissionRows : List ℕ
-admissionRows = 1 ∷ 24 ∷ []
+admissionRows = 1 ∷ 18 ∷ 24 ∷ []
 
 -- The bytes are admitted as a book of which P holds.
 pub record BookIn (bs : Source) (P : Book → Type 0) : Type 0 where
@@ -58,10 +68,10 @@ InRow bs Row r = AdmissionRow bs r ⊎ BookIn bs (λ b. Row b r)
 
 -- ---- What limits change, for the theorems of proofs/Raising
 
--- Admission before there were limits: what is not broken is admitted.
+-- Admission without limits: what is not broken and has no repeated label is admitted.
 abbrev pub unlimited : Layout → Outcome Book
 unlimited broken = refused Broken
-unlimited (whole b) = given b
+unlimited (whole b) = after (labelsVerdict b) (given b)
 
 -- An outcome under lower limits is 24 (`over`), or that under higher ones.
 abbrev pub Raised : {A : Type 0} → A → A → A → Type 0

@@ -26,8 +26,13 @@ sameLabel names Field l m = eqb (labelId names l) (labelId names m)
 sameLabel names Method l m = eqb (labelValue l) (labelValue m)
 sameLabel names Inner l m = true
 
--- ---- Candid.md: labels of a record or variant differ by number, methods of a service by name. The Rust leaves this to its grammar, so
--- books with repeats pass: it is written here and not asked.
+-- What the roots of trees beside each other are compared by.
+unfoldable pub keysOf : (Labelled → ℕ) → Forest Node → List ℕ
+keysOf key end = []
+keysOf key (tree n kids next) = key (n .label) ∷ keysOf key next
+
+-- ---- Candid.md: labels of a record or variant differ by number, methods of a service by name. The Rust leaves this to its grammar; here a
+-- book with a repeat is refused with 18 (Repeats.antt).
 unfoldable pub labelIds : List (List ℕ) → Forest Node → List ℕ
 labelIds names end = []
 labelIds names (tree n kids next) = labelId names (n .label) ∷ labelIds names next

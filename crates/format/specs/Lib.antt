@@ -1,5 +1,5 @@
 -- What a declaration book is. Read in this order: Forest, Node, Book, Encode, Fits, Layout, Within, Admission;
--- References, Occurs, Distinct and Labels speak of trees.
+-- References, Occurs, Numbered, Distinct, Labels and Repeats speak of trees.
 pub mod Forest
 pub mod Node
 pub mod Book
@@ -12,5 +12,7 @@ pub mod Whole
 pub mod References
 pub mod Occurs
 pub mod Distinct
+pub mod Numbered
 pub mod Labels
+pub mod Repeats
 pub mod Admission

@@ -4,17 +4,18 @@
 --     nameless                          a refusal that names nothing
 --     row-names, init-row-names         a row's refusal names a place in the table of names
 --     check-names, init-check-names     so does what is refused
+--     repeat-names, admission-names     and the label that 18 names
 --     check-bytes-names, ..             the same on bytes, which are broken or a book
-use mathlib.Core.Path.{_≡_, refl, sym, subst}
-use mathlib.Core.Logic.{_⊎_, ⊎-elim}
-use mathlib.Core.Bool.{true, false}
+use mathlib.Core.Path.{_≡_, refl, sym, ap, subst, _∙_}
+use mathlib.Core.Logic.{_⊎_, inl, inr, ⊎-elim}
+use mathlib.Core.Bool.{true, false, not}
 use mathlib.Core.List.{List, List·Memᴰ, List·Memᴰ·head, List·Memᴰ·tail, List·Memᴰ·cases-cons, List·Memᴰ·not-nil, Memᴰ·of-map}
 use Prim.Native.Nat.{ℕ, suc, _<_}
 use lib.Dec.{T, ltb, eqb}
 use lib.ListN.{length}
 use Rattle.labels.specs.declared.Label.the-variants.{Id, Named, Unnamed}
 use Rattle.format.specs.declared.Place.{Place}
-use Rattle.format.specs.declared.Place.the-variants.{Root, Method}
+use Rattle.format.specs.declared.Place.the-variants.{Root, Field, Method, Inner}
 use Rattle.format.specs.Forest.{Forest, end, tree, breadth}
 use Rattle.format.specs.Node.{Kind, Labelled, unlabelled, labelled, Node, labelValue}
 use Rattle.format.specs.Book.{Definition, Book}
@@ -22,11 +23,19 @@ use Rattle.format.specs.Fits.{placeBelow, kindFits, kindAllowed, labelFits, nod
 use Rattle.format.specs.References.{references}
 use Rattle.format.specs.Occurs.{Occurs, here, below, after, Beside, first, later}
 use Rattle.format.specs.Labels.{methodNames}
-use Rattle.format.specs.Admission.{InRow, Source}
+use Rattle.format.specs.Numbered.{TreeAt}
+use Rattle.format.specs.Numbered as numbered
+use Rattle.format.specs.Repeats.{RepeatAt, spelling, RepeatOf}
+use Rattle.format.specs.Layout.{whole, layout}
+use Rattle.format.specs.Admission.{Source, AdmissionRow, isBroken, isOver, isRepeated, InRow}
 use Rattle.format.proofs.Logic.{both, both₃, le-says, clash}
 use Rattle.format.proofs.Occurs.{reference-occurs}
+use Rattle.format.proofs.Theorems.{found}
+use Rattle.format.proofs.Encoded.{fit-parts, all-fit}
+use Rattle.format.proofs.Numbered.{node-occurs}
 use Rattle.format.proofs.Admission.{judged-row}
 use Rattle.refusals.specs.declared.Refusal.{Refusal}
+use Rattle.refusals.specs.declared.Refusal.the-variants.{Repeated}
 use Rattle.refusals.specs.declared.Verdict.the-variants.{Refused}
 use Rattle.judgement.specs.Actor.{initTree}
 use Rattle.judgement.specs.Check.{check, initCheck, checkBytes, initCheckBytes}
@@ -154,6 +163,48 @@ pub init-check-names : (b : Book) → Fits b → {r : Refusal} → initCheck b �
 init-check-names b fits e = init-row-names b fits (init-check-row b fits e)
 
 -- ---- On bytes
+
+-- 18: the label of a child of a node that fits
+module _ (names : ℕ) where
+  spelled-named : (p : Place) (l : Labelled) → T (labelFits names p l) → (spelling l ≡ 65535) ⊎ (spelling l < names)
+  unfolding labelFits spelling
+  spelled-named p unlabelled t = inl refl
+  spelled-named p (labelled (Id n)) t = inl refl
+  spelled-named Root (labelled (Named n)) t = absurd t
+  spelled-named Field (labelled (Named n)) t = inr (le-says (suc n) names .0 t)
+  spelled-named Method (labelled (Named n)) t = inr (le-says (suc n) names .0 t)
+  spelled-named Inner (labelled (Named n)) t = absurd t
+  spelled-named p (labelled (Unnamed n)) t = inl refl
+
+  tree-label : {n : Node} {kids f : Forest Node} {i : ℕ} (p : Place) → TreeAt n kids i f → T (forestFits names p f) → T (labelFits names p (n .label))
+  unfolding nodeFits
+  tree-label {n} {kids} p (numbered.first {next = next}) t =
+      both₃ (kindFits names (n .kind) (breadth kids)) (kindAllowed p (n .kind)) (labelFits names p (n .label)) (tree-fits names p n kids next t .0) .2
+  tree-label p (numbered.later {m = m} {lids = lids} {next = next} o) t = tree-label p o (tree-fits names p m lids next t .2)
+
+  repeat-spelled : {table : List (List ℕ)} {f : Forest Node} {j : ℕ} {l : Labelled} → T (forestFits names Root f) → RepeatAt table f j l → (spelling l ≡ 65535) ⊎ (spelling l < names)
+  repeat-spelled {l = l} t r =
+      let w = occurs-fits names (node-occurs (r .stands)) record { place = Root; fit = t } in
+      rw (r .label) (spelled-named _ (r .later .label) (tree-label _ (r .other) (w .2)))
+
+pub repeat-names : (b : Book) → Fits b → {n : ℕ} → RepeatOf b n → NamesPlace (length (b .names)) (Repeated n)
+repeat-names b fits {n} o = go (repeat-spelled (length (b .names)) (all-fit (fit-parts fits)) (o .first .is))
+  where
+    go : (spelling (o .l) ≡ 65535) ⊎ (spelling (o .l) < length (b .names)) → NamesPlace (length (b .names)) (Repeated n)
+    go (inl e) t = nameless (sym (ap (λ (k : ℕ). not (eqb k 65535)) (o .named ∙ e)) ∙ t)
+    go (inr l) t = rw (o .named) l
+
+-- what admission names of a book
+pub admission-names : (bs : Source) {r : Refusal} → AdmissionRow bs r → (b : Book) → layout (bs .bytes) ≡ whole b → NamesPlace (length (b .names)) r
+admission-names bs (isBroken x) b w = λ t. nameless t
+admission-names bs (isOver x) b w = λ t. nameless t
+admission-names bs (isRepeated {n = n} x) b w =
+    let same : x .book ≡ b = whole-one (sym (x .laidOut) ∙ w) in
+    subst (λ (c : Book). NamesPlace (length (c .names)) (Repeated n)) same (repeat-names (x .book) (found (bs .bytes) (x .book) .0 (x .laidOut) .0) (x .holds))
+  where
+    whole-one : {c d : Book} → whole c ≡ whole d → c ≡ d
+    whole-one e = cc
+
 pub check-bytes-names : (bs : Source) {r : Refusal} → checkBytes bs ≡ Refused r → InRow bs (λ b. NamesPlace (length (b .names))) r
 unfolding checkBytes
 check-bytes-names bs = judged-row bs check (λ b. NamesPlace (length (b .names))) (λ b fits. check-names b fits)

@@ -1,11 +1,12 @@
 -- The theorems that pin what passes the check and the init check. Assumes nothing; a book that was read from bytes fits (crate format, `found`).
 -- What is refused: Order.antt and Rows.antt.
---     check-says, init-check-says                  what passes: exactly what Candid calls well-formed, but for labels, and the Rust takes
+--     check-says, init-check-says                  what passes: exactly what lays out a book within the limits that Candid calls well-formed, labels
+--                                                  included, and the Rust takes
+--     check-typed, init-check-typed                the same of a book, whose labels admission has looked at
 --     actor-means                                  the actor of a book that passes is the one that is resolved
 --     actor-trees, actor-hashes                    it is well-formed, and its methods differ by hash where there are service imports
 --     without-init                                 without an init file both say the same
 --     no-init-definitions, no-init-tree            there are then no definitions and no arguments of it
---     check-bytes-says, init-check-bytes-says      all of this on bytes, which are refused by admission or a book
 --     check-raised, init-check-raised              raising limits turns no verdict into another, but 24 into what the roomier model says
 use mathlib.Core.Path.{_≡_, refl, sym, subst}
 use mathlib.Core.Logic.{_↔_, _⊎_}
@@ -15,14 +16,15 @@ use Prim.Native.Nat.{ℕ, zero, suc}
 use lib.ListN.{length}
 use Rattle.format.specs.Forest.{Forest, end}
 use Rattle.format.specs.Node.{Node}
-use Rattle.format.specs.Book.{Role, Main, TypeImport, ServiceImport, InitArgs, File, Book}
+use Rattle.format.specs.Book.{Role, Main, TypeImport, ServiceImport, InitArgs, File, Book, trees}
 use Rattle.format.specs.Fits.{isInitRole, Fits}
 use Rattle.format.specs.declared.Limits.{Limits}
 use Rattle.format.specs.Within.{Within}
-use Rattle.format.specs.Admission.{BookIn, Source, _under_, Raised}
+use Rattle.format.specs.Admission.{LaidIn, Source, _under_, Raised}
 use Rattle.format.specs.Distinct.{Distinct}
+use Rattle.format.specs.Labels.{Labels}
 use Rattle.format.proofs.Lists.{all-of}
-use Rattle.format.proofs.Admission.{judged-says}
+use Rattle.format.proofs.Admission.{judged-laid}
 use Rattle.format.proofs.Raising.{raised-check}
 use Rattle.refusals.specs.declared.Refusal.the-variants.{OverLimit}
 use Rattle.refusals.specs.declared.Verdict.the-variants.{Passed, Refused}
@@ -50,15 +52,11 @@ steps-typed b fits = (
   λ h. let x = typed-resolved b fits (h .0 .definitions) (h .1 .modes) (h .0) (h .1) in (λ f m. none-stands (x .imported f m), ((h .0 .definitions, h .1 .modes), x)),
 )
 
-pub check-says : (b : Book) → Fits b → (check b ≡ Passed) ↔ (Typed b × Rust b)
-check-says b fits =
+pub check-typed : (b : Book) → Fits b → (check b ≡ Passed) ↔ (Typed b × Rust b)
+check-typed b fits =
     let p = check-say b fits .passed in
     let s = steps-typed b fits in
     (λ e. s .0 (p .0 e), λ h. p .1 (s .1 h))
-
--- Labels that differ are asked for by Candid.md and not by the check.
-pub well-formed-passes : (b : Book) → Fits b → WellFormed b → Rust b → check b ≡ Passed
-well-formed-passes b fits w r = check-says b fits .1 (w .typed, r)
 
 -- ---- The actor of a book that passes
 module _ (b : Book) (fits : Fits b) (passed : check b ≡ Passed) where
@@ -88,8 +86,8 @@ init-typed b fits =
       λ h. ((h .0 .definitions, h .1 .modes), (agree .1 (h .1 .merged), formed .1 (h .0 .arguments, h .1 .argumentModes))),
     )
 
-pub init-check-says : (b : Book) → Fits b → (initCheck b ≡ Passed) ↔ ((Typed b × Rust b) × (TypedInit b × RustInit b))
-init-check-says b fits =
+pub init-check-typed : (b : Book) → Fits b → (initCheck b ≡ Passed) ↔ ((Typed b × Rust b) × (TypedInit b × RustInit b))
+init-check-typed b fits =
     let p = init-check-say b fits .passed in
     let s = steps-typed b fits in
     let i = init-typed b fits in
@@ -134,14 +132,19 @@ without-init b h = rw (init-verdict b h) (and-passed (check b))
 
 -- ---- On bytes
 
-pub check-bytes-says : (bs : Source) → (checkBytes bs ≡ Passed) ↔ BookIn bs (λ b. Typed b × Rust b)
-unfolding checkBytes
-check-bytes-says bs = judged-says bs check (λ b. Typed b × Rust b) check-says
+-- Candid.md's labels, and what else it asks
+formed : (b : Book) → (Labels (b .names) (trees b) × (Typed b × Rust b)) ↔ (WellFormed b × Rust b)
+formed b = (λ p. (record { typed = p .1 .0; labels = p .0 }, p .1 .1), λ p. (p .0 .labels, (p .0 .typed, p .1)))
 
-pub init-check-bytes-says : (bs : Source) →
-    (initCheckBytes bs ≡ Passed) ↔ BookIn bs (λ b. (Typed b × Rust b) × (TypedInit b × RustInit b))
+pub check-says : (bs : Source) → (checkBytes bs ≡ Passed) ↔ LaidIn bs (λ b. WellFormed b × Rust b)
+unfolding checkBytes
+check-says bs = judged-laid bs check (λ b. Typed b × Rust b) check-typed (λ b. WellFormed b × Rust b) formed
+
+pub init-check-says : (bs : Source) → (initCheckBytes bs ≡ Passed) ↔ LaidIn bs (λ b. (WellFormed b × Rust b) × (TypedInit b × RustInit b))
 unfolding initCheckBytes
-init-check-bytes-says bs = judged-says bs initCheck (λ b. (Typed b × Rust b) × (TypedInit b × RustInit b)) init-check-says
+init-check-says bs =
+    judged-laid bs initCheck (λ b. (Typed b × Rust b) × (TypedInit b × RustInit b)) init-check-typed (λ b. (WellFormed b × Rust b) × (TypedInit b × RustInit b))
+    (λ b. let f = formed b in (λ p. (f .0 (p .0, p .1 .0), p .1 .1), λ p. let q = f .1 (p .0) in (q .0, (q .1, p .1))))
 
 -- ---- Under limits
 module _ (bs : List ℕ) {l m : Limits} (h : Within l m) where

@@ -86,7 +86,7 @@ pub record Typed (b : Book) : Type 0 where
   pub actor : (mainActor b ≡ end) ⊎ WellFormedActor (mainDefinitions b) (mainActor b)
   pub imports : (f : File) → List·Memᴰ f (serviceImports (b .files)) → (f .actor ≡ end) ⊎ WellFormedActor (mainDefinitions b) (f .actor)
 
--- Candid.md: and labels differ, in every tree of the book. The Rust leaves this to its grammar, so books with repeats pass.
+-- Candid.md: and labels differ, in every tree of the book. The Rust leaves this to its grammar; admission asks for it (18).
 pub record WellFormed (b : Book) : Type 0 where
   pub typed : Typed b
   pub labels : Labels (b .names) (trees b)

@@ -4,6 +4,7 @@
 --     asked, sent, sent-draft         the same of the bytes that a supplier sends
 --     sent-bytes, sent-draft-bytes    what a caller has in hand after the entry points of list, marks, uses and draft listing: they promise
 --                                     `HandedAs` and `UsesAs` (crate `questions`), so that these hold of every call
+--     draft-bytes-sent                a draft's conditions written out
 --     ring-answers, lost-draft        a book with a method ring, and a draft that is unbound; P1 is in the crate `examples`
 use mathlib.Core.Path.{_≡_, sym, subst, _∙_}
 use mathlib.Core.Logic.{_↔_, ⊎-elim, ⊎-map}
@@ -20,11 +21,14 @@ use Rattle.refusals.specs.Handed.{HandedAs}
 use Rattle.refusals.proofs.Outcomes.{fit-given}
 use Rattle.format.specs.Forest.{Forest, end}
 use Rattle.format.specs.Node.{Node}
-use Rattle.format.specs.Book.{Definition, Book}
+use Rattle.format.specs.Book.{Definition, Book, trees}
 use Rattle.format.specs.Fits.{Fits}
+use Rattle.format.specs.Layout.{whole, layout}
+use Rattle.format.specs.Within.{sizeOf, Within}
 use Rattle.format.specs.Distinct.{Distinct}
+use Rattle.format.specs.Labels.{Labels}
 use Rattle.format.specs.Admission.{admitted, onBytes, Source}
-use Rattle.format.proofs.Admission.{admitted-fits, asked-is}
+use Rattle.format.proofs.Admission.{admitted-fits, admitted-says, asked-is}
 use Rattle.judgement.specs.Environment.{mainDefinitions}
 use Rattle.judgement.specs.Actor.{mainActor, classArguments}
 use Rattle.judgement.specs.Resolve.{resolveActor}
@@ -158,6 +162,11 @@ module _ (bytes : Source) (b : Book) (read : admitted bytes ≡ given b) where
         answeredSent = λ all. let x = a .answered all in (x .0, handed-delivers (onBytes draftList bytes) (asked draftList ∙ x .1 .0), x .2);
         listsSent = λ h e. told-given h some once e;
       }
+
+-- A draft with its conditions written out: unbroken layout, within the limits, no repeated labels, an actor, no name defined twice.
+pub draft-bytes-sent : (bytes : Source) (b : Book) → layout (bytes .bytes) ≡ whole b → Within (sizeOf b) (bytes .limits) → Labels (b .names) (trees b) →
+    (mainActor b ≡ end → ⊥) → Distinct (map definedName (draftDefinitions b)) → SentDraft bytes b
+draft-bytes-sent bytes b laid fits labels = sent-draft-bytes bytes b (admitted-says bytes b .1 (laid, fits, labels))
 
 -- ---- A book with a method ring is such a book; and a draft whose import has the definition that it lacks is such a draft, and refused
 pub ring-answers : Answers ring

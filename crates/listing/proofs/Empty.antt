@@ -34,7 +34,7 @@ use Rattle.format.proofs.Admission.{asked-row, row-numbers}
 use Rattle.refusals.specs.declared.Refusal.{Refusal}
 use Rattle.refusals.specs.Refusal.{numberOf}
 use Rattle.judgement.specs.Check.{check}
-use Rattle.judgement.proofs.Theorems.{check-says}
+use Rattle.judgement.proofs.Theorems.{check-typed}
 use Rattle.judgement.proofs.Rows.{check-row, check-numbers}
 use Rattle.format.specs.Admission.{onBytes, admissionRows, InRow, Source}
 use Rattle.refusals.specs.Outcome.{Outcome, refused, given, fit}
@@ -485,7 +485,7 @@ module _ (b : Book) (fits : Fits b) (places : ℕ) where
       result : (l : List ℕ) → emptiness b ≡ given l → EachOnce (BecomesEmpty (mainDefinitions b)) l
       result l e =
           let p = after-given (check b) (given (emptyNames b)) e in
-          let w = check-says b fits .0 (p .0) .0 .definitions in
+          let w = check-typed b fits .0 (p .0) .0 .definitions in
           subst (EachOnce (BecomesEmpty (mainDefinitions b))) (same-given (p .1)) (ascends-distinct (emptyNames b) (emptyNames-ascends b fits w), emptyNames-exact b fits w)
 
 -- The rows that there are.
@@ -502,7 +502,7 @@ unfolding emptiness
 emptiness-few b fits l e =
     let ds = mainDefinitions b in
     let p = after-given (check b) (given (emptyNames b)) e in
-    let w = check-says b fits .0 (p .0) .0 .definitions in
+    let w = check-typed b fits .0 (p .0) .0 .definitions in
     let once = ascends-distinct (emptyNames b) (emptyNames-ascends b fits w) in
     let few = pigeonhole once (map definedName ds) (λ n i. empty-defined ds n (emptyNames-exact b fits w n .0 i)) in
     omega (arith, few, length-map ds definedName, main-few b fits, ap length (same-given (p .1)))

@@ -25,7 +25,7 @@ use Rattle.judgement.specs.Actor.{initTree, NoInit}
 use Rattle.format.specs.Distinct.{Distinct}
 use Rattle.judgement.specs.WellFormed.{definedName, Bound, Typed, TypedInit}
 use Rattle.judgement.proofs.Lookup.{merge-listed, merge-says, merge-distinct}
-use Rattle.judgement.proofs.Theorems.{init-check-says, no-init-tree, without-init}
+use Rattle.judgement.proofs.Theorems.{init-check-typed, no-init-tree, without-init}
 use Rattle.judgement.proofs.Rows.{init-check-row, init-numbers}
 use Rattle.listing.specs.Chase.{chaseTypes, walked, chase}
 use Rattle.refusals.specs.Outcome.{refused, given, after, fit}
@@ -81,7 +81,7 @@ module _ (b : Book) (fits : Fits b) where
   pub init-answered : initCheck b ≡ Passed → Answered merged arguments (initList b)
   unfolding initList
   init-answered e =
-      let p = init-check-says b fits .0 e in
+      let p = init-check-typed b fits .0 e in
       let w = p .0 .0 in
       let i = p .1 .0 in
       rw (after-passed (initCheck b) (walked (chaseTypes merged arguments)) e)
@@ -100,7 +100,7 @@ module _ (b : Book) (fits : Fits b) where
     where
       walks : initCheck b ≡ Passed → (walked (chaseTypes merged arguments) ≡ given l) ↔ ((seen : List ℕ) × Listed merged arguments seen l)
       walks e =
-          let p = init-check-says b fits .0 e in
+          let p = init-check-typed b fits .0 e in
           walked-listed merged (merged-once (p .0 .0) (p .1 .0)) merged-bodies arguments (init-leafy b fits) l
 
   -- what is refused lies in its row
@@ -146,7 +146,7 @@ init-list-bytes-most bs places = bytes-most 512 places initList (λ b fits. init
 pub init-answers : (b : Book) → Fits b → initCheck b ≡ Passed → InitAnswers b (initList b)
 init-answers b fits passed =
     let a = init-answered b fits passed in
-    let p = init-check-says b fits .0 passed in
+    let p = init-check-typed b fits .0 passed in
     record { listed = a .names; listGiven = gives (initList b) (a .answer); lists = lists-all (a .listed) (merged-once b fits (p .0 .0) (p .1 .0)); listEnough = a .short }
 
 pub init-answers-bytes : (bs : Source) (b : Book) → admitted bs ≡ given b → initCheck b ≡ Passed → InitAnswers b (onBytes initList bs)

@@ -30,7 +30,7 @@ use Rattle.format.proofs.Occurs.{beside-everywhere}
 use Rattle.refusals.proofs.Verdicts.{both-pass, unless-passed}
 use Rattle.judgement.proofs.Chains.{leads-end, leads-unique, leads-keeps, root-stands}
 use Rattle.judgement.proofs.Meaning.{serves-stands, stands-serves, none-stands, stands-no-class, serves-methods}
-use Rattle.judgement.proofs.Theorems.{check-says, actor-trees}
+use Rattle.judgement.proofs.Theorems.{check-typed, actor-trees}
 use Rattle.listing.specs.Sites.{typeOf}
 use Rattle.listing.specs.Offers.{Function, Interface, service, class, Functions, functionBreadth}
 use Rattle.judgement.proofs.Classes.{is-class, last-beside, others-beside, beside-last, last-sole}
@@ -152,9 +152,9 @@ module _ (b : Book) (passed : check b ≡ Passed) (some : resolveActor b ≡ end
 
   module _ (fits : Fits b) where
     pub passed-once : Distinct (map definedName (mainDefinitions b))
-    passed-once = check-says b fits .0 passed .0 .definitions .once
+    passed-once = check-typed b fits .0 passed .0 .definitions .once
 
     pub passed-functions : {arguments methods : Forest Node} → Interface (mainDefinitions b) (resolveActor b) arguments methods → Functions (mainDefinitions b) methods
     passed-functions =
-        let w = check-says b fits .0 passed .0 .definitions in
+        let w = check-typed b fits .0 passed .0 .definitions in
         interface-functions (mainDefinitions b) (λ d m. w .trees d m .methods) (w .once) (actor-trees b fits passed .methods)

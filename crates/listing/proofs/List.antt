@@ -29,7 +29,7 @@ use Rattle.judgement.specs.Actor.{isClassKind, isClass, firstActor, mainActor, 
 use Rattle.judgement.specs.Resolve.{mergedActor, resolveWith, resolveActor}
 use Rattle.judgement.specs.Check.{check}
 use Rattle.judgement.specs.WellFormed.{Bound, belowTop}
-use Rattle.judgement.proofs.Theorems.{check-says, actor-trees}
+use Rattle.judgement.proofs.Theorems.{check-typed, actor-trees}
 use Rattle.judgement.proofs.Rows.{check-numbers}
 use Rattle.listing.specs.Chase.{chaseTypes, walked}
 use Rattle.refusals.specs.Outcome.{refused, given, after, fit}
@@ -102,7 +102,7 @@ module _ (b : Book) (fits : Fits b) where
   pub list-answered : check b ≡ Passed → (resolveActor b ≡ end → ⊥) → Answered ds (resolveActor b) (list b)
   unfolding list
   list-answered e some =
-      let w = check-says b fits .0 e .0 in
+      let w = check-typed b fits .0 e .0 in
       rw (answered b e some (walked (chaseTypes ds (resolveActor b))))
       (bound-answered ds (w .definitions .once) (main-bodies b fits) (resolveActor b) (resolved-leafy b fits) (main-few b fits)
       (λ d m. w .definitions .trees d m .bound) (actor-bound (actor-trees b fits e .bound)))
@@ -125,7 +125,7 @@ module _ (b : Book) (fits : Fits b) where
   )
     where
       walks : check b ≡ Passed → (walked (chaseTypes ds (resolveActor b)) ≡ given l) ↔ ((seen : List ℕ) × Listed ds (resolveActor b) seen l)
-      walks e = walked-listed ds (check-says b fits .0 e .0 .definitions .once) (main-bodies b fits) (resolveActor b) (resolved-leafy b fits) l
+      walks e = walked-listed ds (check-typed b fits .0 e .0 .definitions .once) (main-bodies b fits) (resolveActor b) (resolved-leafy b fits) l
 
   -- what is refused lies in its row
   pub list-in-row : (places : ℕ) {r : Refusal} → fit places (list b) ≡ refused r → ListRow b places r

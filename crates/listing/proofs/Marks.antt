@@ -27,7 +27,7 @@ use Rattle.judgement.specs.WellFormed.{Defined, WellFormedDefinitions, definedN
 use Rattle.judgement.specs.WellFormed as formed
 use Rattle.format.proofs.Distinct.{pigeonhole, ascends-distinct}
 use Rattle.judgement.proofs.Books.{main-definitions-fit}
-use Rattle.judgement.proofs.Theorems.{check-says}
+use Rattle.judgement.proofs.Theorems.{check-typed}
 use Rattle.judgement.proofs.Rows.{check-numbers}
 use Rattle.listing.specs.Recursive.{Marks, marking, unbound, listed, inferRec, sorted}
 use Rattle.refusals.specs.Outcome.{refused, given, after, fit}
@@ -209,7 +209,7 @@ module _ (b : Book) (fits : Fits b) (passed : check b ≡ Passed) where
   names = length (b .names)
 
   definitions : WellFormedDefinitions ds
-  definitions = check-says b fits .0 passed .0 .definitions
+  definitions = check-typed b fits .0 passed .0 .definitions
 
   bodies-leafy : LeafyBodies ds
   unfolding mainDefinitions

@@ -39,7 +39,7 @@ use Rattle.judgement.proofs.Heads.{head-refers, named-no-class}
 use Rattle.judgement.proofs.Methods.{methods-keep}
 use Rattle.judgement.proofs.Lookup.{member-says}
 use Rattle.judgement.proofs.Books.{main-definitions-fit}
-use Rattle.judgement.proofs.Theorems.{check-says, actor-trees}
+use Rattle.judgement.proofs.Theorems.{check-typed, actor-trees}
 use Rattle.judgement.proofs.Rows.{check-numbers}
 use Rattle.listing.specs.Chase.{going, push, arm, chase, meetName, visit, chaseTypes}
 use Rattle.refusals.specs.Handed.{Use}
@@ -345,7 +345,7 @@ leafy-inherited ds bodies = record { none = tt; kids = λ h. h .1; others = λ h
 pub passed-listed : (b : Book) → Fits b → check b ≡ Passed → EachSite (WalkListed (mainDefinitions b)) (sites (mainDefinitions b) (resolveActor b))
 passed-listed b fits passed =
     let ds = mainDefinitions b in
-    let w = check-says b fits .0 passed .0 in
+    let w = check-typed b fits .0 passed .0 in
     let once = w .definitions .once in
     let bodies = main-bodies b fits in
     let bound : (d : Definition) → List·Memᴰ d ds → Bound ds (d .body) = λ d m. w .definitions .trees d m .bound in
@@ -406,7 +406,7 @@ module _ (b : Book) (fits : Fits b) (passed : check b ≡ Passed) (some : resolv
 
   pub uses-undefined : (n : ℕ) → (Defined (mainDefinitions b) n → ⊥) → uses b n ≡ given []
   uses-undefined n h =
-      let w = check-says b fits .0 passed .0 in
+      let w = check-typed b fits .0 passed .0 in
       let bodies : (d : Definition) → List·Memᴰ d (mainDefinitions b) → Bound (mainDefinitions b) (d .body) = λ d m. w .definitions .trees d m .bound in
       let bound = sites-inherit (mainDefinitions b) (Bound (mainDefinitions b)) (bound-inherited (mainDefinitions b) bodies) (resolveActor b) (actor-trees b fits passed .bound) in
       uses-answered n ∙ ap given (row-none (row n) (λ s m r. h (bound-defined bodies (bound s m) r)))

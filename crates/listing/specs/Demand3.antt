@@ -101,7 +101,7 @@ pub record Answers (b : Book) : Type 0 where
   -- "Marked are exactly .."
   pub marks : Marked (mainDefinitions b) listed marked
 
--- "A draft (main file, unchecked, unbroken layout, actor, no name defined twice)"
+-- "A draft (main file, unchecked, unbroken layout, within the limits, no repeated labels, actor, no name defined twice)"
 pub record DraftAnswers (b : Book) : Type 0 where
   -- "is refused as unbound exactly if a reachable name lacks a definition", however long the lent list is
   pub unbound : (places : ℕ) → ((n : ℕ) × (fit places (draftList b) ≡ refused (Unbound n))) ↔ ((n : ℕ) × Lost (draftDefinitions b) (mainActor b) n)

@@ -17,7 +17,7 @@ use format::Limits;
 use refusals::Answer;
 use refusals::Verdict;
 
-// Whether a book passes: refusals 1, 24, 2 to 10 and 12 to 14, the first in the order of the check.
+// Whether a book passes: refusals 1, 24, 18, 2 to 10 and 12 to 14, the first in the order of the check.
 pub fn check(book: &[u8], limits: Limits) -> Verdict
     ensures { λ r. ⌜ r ≡ checkBytes (now (book .entry) under limits) ⌝ }
 {
@@ -27,7 +27,7 @@ pub fn check(book: &[u8], limits: Limits) -> Verdict
     found.verdict
 }
 
-// Whether a book and its init arguments pass: refusals 1, 24, 2 to 14, those of the check first. A book without an init file passes with its check.
+// Whether a book and its init arguments pass: refusals 1, 24, 18, 2 to 14, those of the check first. A book without an init file passes with its check.
 pub fn init_check(book: &[u8], limits: Limits) -> Verdict
     ensures { λ r. ⌜ r ≡ initCheckBytes (now (book .entry) under limits) ⌝ }
 {
@@ -75,7 +75,7 @@ pub fn init_list(book: &[u8], limits: Limits, out: &mut [u16]) -> Answer
     }
 }
 
-// The list of a draft: 1, 24, 17, 2, 3 and 16.
+// The list of a draft: 1, 24, 18, 17, 2, 3 and 16.
 pub fn draft_list(book: &[u8], limits: Limits, out: &mut [u16]) -> Answer
     ensures { λ r. ⌜ HandedAs (onBytes draftList (now (book .entry) under limits)) (now (out .entry)) (now (out .exit)) r ⌝ }
 {

@@ -9,14 +9,14 @@ use Prim.Native.Nat.{ℕ, _≤_, _<_}
 use lib.Dec.{lit<, lit≤}
 use lib.ListN.{getD}
 use Rattle.refusals.specs.declared.Refusal.{Refusal}
-use Rattle.refusals.specs.declared.Refusal.the-variants.{Broken, Twice, Unbound, Class, Modes, Oneway, Circle, NoFunction, MethodNoFunction, NoService, Differs, ImportWithoutActor, ImportNoService, SameHash, Absent, Short, NoActor, OverLimit}
+use Rattle.refusals.specs.declared.Refusal.the-variants.{Broken, Twice, Unbound, Class, Modes, Oneway, Circle, NoFunction, MethodNoFunction, NoService, Differs, ImportWithoutActor, ImportNoService, SameHash, Absent, Short, NoActor, Repeated, OverLimit}
 use Rattle.refusals.specs.Refusal.{numberOf, nameOf, neededOf}
 
--- The rows in order, where they tell this name, or that so many entries are needed; none has number 0, nor yet 18 to 23.
+-- The rows in order, where they tell this name, or that so many entries are needed; none has number 0, nor yet 19 to 23.
 abbrev rows : ℕ → ℕ → List Refusal
 rows n k =
     Broken ∷ Broken ∷ Twice n ∷ Unbound n ∷ Class ∷ Modes ∷ Oneway ∷ Circle n ∷ NoFunction ∷ MethodNoFunction n ∷ NoService ∷ Differs n
-    ∷ ImportWithoutActor n ∷ ImportNoService n ∷ SameHash n ∷ Absent n ∷ Short k ∷ NoActor ∷ Broken ∷ Broken ∷ Broken ∷ Broken ∷ Broken ∷ Broken ∷ OverLimit ∷ []
+    ∷ ImportWithoutActor n ∷ ImportNoService n ∷ SameHash n ∷ Absent n ∷ Short k ∷ NoActor ∷ Repeated n ∷ Broken ∷ Broken ∷ Broken ∷ Broken ∷ Broken ∷ OverLimit ∷ []
 
 abbrev row : ℕ → ℕ → ℕ → Refusal
 row number n k = getD (rows n k) number Broken
@@ -46,6 +46,7 @@ ruled (SameHash n) = record { some = lit≤ tt; few = lit< tt; back = refl; shor
 ruled (Absent n) = record { some = lit≤ tt; few = lit< tt; back = refl; short = inl refl }
 ruled (Short n) = record { some = lit≤ tt; few = lit< tt; back = refl; short = inr refl }
 ruled NoActor = record { some = lit≤ tt; few = lit< tt; back = refl; short = inl refl }
+ruled (Repeated n) = record { some = lit≤ tt; few = lit< tt; back = refl; short = inl refl }
 ruled OverLimit = record { some = lit≤ tt; few = lit< tt; back = refl; short = inl refl }
 
 pub number-few : (r : Refusal) → numberOf r < 100

@@ -1,13 +1,14 @@
 -- The number of each refusal in documents 01 and 02, and what it tells beside that. Definitions; assumes nothing.
-use mathlib.Core.Bool.{Bool, true, false}
+use mathlib.Core.Bool.{Bool, true, false, not}
 use Prim.Native.Nat.{ℕ}
+use lib.Dec.{eqb}
 use Rattle.refusals.specs.declared.Refusal.{Refusal}
-use Rattle.refusals.specs.declared.Refusal.the-variants.{Broken, Twice, Unbound, Class, Modes, Oneway, Circle, NoFunction, MethodNoFunction, NoService, Differs, ImportWithoutActor, ImportNoService, SameHash, Absent, Short, NoActor, OverLimit}
+use Rattle.refusals.specs.declared.Refusal.the-variants.{Broken, Twice, Unbound, Class, Modes, Oneway, Circle, NoFunction, MethodNoFunction, NoService, Differs, ImportWithoutActor, ImportNoService, SameHash, Absent, Short, NoActor, Repeated, OverLimit}
 
--- What a refusal tells beside its number: nothing, a name's number, or the entries needed.
+-- What a refusal tells beside its number: nothing, a name's number, a label's name number or 65,535 if it is not spelled, or the entries needed.
 pub data Told : Type 0 where
   nothing : Told
-  name needed : ℕ → Told
+  name label needed : ℕ → Told
 
 -- Their table: the row's number, and what it tells.
 abbrev pub saysOf : Refusal → ℕ × Told
@@ -28,6 +29,7 @@ saysOf (SameHash n) = (14, name n)
 saysOf (Absent n) = (15, name n)
 saysOf (Short n) = (16, needed n)
 saysOf NoActor = (17, nothing)
+saysOf (Repeated n) = (18, label n)
 saysOf OverLimit = (24, nothing)
 
 abbrev pub numberOf : Refusal → ℕ
@@ -40,6 +42,7 @@ told r = saysOf r .1
 abbrev pub namesTold : Told → Bool
 namesTold nothing = false
 namesTold (name n) = true
+namesTold (label n) = not (eqb n 65535)
 namesTold (needed n) = false
 
 abbrev pub namesOf : Refusal → Bool
@@ -49,6 +52,7 @@ namesOf r = namesTold (told r)
 abbrev pub nameTold : Told → ℕ
 nameTold nothing = 65535
 nameTold (name n) = n
+nameTold (label n) = n
 nameTold (needed n) = 65535
 
 abbrev pub nameOf : Refusal → ℕ
@@ -58,6 +62,7 @@ nameOf r = nameTold (told r)
 abbrev pub neededTold : Told → ℕ
 neededTold nothing = 0
 neededTold (name n) = 0
+neededTold (label n) = 0
 neededTold (needed n) = n
 
 abbrev pub neededOf : Refusal → ℕ

@@ -45,6 +45,8 @@ pub enum Refusal {
     Short(u32),
     // 17: the question needs an actor.
     NoActor,
+    // 18: this label is that of an earlier child of the same node; NO_NAME where it is not spelled, which no label's name number is.
+    Repeated(u16),
     // 24: the book has more names, nodes or definitions than the limit.
     OverLimit,
 }
@@ -78,6 +80,7 @@ impl Refusal {
             Refusal::Absent(n) => Said(15, true, n, 0),
             Refusal::Short(n) => Said(16, false, Refusal::NO_NAME, n),
             Refusal::NoActor => Said(17, false, Refusal::NO_NAME, 0),
+            Refusal::Repeated(n) => Said(18, n != Refusal::NO_NAME, n, 0),
             Refusal::OverLimit => Said(24, false, Refusal::NO_NAME, 0),
         }
     }
