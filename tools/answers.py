@@ -101,7 +101,6 @@ class Book:
     def definitions_of(self, *roles):
         return [row for row in self.definitions if self.files[row.file].role in roles]
 
-
     def trees(self):
         """Those of all definitions, then of all files: their nodes in preorder are the book's in order."""
         return [row.type for row in [*self.definitions, *self.files] if row.type is not None]

@@ -546,17 +546,22 @@ class Repeats(unittest.TestCase):
                                f"service : {tree}", f"service : ({tree}, z) -> z", f"service : {{ m : () -> (z, {tree}) oneway; n : nat }}",
                                f"service : {{ n : {tree} }}", f'file "m" main file "i" type service : class ({tree}) -> z',
                                f'file "m" main service : {{}} file "i" service file "j" service type z = z; service : {tree}',
-                               f'file "m" main file "i" init type t = {tree}; args (z)', f'file "m" main type t = nat; file "i" init type t = text; args (z, {tree})'):
+                               f'file "m" main file "i" init type t = {tree}; args (z)',
+                               f'file "m" main type t = nat; file "i" init type t = text; args (z, {tree})'):
                     self.assertEqual(self.outcome(source), f"refused 18 {named}", source)
 
     def test_methods(self):
         """By name, not by hash."""
-        for methods, named in {"m : z; m : z": "m", "m : nat; n : nat; m : nat": "m", "m : z; n : z; n : z; m : z": "n", "a : z; \"\\00a\" : z; a : z": "a",
-                               "m : (record { x : z; x : z }) -> (); m : z": "x", "m : z; m : (record { x : z; x : z }) -> ()": "m"}.items():
+        for methods, named in {
+            "m : z; m : z": "m", "m : nat; n : nat; m : nat": "m", "m : z; n : z; n : z; m : z": "n", 'a : z; "\\00a" : z; a : z': "a",
+            "m : (record { x : z; x : z }) -> (); m : z": "x", "m : z; m : (record { x : z; x : z }) -> ()": "m",
+        }.items():
             service = f"{{ {methods} }}"
             for source in (f"type t = service {service};", f"service : {service}", f"service : (z) -> {service}", f"type t = class () -> {service};",
-                           f'file "m" main file "i" service service : {service}', f'file "m" main service : {service} file "i" service service : {service}',
-                           f'file "m" main service : {{}} file "i" type service : {service}', f'file "m" main file "i" init args (service {service})'):
+                           f'file "m" main file "i" service service : {service}',
+                           f'file "m" main service : {service} file "i" service service : {service}',
+                           f'file "m" main service : {{}} file "i" type service : {service}',
+                           f'file "m" main file "i" init args (service {service})'):
                 self.assertEqual(self.outcome(source), f'refused 18 "{named}"', source)
         for source, outcome in {
             'service : { a : () -> (); "\\00a" : () -> () }': "passed",

@@ -342,7 +342,11 @@ impl Gen<'_> {
         }
     }
 
+    /// A name of the pool, any word where that is empty.
     fn pooled(&mut self) -> Name {
+        if self.pool.is_empty() {
+            return self.word();
+        }
         let pool = std::mem::take(&mut self.pool);
         let name = self.random.one(&pool).clone();
         self.pool = pool;
@@ -405,8 +409,8 @@ impl Gen<'_> {
             return;
         };
         if parent.kids.len() == 1 {
-            let kid = parent.kids[0].clone();
-            parent.kids.push(kid);
+            let body = if parent.kind == book::SERVICE { func(vec![], vec![], vec![]) } else { leaf(2) };
+            parent.kids.insert(self.random.below(2), body.labelled(parent.kids[0].label.clone()));
         }
         let (one, other) = (self.random.below(parent.kids.len()), self.random.between(1, parent.kids.len() - 1));
         let other = (one + other) % parent.kids.len();
@@ -973,7 +977,6 @@ impl Gen<'_> {
             let body = if kind == book::SERVICE { func(vec![], vec![], vec![]) } else { leaf(2) };
             kids.push(body.labelled(label));
         }
-        self.pool = vec![b"a".to_vec(), b"z".to_vec(), b"\0z".to_vec()];
         self.set_apart(kind, &mut kids);
         let mut body = tree(kind, kids);
         if self.random.percent(50) {
@@ -1184,8 +1187,8 @@ pub fn run(seed: u64, count: u64, all_damaged: bool) -> i32 {
         gen.repeats = as_they_come;
         let mut draft = match gen.random.below(400) {
             0 => gen.special(),
-            1..=4 => gen.wide(),
-            5..=100 => gen.wild(),
+            1..=8 => gen.wide(),
+            9..=104 => gen.wild(),
             _ => gen.planned(),
         };
         if put {

@@ -29,7 +29,7 @@ abbrev pub Below : ℕ → Answer → Type 0
 Below unit (Given n) = n < unit
 Below unit (RefusedAnswer r) = neededOf r < unit
 
--- In 32 bits, of which a refusal's row takes the high 16; and in 64 for uses, of which a book may have 4,186,116.
+-- In 32 bits, of which a refusal's row takes the high 16; and in 64 for uses, of which a book may have 3,143,680.
 abbrev pub small : ℕ
 small = 65536
 
