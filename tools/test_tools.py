@@ -954,8 +954,8 @@ class Replay(unittest.TestCase):
         """docs/TESTING.md has the list's size."""
         with open(os.path.join(HERE, "..", "docs", "TESTING.md"), encoding="utf-8") as file:
             text = file.read()
-        self.assertIn(f" {len(self.sources)} records", text)
-        self.assertIn(f"({len({book for _, _, book, _, _ in self.sources})} different books)", text)
+        self.assertIn(f" {len(self.sources):,} records", text)
+        self.assertIn(f"({len({book for _, _, book, _, _ in self.sources}):,} different books)", text)
         self.assertIn(f" {sum(len(outcomes) for _, _, _, _, outcomes in self.sources):,} lines", text)
 
     def test_sentences(self):

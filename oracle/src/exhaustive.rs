@@ -8,7 +8,7 @@
 //! - modes are none and oneway; with main alone and at most one definition, also two modes at once;
 //! - a method's type is a func, a name or nat; the class below an actor's top is `class { service {} }`, which nobody opens;
 //! - labels are fixed, except with an init file, where they are compared; a lone method is `m`, with a service import also `a`;
-//! - labels repeat only with main alone and at most one definition, and with other files and none: two fields in each way, two
+//! - labels repeat only with main alone and at most one definition, and with other files and none: two fields in four ways, two
 //!   methods; elsewhere the Rust is asked of every book;
 //! - an actor is a class, a service, a name or nat; in a book of main alone without definitions, any type of up to 3 nodes; a
 //!   type import's, which is ignored, any type;

@@ -2,7 +2,7 @@
 //!
 //! Three in four books are planned: definitions, services and actors that pass, and in some of them faults on purpose. The
 //! others are wild (whatever the layout allows) or of a special shape: long chains, deep trees, ladders, many uses, wide
-//! records. Labels repeat in one book of eight, so that the Rust is asked of the others. Some are damaged afterwards. Half of
+//! records. Labels may repeat in one book of eight and in wide ones, so that the Rust is asked of the others. Some are damaged afterwards. Half of
 //! them are asked under full limits.
 
 use crate::book::{self, number_of, Book, Definition, File, Limits, Node, Record, FULL};

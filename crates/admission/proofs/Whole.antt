@@ -1,6 +1,6 @@
 -- What admission makes of a whole book, by its table of contents. Assumes nothing.
-use mathlib.Core.Path.{_≡_, refl, sym, ap, subst, _∙_}
-use mathlib.Core.Bool.{Bool, true, false, cond}
+use mathlib.Core.Path.{_≡_, sym, ap, subst, _∙_}
+use mathlib.Core.Bool.{true, false, cond}
 use mathlib.Core.List.{List}
 use Prim.Native.Nat.{ℕ}
 use Rattle.refusals.specs.declared.Refusal.{Refusal}
@@ -14,7 +14,7 @@ use Rattle.format.specs.Book.{Book}
 use Rattle.format.specs.Layout.{whole, layout}
 use Rattle.format.specs.Within.{full, sizeOf, Within, within}
 use Rattle.format.specs.Repeats.{labelsVerdict}
-use Rattle.format.specs.Admission.{Source, _under_, admitted}
+use Rattle.format.specs.Admission.{_under_, admitted}
 use Rattle.format.proofs.Theorems.{found}
 use Rattle.format.proofs.Within.{fits-full}
 use Rattle.format.proofs.Admission.{admitted-whole}

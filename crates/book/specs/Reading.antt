@@ -41,7 +41,7 @@ asReading (whole b) = Whole (contentsOf b)
 unfoldable pub reading : List ℕ → Reading
 reading bs = asReading (layout bs)
 
--- Bytes that were admitted are a book, with this table of contents: what all code after admission stands on.
+-- Bytes that are a book, with this table of contents, whether 24 or 18 follows or not: what all code after the layout stands on.
 pub record Admitted (bs : List ℕ) (c : Contents) : Type 0 where
   pub book : Book
   pub laid : layout bs ≡ whole book

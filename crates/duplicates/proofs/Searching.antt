@@ -5,7 +5,7 @@
 use mathlib.Core.Path.{_≡_, refl, sym, ap, subst, _∙_}
 use mathlib.Core.List.{List}
 use mathlib.Core.Logic.{_⊎_, inl, inr}
-use Prim.Native.Nat.{ℕ, _+_, _-_, _*_, _/_, _%_, _<_}
+use Prim.Native.Nat.{ℕ, _+_, _-_, _*_, _/_, _%_, _≤_, _<_}
 use native.Mathlib.Nat.{mod-lt}
 use native.Mathlib.Decide.{ℕ-discrete}
 use native.Mathlib.Omega.{arith}
@@ -32,22 +32,22 @@ way-leaves stop apart = absurd (apart refl)
 way-leaves (step h w) apart = (h, w)
 
 -- ---- The tree of the first place
-none-linked : (p : ℕ) → getD noLinks p 0 ≡ 0
+none-linked : (size p : ℕ) → getD (noLinks size) p 0 ≡ 0
 unfolding noLinks
-none-linked p = everywhere {A = ℕ} 8192 p 0
+none-linked size p = everywhere {A = ℕ} size p 0
 
-links-length : length noLinks ≡ 8192
+pub links-length : (size : ℕ) → length (noLinks size) ≡ size
 unfolding noLinks
-links-length = length-replicate {A = ℕ} 8192 0
+links-length size = length-replicate {A = ℕ} size 0
 
-pub tree-start : (ks : List ℕ) → Tree ks noLinks 1
-tree-start ks =
+pub tree-start : (ks : List ℕ) (size : ℕ) → 2 * length ks ≤ size → Tree ks (noLinks size) 1
+tree-start ks size room =
     record {
-      long = links-length;
+      room = omega (arith, links-length size);
       some = omega arith;
-      later = λ a r h. let z = none-linked (2 * a + r % 2) in absurd (omega arith);
-      below = λ p. let z = none-linked p in omega arith;
-      ways = λ i h. let e : i ≡ 0 = omega arith in subst (λ (j : ℕ). (s : ℕ) × Way noLinks 0 (getD ks j 0) j s) (sym e) (getD ks 0 0, stop);
+      later = λ a r h. let z = none-linked size (2 * a + r % 2) in absurd (omega arith);
+      below = λ p. let z = none-linked size p in omega arith;
+      ways = λ i h. let e : i ≡ 0 = omega arith in subst (λ (j : ℕ). (s : ℕ) × Way (noLinks size) 0 (getD ks j 0) j s) (sym e) (getD ks 0 0, stop);
     }
 
 -- ---- The loop of `meet`
@@ -70,8 +70,8 @@ module _ {ks links : List ℕ} {n at rest : ℕ} (x : Search ks links n at rest)
   abbrev place : ℕ
   place = 2 * at + rest % 2
 
-  place-small : n < 4096 → place < 8192
-  place-small h = omega (arith, x .inside, mod-lt rest {m = 2} (omega arith))
+  pub place-small : n < length ks → place < length links
+  place-small h = omega (arith, x .inside, x .tree .room, mod-lt rest {m = 2} (omega arith))
 
   pub search-less : 0 < linked links at rest → n - linked links at rest < n - at
   search-less h = omega (arith, x .tree .later at rest h, x .inside)
@@ -92,7 +92,7 @@ module _ {ks links : List ℕ} {n at rest : ℕ} (x : Search ks links n at rest)
           ahead = λ i l e. leaves i l e .1;
         }
 
-    module _ (free : linked links at rest ≡ 0) (few : n < 4096) where
+    module _ (free : linked links at rest ≡ 0) (few : n < length ks) where
       abbrev more : List ℕ
       more = set links place n
 
@@ -100,7 +100,7 @@ module _ {ks links : List ℕ} {n at rest : ℕ} (x : Search ks links n at rest)
       new m = let p = place-of ks n m in let l = leaves (p .0) (p .1) (p .2) .0 in omega arith
 
       here : getD more place 0 ≡ n
-      here = getD-set-same links place n 0 (omega (arith, place-small few, x .tree .long))
+      here = getD-set-same links place n 0 (place-small few)
 
       -- what stands at a place of the links now
       now-at : (p : ℕ) → ((p ≡ place) × (getD more p 0 ≡ n)) ⊎ (getD more p 0 ≡ getD links p 0)
@@ -117,7 +117,7 @@ module _ {ks links : List ℕ} {n at rest : ℕ} (x : Search ks links n at rest)
       search-end = (
         new,
         record {
-          long = length-set links place n ∙ x .tree .long;
+          room = rw (length-set links place n) (x .tree .room);
           some = omega arith;
           later = λ a r h. elim (now-at (2 * a + r % 2)) [
             | inl q ↦ omega (arith, x .inside, mod-lt rest {m = 2} (omega arith), mod-lt r {m = 2} (omega arith))

@@ -3,13 +3,13 @@
 use mathlib.Core.Path.{_≡_}
 use mathlib.Core.Bool.{Bool, true, false}
 use mathlib.Core.List.{List}
-use Prim.Native.Nat.{ℕ, _+_, _*_, _/_, _%_, _<_}
+use Prim.Native.Nat.{ℕ, _+_, _*_, _/_, _%_, _≤_, _<_}
 use lib.ListN.{length, getD, replicate}
 use Rattle.duplicates.specs.Duplicate.{StandsBefore}
 
--- Two links for each of 4,096 places; none leads anywhere.
-unfoldable pub noLinks : List ℕ
-noLinks = replicate 8192 0
+-- So many links; none leads anywhere.
+unfoldable pub noLinks : ℕ → List ℕ
+noLinks size = replicate size 0
 
 -- What a place links by the lowest bit of a number.
 abbrev pub linked : List ℕ → ℕ → ℕ → ℕ
@@ -22,7 +22,7 @@ pub data Way (links : List ℕ) : ℕ → ℕ → ℕ → ℕ → Type 0 where
 
 -- The first n places are in the tree: the way of its number leads to each. Links lead to later places, so that a search ends.
 pub record Tree (ks links : List ℕ) (n : ℕ) : Type 0 where
-  pub long : length links ≡ 8192
+  pub room : 2 * length ks ≤ length links
   pub some : 0 < n
   pub later : (at rest : ℕ) → 0 < linked links at rest → at < linked links at rest
   pub below : (p : ℕ) → getD links p 0 < n

@@ -3,7 +3,7 @@
 // deep, one for each of its bits: no choice of numbers makes that slow, as it may make buckets of hashes.
 ghost use mathlib.Core.Path.{_≡_};
 ghost use mathlib.Core.Bool.{true};
-ghost use Prim.Native.Nat.{_≤_, _<_};
+ghost use Prim.Native.Nat.{_*_, _≤_, _<_};
 ghost use lib.ListN.{length};
 ghost use Rattle.format.specs.Distinct.{Distinct};
 ghost use Rattle.duplicates.specs.Duplicate.{FirstDuplicate, StandsBefore};
@@ -13,10 +13,15 @@ use format::Limits;
 // How many numbers are compared in pairs: below that the links cost more than they spare.
 const SMALL: usize = 32;
 
+// Up to how many numbers a small table of links is enough, so that no more than 64 bytes are cleared for a number.
+const FEW: usize = 256;
+
 // Two links for each place.
+const FEW_LINKS: usize = 2 * FEW;
+
 const LINKS: usize = 2 * Limits::NODES;
 
-// Whether each number is greater than the one before.
+// Whether each number is greater than the one before, so that none stands twice.
 fn ascends(keys: &[u32]) -> bool
     ensures { λ r. ⌜ (r ≡ true → Distinct (now (keys .entry))) ⌝ }
 {
@@ -61,8 +66,14 @@ fn by_pairs(keys: &[u32]) -> usize
 }
 
 // A place is linked from another by its number. 0 is none, since nothing leads to the root, place 0.
+fn few_links() -> [u16; FEW_LINKS]
+    ensures { λ r. ⌜ r ≡ noLinks 512 ⌝ }
+{
+    [0; FEW_LINKS]
+}
+
 fn no_links() -> [u16; LINKS]
-    ensures { λ r. ⌜ r ≡ noLinks ⌝ }
+    ensures { λ r. ⌜ r ≡ noLinks 8192 ⌝ }
 {
     [0; LINKS]
 }
@@ -91,14 +102,13 @@ fn meet(keys: &[u32], links: &mut [u16], n: usize) -> bool
 }
 
 // The first duplicate, each number looked for in the tree of those before it.
-fn by_tree(keys: &[u32]) -> usize
-    requires { ⌜ length (now keys) ≤ 4096 ⌝ }
+fn by_tree(keys: &[u32], links: &mut [u16]) -> usize
+    requires { ⌜ (length (now keys) ≤ 4096) × (2 * length (now keys) ≤ length (now links)) × (now links ≡ noLinks (length (now links))) ⌝ }
     ensures { λ r. ⌜ FirstDuplicate (now (keys .entry)) r ⌝ }
 {
-    let mut links = no_links();
     let mut n = 1;
     while n < keys.len() {
-        if meet(keys, &mut links, n) {
+        if meet(keys, links, n) {
             return n;
         }
         n += 1;
@@ -117,5 +127,10 @@ pub fn first_duplicate(keys: &[u32]) -> usize
     if keys.len() <= SMALL {
         return by_pairs(keys);
     }
-    by_tree(keys)
+    if keys.len() <= FEW {
+        let mut few = few_links();
+        return by_tree(keys, &mut few);
+    }
+    let mut links = no_links();
+    by_tree(keys, &mut links)
 }

@@ -1,25 +1,27 @@
--- Repeated labels (document 02, request 1): types, above each its Candid text, and the first repeat as the request is read. Definitions;
--- assumes nothing. A type's root is node 0, and its nodes are numbered in preorder.
+-- Repeated labels (document 02, request 1): types, above each what it shows, and the first repeat as the request is read; then the smallest
+-- book that has one. Definitions; assumes nothing. A type's root is node 0, and its nodes are numbered in preorder.
 use mathlib.Core.List.{List, [], _∷_}
 use Prim.Native.Nat.{ℕ}
 use Rattle.labels.specs.declared.Label.the-variants.{Id, Named, Unnamed}
+use Rattle.format.specs.Forest.{end}
 use Rattle.format.specs.Node.{labelled}
+use Rattle.format.specs.Book.{Book, Main}
 use Rattle.format.specs.Repeats.{Repeat, none, repeat}
-use Rattle.samples.specs.Notation.{Shape, spelled, unlabelledTree, _∶_, _⨾_, nat, record-of, variant-of, service-of, func}
+use Rattle.samples.specs.Notation.{Shape, spelled, unlabelledTree, _∶_, _⨾_, nat, record-of, variant-of, service-of, func, type, file}
 
-pub record Told : Type 0 where
+pub record Case : Type 0 where
   pub type : Shape
   pub first : Repeat
 
--- The names, by number: a, byte 0 and then a, x, y. The first two have the label number 97.
+-- The names, by number: byte 0 and then a, a, x, y. The first two have the label number 97.
 unfoldable pub labelNames : List (List ℕ)
-labelNames = spelled ("a" ∷ "\0a" ∷ "x" ∷ "y" ∷ [])
-
-abbrev a : ℕ
-a = 0
+labelNames = spelled ("\0a" ∷ "a" ∷ "x" ∷ "y" ∷ [])
 
 abbrev zero-a : ℕ
-zero-a = 1
+zero-a = 0
+
+abbrev a : ℕ
+a = 1
 
 abbrev x : ℕ
 x = 2
@@ -27,7 +29,7 @@ x = 2
 abbrev y : ℕ
 y = 3
 
-unfoldable pub repeats : List Told
+unfoldable pub repeats : List Case
 repeats =
     -- record { 0 : record { x; x }; 0 } names x: the repeat below comes first
     record {
@@ -58,3 +60,12 @@ repeats =
     ∷ record { type = record-of (Named x ∶ record-of (Named x ∶ nat) ⨾ Named y ∶ record-of (Named x ∶ nat)); first = none }
     ∷ record { type = func (unlabelledTree nat ⨾ unlabelledTree nat) (unlabelledTree nat) []; first = none }
     ∷ []
+
+-- type a = record { 0 : nat; 0 : nat }
+unfoldable pub twins : Book
+twins =
+    record {
+      names = spelled ("" ∷ "a" ∷ []);
+      definitions = type 0 1 (record-of (Id 0 ∶ nat ⨾ Id 0 ∶ nat)) ∷ [];
+      files = file 0 Main end ∷ [];
+    }

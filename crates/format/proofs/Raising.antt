@@ -1,5 +1,5 @@
 -- What limits change, and what they do not (document 02, request 14): said once of admission, and of all that goes by it. Assumes nothing.
---     within-as-before, full-as-before    of a book within its limits, and under full ones, admission is what it was before there were any
+--     within-as-before, full-as-before    of a book within its limits, and under full ones, admission is what it is without any
 --     within-answer                       and so is all that follows it
 --     full-admits                         under full limits what is laid out is admitted, unless a label is repeated
 --     clamped-same, clamped-answer        a limit above its figure is the figure

@@ -2,21 +2,22 @@
 --     first-found, none-found         the computation finds the first repeat, and none where there is none
 --     found-first, found-none         and only these
 --     labels-apart, apart-labels      no node is a repeat exactly if `Labels` holds
---     labels-say, labels-refuse       of a book: it has no repeat exactly if labels differ, and 18 is that of the first
---     repeat-names                    what 18 names is a name of the book, or none
+--     repeat-node                     a repeat is a node of the trees
+--     labels-say                      a book has no repeat exactly if labels differ
+--     labels-refuse, first-refused    18 is that of the first
 use mathlib.Core.Path.{_≡_, refl, sym, ap, ap₂, subst, _∙_}
-use mathlib.Core.Logic.{_↔_, _⊎_, inl, inr, ⊎-elim}
+use mathlib.Core.Logic.{_↔_, _⊎_, inl, inr}
 use mathlib.Core.Bool.{Bool, true, false, cond, _&&_, _||_}
 use mathlib.Core.List.{List, [], _∷_, List·Memᴰ, List·Memᴰ·head, List·Memᴰ·tail, List·Memᴰ·cases-cons, List·Memᴰ·not-nil}
-use Prim.Native.Nat.{ℕ, zero, suc, _+_, _≤_, _<_}
+use Prim.Native.Nat.{ℕ, suc, _+_, _≤_, _<_}
 use native.Mathlib.Omega.{arith}
-use lib.Dec.{T, eqb}
+use lib.Dec.{T}
 use borrow.Author.Tests.{eqb-true, eq-eqb}
 use Rattle.refusals.specs.declared.Refusal.{Refusal}
 use Rattle.refusals.specs.declared.Refusal.the-variants.{Repeated}
 use Rattle.refusals.specs.declared.Verdict.the-variants.{Passed, Refused}
 use Rattle.format.specs.declared.Place.{Place}
-use Rattle.format.specs.declared.Place.the-variants.{Root, Field, Method, Inner}
+use Rattle.format.specs.declared.Place.the-variants.{Root}
 use Rattle.format.specs.Forest.{Forest, end, tree, count}
 use Rattle.format.specs.Node.{Kind, PrimT, VarT, OptT, VecT, RecordT, VariantT, FuncT, ServT, ClassT, InitT, Labelled, Node, labelValue}
 use Rattle.format.specs.Book.{Book, trees}
@@ -24,7 +25,7 @@ use Rattle.format.specs.Fits.{placeBelow}
 use Rattle.format.specs.Occurs as occurs
 use Rattle.format.specs.Distinct.{Distinct}
 use Rattle.format.specs.Distinct as distinct
-use Rattle.format.specs.Labels.{labelId, sameLabel, keysOf, labelIds, methodNames, Labels}
+use Rattle.format.specs.Labels.{labelId, sameLabel, keysOf, Labels}
 use Rattle.format.specs.Numbered.{NodeAt, root, below, after, TreeAt, first, later}
 use Rattle.format.specs.Repeats.{OneLabel, fields, methods, RepeatAt, FirstRepeatAt, spelling, RepeatOf, hasLabels, isAmong, Repeat, none, repeat, orElse, firstRepeat, repeatVerdict, labelsVerdict}
 use Rattle.format.proofs.Logic.{is-true, of-true, clash}
@@ -380,22 +381,12 @@ module _ (names : List (List ℕ)) where
     distinct-apart (tree n kids next) d m lids i o mids j (later t) first l e = omega arith
     distinct-apart (tree n kids next) d m lids i o mids j (later t) (later u) l e = distinct-apart next (distinct-tail d) _ _ _ _ _ _ t u (omega arith) e
 
-  pub ids-keys : (f : Forest Node) → keysOf (labelId names) f ≡ labelIds names f
-  unfolding keysOf labelIds
-  ids-keys end = refl
-  ids-keys (tree n kids next) = ap (λ (l : List ℕ). labelId names (n .label) ∷ l) (ids-keys next)
-
-  pub names-keys : (f : Forest Node) → keysOf labelValue f ≡ methodNames f
-  unfolding keysOf methodNames
-  names-keys end = refl
-  names-keys (tree n kids next) = ap (λ (l : List ℕ). labelValue (n .label) ∷ l) (names-keys next)
-
   module _ (f : Forest Node) where
     pub apart-labels : ((j : ℕ) (l : Labelled) → RepeatAt names f j l → ⊥) → Labels names f
     apart-labels h =
         record {
-          fields = λ n kids o k. subst Distinct (ids-keys kids) (apart-distinct (labelId names) kids (apart n kids o (λ l m e. fields k e)));
-          methods = λ n kids o k. subst Distinct (names-keys kids) (apart-distinct labelValue kids (apart n kids o (λ l m e. methods k e)));
+          fields = λ n kids o k. apart-distinct (labelId names) kids (apart n kids o (λ l m e. fields k e));
+          methods = λ n kids o k. apart-distinct labelValue kids (apart n kids o (λ l m e. methods k e));
         }
       where
         apart : {g : Labelled → ℕ} (n : Node) (kids : Forest Node) → occurs.Occurs n kids f → ((l m : Labelled) → g l ≡ g m → OneLabel names (n .kind) l m) → Apart g kids
@@ -426,9 +417,9 @@ module _ (names : List (List ℕ)) where
       where
         go : OneLabel names (r .parent .kind) (r .earlier .label) (r .later .label) → ⊥
         go (fields k e) =
-            distinct-apart (labelId names) (r .kids) (subst Distinct (sym (ids-keys (r .kids))) (h .fields _ _ (node-occurs (r .stands)) k)) _ _ _ _ _ _ (r .one) (r .other) (r .order) e
+            distinct-apart (labelId names) (r .kids) (h .fields _ _ (node-occurs (r .stands)) k) _ _ _ _ _ _ (r .one) (r .other) (r .order) e
         go (methods k e) =
-            distinct-apart labelValue (r .kids) (subst Distinct (sym (names-keys (r .kids))) (h .methods _ _ (node-occurs (r .stands)) k)) _ _ _ _ _ _ (r .one) (r .other) (r .order) e
+            distinct-apart labelValue (r .kids) (h .methods _ _ (node-occurs (r .stands)) k) _ _ _ _ _ _ (r .one) (r .other) (r .order) e
 
 -- ---- Of a book
 module _ (b : Book) where

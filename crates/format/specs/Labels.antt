@@ -31,16 +31,12 @@ unfoldable pub keysOf : (Labelled → ℕ) → Forest Node → List ℕ
 keysOf key end = []
 keysOf key (tree n kids next) = key (n .label) ∷ keysOf key next
 
+-- The names of methods.
+abbrev pub methodNames : Forest Node → List ℕ
+methodNames f = keysOf labelValue f
+
 -- ---- Candid.md: labels of a record or variant differ by number, methods of a service by name. The Rust leaves this to its grammar; here a
 -- book with a repeat is refused with 18 (Repeats.antt).
-unfoldable pub labelIds : List (List ℕ) → Forest Node → List ℕ
-labelIds names end = []
-labelIds names (tree n kids next) = labelId names (n .label) ∷ labelIds names next
-
-unfoldable pub methodNames : Forest Node → List ℕ
-methodNames end = []
-methodNames (tree n kids next) = labelValue (n .label) ∷ methodNames next
-
 pub record Labels (names : List (List ℕ)) (f : Forest Node) : Type 0 where
-  pub fields : (n : Node) (kids : Forest Node) → Occurs n kids f → (n .kind ≡ RecordT) ⊎ (n .kind ≡ VariantT) → Distinct (labelIds names kids)
+  pub fields : (n : Node) (kids : Forest Node) → Occurs n kids f → (n .kind ≡ RecordT) ⊎ (n .kind ≡ VariantT) → Distinct (keysOf (labelId names) kids)
   pub methods : (n : Node) (kids : Forest Node) → Occurs n kids f → n .kind ≡ ServT → Distinct (methodNames kids)

@@ -1,5 +1,5 @@
--- What a declaration book is. Read in this order: Forest, Node, Book, Encode, Fits, Layout, Within, Admission;
--- References, Occurs, Numbered, Distinct, Labels and Repeats speak of trees.
+-- What a declaration book is. Read in this order: Forest, Node, Book, Encode, Fits, Layout, Within; References, Occurs, Numbered, Distinct,
+-- Labels and Repeats, which speak of trees; Admission.
 pub mod Forest
 pub mod Node
 pub mod Book

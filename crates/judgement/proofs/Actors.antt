@@ -20,7 +20,7 @@ use Rattle.format.specs.Node.{Node, labelValue}
 use Rattle.format.specs.Book.{Definition, File}
 use Rattle.format.specs.Fits.{forestFits}
 use Rattle.format.specs.Distinct.{Distinct, FirstRepeat}
-use Rattle.format.specs.Labels.{methodNames}
+use Rattle.format.specs.Labels.{keysOf, methodNames}
 use Rattle.format.specs.References as refer
 use Rattle.format.specs.References.{references}
 use Rattle.format.proofs.Trees.{fits-join}
@@ -49,7 +49,7 @@ use Rattle.judgement.proofs.Meaning.{MainStands, ImportsStand, some-tre
 
 -- ---- 14: methods of the same hash
 hashes-repeats : (names : List (List ℕ)) (seen : List ℕ) (f : Forest Node) → hashesVerdict names seen f ≡ repeats (hashOf names) SameHash seen (methodNames f)
-unfolding hashesVerdict repeats methodNames
+unfolding hashesVerdict repeats keysOf
 hashes-repeats names seen end = refl
 hashes-repeats names seen (tree n kids next) = rw (hashes-repeats names (hashOf names (labelValue (n .label)) ∷ seen) next)
 

@@ -25,7 +25,7 @@ use Rattle.judgement.specs.Environment.{Found, missing, body, findType}
 use Rattle.judgement.specs.Aliases.{aliasEnd}
 use Rattle.judgement.specs.Check.{checkForest, onceVerdict, bodiesVerdict, eachName, isCircle, circleVerdict, methodsFit, bodiesFit, decsVerdict}
 use Rattle.judgement.specs.WellFormed.{definedName, MethodsAreFunctions}
-use Rattle.judgement.specs.Rows.{Repeated, NeverEnds, HasMethod, InBodies, CircleFrom}
+use Rattle.judgement.specs.Rows.{StandsTwice, NeverEnds, HasMethod, InBodies, CircleFrom}
 use Rattle.judgement.specs.Order.{First, Sound, Fault, SoundBodies, DefinitionsRefuse, DefinitionsPass, twice, body as inBody, circle, noFunction}
 use Rattle.judgement.proofs.Lookup.{find-body, find-named, find-missing, listed-defined}
 use Rattle.judgement.proofs.Chains.{circle-says, no-circle, bound-stands}
@@ -60,13 +60,13 @@ split : {A : Type 0} {a : A} {l : List A} → List·Memᴰ a l → (xs : List A)
 split {A} (List·Memᴰ·head {xs = xs} e) = ([], xs, ap (λ (b : A). b ∷ xs) (sym e))
 split {A} (List·Memᴰ·tail {x = x} m) = let p = split m in (x ∷ p .0, p .1, ap (λ (l : List A). x ∷ l) (p .2))
 
-pub stands-again : {A : Type 0} {a : A} {l xs : List A} (ys : List A) → l ≡ xs ++ (a ∷ ys) → List·Memᴰ a xs → Repeated a l
+pub stands-again : {A : Type 0} {a : A} {l xs : List A} (ys : List A) → l ≡ xs ++ (a ∷ ys) → List·Memᴰ a xs → StandsTwice a l
 stands-again {A} {a} ys e m =
     let p = split m in
     let q = ap (λ (l : List A). l ++ (a ∷ ys)) (p .2) ∙ append-assoc (p .0) (a ∷ p .1) (a ∷ ys) in
     (p .0, p .1 ++ (a ∷ ys), e ∙ q, Memᴰ·append-right (p .1) (List·Memᴰ·head refl))
 
-pub first-repeated : {ds : List Definition} {d : Definition} → FirstRepeat definedName ds d → Repeated (d .name) (map definedName ds)
+pub first-repeated : {ds : List Definition} {d : Definition} → FirstRepeat definedName ds d → StandsTwice (d .name) (map definedName ds)
 first-repeated {ds} {d} x =
     let p : map definedName ds ≡ map definedName (x .before) ++ (d .name ∷ map definedName (x .following)) =
     ap (map definedName) (x .parts) ∙ map-append definedName (x .before) (d ∷ x .following) in

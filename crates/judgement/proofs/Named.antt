@@ -5,7 +5,7 @@
 --     row-names, init-row-names         a row's refusal names a place in the table of names
 --     check-names, init-check-names     so does what is refused
 --     repeat-names, admission-names     and the label that 18 names
---     check-bytes-names, ..             the same on bytes, which are broken or a book
+--     check-bytes-names, ..             the same on bytes, which are refused by admission or a book
 use mathlib.Core.Path.{_≡_, refl, sym, ap, subst, _∙_}
 use mathlib.Core.Logic.{_⊎_, inl, inr, ⊎-elim}
 use mathlib.Core.Bool.{true, false, not}
@@ -22,7 +22,7 @@ use Rattle.format.specs.Book.{Definition, Book}
 use Rattle.format.specs.Fits.{placeBelow, kindFits, kindAllowed, labelFits, nodeFits, forestFits, Fits}
 use Rattle.format.specs.References.{references}
 use Rattle.format.specs.Occurs.{Occurs, here, below, after, Beside, first, later}
-use Rattle.format.specs.Labels.{methodNames}
+use Rattle.format.specs.Labels.{keysOf, methodNames}
 use Rattle.format.specs.Numbered.{TreeAt}
 use Rattle.format.specs.Numbered as numbered
 use Rattle.format.specs.Repeats.{RepeatAt, spelling, RepeatOf}
@@ -84,7 +84,7 @@ module _ (names : ℕ) where
   label-named (labelled (Unnamed n)) t = absurd t
 
   pub method-named : (f : Forest Node) {k : ℕ} → T (forestFits names Method f) → List·Memᴰ k (methodNames f) → k < names
-  unfolding nodeFits methodNames
+  unfolding nodeFits keysOf
   method-named end t m = absurd (List·Memᴰ·not-nil m)
   method-named (tree n kids next) t m =
       let p = tree-fits names Method n kids next t in
@@ -92,7 +92,7 @@ module _ (names : ℕ) where
       ⊎-elim (λ e. subst (λ (j : ℕ). j < names) (sym e) (label-named (n .label) own)) (method-named next (p .2)) (List·Memᴰ·cases-cons m)
 
   beside-listed : {n : Node} {kids f : Forest Node} → Beside n kids f → List·Memᴰ (labelValue (n .label)) (methodNames f)
-  unfolding methodNames
+  unfolding keysOf
   beside-listed first = List·Memᴰ·head refl
   beside-listed (later o) = List·Memᴰ·tail (beside-listed o)
 

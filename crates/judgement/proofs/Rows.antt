@@ -3,7 +3,7 @@
 --     check-row, init-check-row        what is refused lies in its row
 --     row-refuses, init-row-refuses    what lies in a row does not pass
 --     check-numbers, init-numbers      the rows that there are
---     check-bytes-row, ..              all of this on bytes, which are broken or a book
+--     check-bytes-row, ..              all of this on bytes, which are refused by admission or a book
 use mathlib.Core.Path.{_≡_, refl, sym, ap, subst, _∙_}
 use mathlib.Core.Logic.{_⊎_, inl, inr, ⊎-elim, ⊎-map}
 use mathlib.Core.Bool.{Bool, true, false}
@@ -35,7 +35,7 @@ use Rattle.judgement.specs.Rust.{hashOf, hashesOf}
 use Rattle.judgement.specs.Meaning.{mainService, actorOf, services}
 use Rattle.judgement.specs.Order.{First, Sound, Fault, DefinitionsRefuse, DefinitionsPass, Unserved, ImportsHaveActors, CheckRefuses, InitRefuses}
 use Rattle.judgement.specs.Order as order
-use Rattle.judgement.specs.Rows.{Repeated, HasMethod, WalkRow, DefinitionsRow, TreesRow, HashRepeated, ActorRow, CheckRow, checkRows, InitRow}
+use Rattle.judgement.specs.Rows.{StandsTwice, HasMethod, WalkRow, DefinitionsRow, TreesRow, HashRepeated, ActorRow, CheckRow, checkRows, InitRow}
 use Rattle.judgement.specs.Rows as rows
 use Rattle.judgement.proofs.Lookup.{member-says}
 use Rattle.judgement.proofs.Chains.{no-circle}
@@ -159,7 +159,7 @@ pub init-check-row : (b : Book) → Fits b → {r : Refusal} → initCheck b ≡
 init-check-row b fits {r} e = ⊎-map (refuses-row b) (λ x. init-refuses-row b (x .1)) (init-refuses b fits r .0 e)
 
 -- ---- What lies in a row does not pass
-pub repeated-distinct : {A : Type 0} {a : A} {l : List A} → Repeated a l → Distinct l → ⊥
+pub repeated-distinct : {A : Type 0} {a : A} {l : List A} → StandsTwice a l → Distinct l → ⊥
 repeated-distinct {A} {a} x d = go (x .0) (subst Distinct (x .2) d)
   where
     go : (xs : List A) → Distinct (xs ++ (a ∷ x .1)) → ⊥

@@ -26,8 +26,8 @@ use Rattle.format.specs.Labels.{methodNames}
 -- ---- Rows that speak of trees and definitions alone
 
 -- a stands at a place of the list, and again after it.
-abbrev pub Repeated : {A : Type 0} → A → List A → Type 0
-Repeated {A} a l = (xs : List A) × (ys : List A) × (l ≡ xs ++ (a ∷ ys)) × List·Memᴰ a ys
+abbrev pub StandsTwice : {A : Type 0} → A → List A → Type 0
+StandsTwice {A} a l = (xs : List A) × (ys : List A) × (l ≡ xs ++ (a ∷ ys)) × List·Memᴰ a ys
 
 -- The alias chain goes on for k names, and for ever.
 abbrev pub GoesOn : List Definition → ℕ → Forest Node → Type 0
@@ -74,7 +74,7 @@ pub data WalkRow (ds : List Definition) (f : Forest Node) : Refusal → Type 0 w
   oneway : HasOneway f → WalkRow ds f OnewayResults
 
 pub data DefinitionsRow (ds : List Definition) : Refusal → Type 0 where
-  twice : {n : ℕ} → Repeated n (map definedName ds) → DefinitionsRow ds (Twice n)
+  twice : {n : ℕ} → StandsTwice n (map definedName ds) → DefinitionsRow ds (Twice n)
   walked : {r : Refusal} → InBodies ds (λ f. WalkRow ds f r) → DefinitionsRow ds r
   circle : {n : ℕ} → CircleFrom ds n → DefinitionsRow ds (Circle n)
   noFunction : {n : ℕ} → InBodies ds (HasMethod ds n) → DefinitionsRow ds NoFunction

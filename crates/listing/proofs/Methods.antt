@@ -22,7 +22,7 @@ use Rattle.judgement.specs.Actor.{isServiceImport, serviceImports, isClassKind,
 use Rattle.judgement.specs.Resolve.{methodsOf, importedMethods, mergedActor, resolveWith, resolveActor}
 use Rattle.judgement.specs.Check.{check}
 use Rattle.format.specs.Distinct.{Distinct}
-use Rattle.format.specs.Labels.{methodNames}
+use Rattle.format.specs.Labels.{keysOf, methodNames}
 use Rattle.judgement.specs.WellFormed.{Leads, arrived, onward}
 use Rattle.judgement.specs.Rust.{hashOf, hashesOf}
 use Rattle.format.proofs.Distinct.{pigeonhole}
@@ -73,7 +73,7 @@ first-count (f ∷ fs) = omega (arith, count-beside (f .actor) (actors fs))
 
 -- hashes that differ are no more than there are names, and one
 names-long : (f : Forest Node) → length (methodNames f) ≡ breadth f
-unfolding methodNames breadth
+unfolding keysOf breadth
 names-long end = refl
 names-long (tree n kids next) = ap suc (names-long next)
 

@@ -2,7 +2,7 @@
 -- fits; one that was read from bytes does.
 --     reachable-named                     a reachable name is one of the book
 --     list-names, init-list-names, ..     of each question
---     list-bytes-names, ..                the same on bytes, which are broken or a book
+--     list-bytes-names, ..                the same on bytes, which are refused by admission or a book
 use mathlib.Core.Path.{_≡_, refl, subst}
 use mathlib.Core.Logic.{inl, inr}
 use mathlib.Core.List.{List, List·Memᴰ}

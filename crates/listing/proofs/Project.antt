@@ -35,7 +35,7 @@ use Rattle.judgement.specs.Actor.{isServiceImport, serviceImports, firstActor, 
 use Rattle.judgement.specs.Resolve.{resolveWith, resolveActor}
 use Rattle.judgement.specs.Check.{modesVerdict, kindVerdict, methodVerdict, checkForest, member, onceVerdict, bodiesVerdict, eachName, circleVerdict, bodiesFit, decsVerdict, importsVerdict, resolveVerdict, check}
 use Rattle.judgement.specs.Check as judged
-use Rattle.format.specs.Labels.{methodNames}
+use Rattle.format.specs.Labels.{keysOf, methodNames}
 use Rattle.format.specs.Distinct.{Ascends}
 use Rattle.judgement.proofs.Lookup.{member-says}
 use Rattle.format.proofs.Distinct.{ascends-unique}
@@ -115,7 +115,7 @@ shrink-times remove removes n l k = go (member n l) (member-times n l)
 
 -- ---- Methods in order, by their names
 pub project-by : (i : ℕ) (f : Forest Node) (asked : List ℕ) → projectFrom i f asked ≡ projectBy without i (methodNames f) asked
-unfolding projectFrom projectBy methodNames shrink
+unfolding projectFrom projectBy keysOf shrink
 project-by i end asked = refl
 project-by i (tree n kids next) asked =
     let name = labelValue (n .label) in
@@ -338,7 +338,7 @@ any-removal remove remove′ removes removes′ i names xs ys s =
 
 -- ---- The question
 pub names-length : (f : Forest Node) → length (methodNames f) ≡ breadth f
-unfolding methodNames breadth
+unfolding keysOf breadth
 names-length end = refl
 names-length (tree n kids next) = ap suc (names-length next)
 

@@ -16,7 +16,7 @@ use Rattle.judgement.specs.Environment.{keep}
 use Rattle.judgement.specs.Actor.{mainActor}
 use Rattle.judgement.specs.Check.{onceVerdict}
 use Rattle.judgement.specs.WellFormed.{definedName, Defined}
-use Rattle.judgement.specs.Rows.{Repeated}
+use Rattle.judgement.specs.Rows.{StandsTwice}
 use Rattle.listing.specs.Chase.{chaseTypes, walked}
 use Rattle.listing.specs.References.{Reachable, Misses}
 use Rattle.listing.specs.Room.{needsActor, ShortRow, EachOnce}
@@ -40,7 +40,7 @@ pub data DraftRefuses (b : Book) : Refusal → Type 0 where
 -- Its rows: 17 of main's actor as written, 2, 3 of a reachable name, and 16.
 pub data DraftRow (b : Book) (places : ℕ) : Refusal → Type 0 where
   noActor : mainActor b ≡ end → DraftRow b places NoActor
-  twice : {n : ℕ} → Repeated n (map definedName (draftDefinitions b)) → DraftRow b places (Twice n)
+  twice : {n : ℕ} → StandsTwice n (map definedName (draftDefinitions b)) → DraftRow b places (Twice n)
   unbound : {n : ℕ} → Reachable (draftDefinitions b) (mainActor b) n × (Defined (draftDefinitions b) n → ⊥) → DraftRow b places (Unbound n)
   short : {k : ℕ} → ShortRow places (draftList b) (EachOnce (Reachable (draftDefinitions b) (mainActor b))) k → DraftRow b places (Short k)
 

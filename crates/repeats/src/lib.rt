@@ -144,7 +144,8 @@ fn child(rows: &[u8], from: usize, d: usize) -> usize
     i
 }
 
-// The first child of node i whose key an earlier one has, if it is lower than `lowest`; else `lowest`.
+// The first child of node i whose key an earlier one has, if it is lower than `lowest`; else `lowest`. (In `search` it always is: node i then
+// stands below an earlier sibling of `lowest`. The comparison spares the proof of that.)
 fn repeat_below(
     book: &[u8],
     rows: &[u8],

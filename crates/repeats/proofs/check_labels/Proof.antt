@@ -1,5 +1,5 @@
 -- `check_labels` meets its contract: the label of the node that is found is what is named. Assumes nothing.
-use mathlib.Core.Path.{_≡_, subst, ap, sym, _∙_}
+use mathlib.Core.Path.{subst, ap, sym, _∙_}
 use mathlib.Core.List.{List}
 use Prim.Native.Nat.{ℕ, _+_}
 use native.Mathlib.Omega.{arith}
