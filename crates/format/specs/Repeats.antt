@@ -26,7 +26,7 @@ pub data OneLabel (names : List (List ℕ)) (k : Kind) (l m : Labelled) : Type 0
   fields : (k ≡ RecordT) ⊎ (k ≡ VariantT) → labelId names l ≡ labelId names m → OneLabel names k l m
   methods : k ≡ ServT → labelValue l ≡ labelValue m → OneLabel names k l m
 
--- Node j of the trees has the label l, and so has an earlier child of its parent, which is node `at`.
+-- Node j of the trees is a child of node `at` and has the label l; it has one label with an earlier child of that node.
 pub record RepeatAt (names : List (List ℕ)) (f : Forest Node) (j : ℕ) (l : Labelled) : Type 0 where
   pub parent : Node
   pub kids : Forest Node
