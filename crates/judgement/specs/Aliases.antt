@@ -5,7 +5,7 @@ use mathlib.Core.List.{List, [], _∷_}
 use Prim.Native.Nat.{ℕ, zero, suc}
 use lib.ListN.{length}
 use Rattle.format.specs.Forest.{Forest, end, tree}
-use Rattle.format.specs.Node.{Kind, Node}
+use Rattle.format.specs.Node.{Kind, VarT, unlabelled, Node}
 use Rattle.format.specs.Book.{Definition}
 use Rattle.judgement.specs.Environment.{Found, missing, body, findType, Head, named, other, head, isFuncKind, isServKind}
 
@@ -44,6 +44,14 @@ chain ds t = chainFrom (length ds) ds t
 
 unfoldable pub aliasEnd : List Definition → Forest Node → End
 aliasEnd ds t = chain ds t .last
+
+-- The length of a chain: how many names it crosses. A class adds none, since it is what stands below its top (`belowClass`) that is followed.
+unfoldable pub aliasLength : List Definition → Forest Node → ℕ
+aliasLength ds t = length (chain ds t .crossed)
+
+-- The type that is a name, and no more.
+abbrev pub nameType : ℕ → Forest Node
+nameType n = tree (record { kind = VarT n; label = unlabelled }) end end
 
 -- ---- `as_func` and `as_service`: what stands at a chain's end
 
