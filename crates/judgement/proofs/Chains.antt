@@ -67,7 +67,7 @@ module _ (ds : List Definition) where
   unfolding chainFrom link met
   chain-out s = rw (s .is-name, s .is-type)
 
-  chain-on : {t u : Forest Node} {n : ℕ} → Step t n u → (k : ℕ) → chainFrom (suc k) ds t ≡ cross n (chainFrom k ds u)
+  pub chain-on : {t u : Forest Node} {n : ℕ} → Step t n u → (k : ℕ) → chainFrom (suc k) ds t ≡ cross n (chainFrom k ds u)
   unfolding chainFrom link met
   chain-on s k = rw (s .is-name, s .is-type)
 
@@ -146,12 +146,13 @@ module _ (ds : List Definition) where
     pub short : length (c .crossed) ≤ k
     pub either : Run t (c .crossed) (c .last) ⊎ ((c .last ≡ circle) × GoesOn ds (suc k) t)
 
-  data Next : Forest Node → Type 0 where
+  -- What stands at a type's head: no name, one without definition, or one with.
+  pub data Next : Forest Node → Type 0 where
     noName : {t : Forest Node} → head t ≡ other → Next t
     noType : {t : Forest Node} {n : ℕ} → Lost t n → Next t
     someType : {t u : Forest Node} {n : ℕ} → Step t n u → Next t
 
-  next : (t : Forest Node) → Next t
+  pub next : (t : Forest Node) → Next t
   next t = go (head t) refl
     where
       go : (h : Head) → head t ≡ h → Next t

@@ -2,6 +2,7 @@
 pub mod Lookup
 pub mod Heads
 pub mod Chains
+pub mod Lengths
 pub mod Says
 pub mod Each
 pub mod Walks
