@@ -5,10 +5,9 @@ use mathlib.Core.List.{List}
 use Prim.Native.Nat.{ℕ}
 use borrow.Author.Tests.{ne-eqb}
 use lib.Dec.{eqb}
-use lib.ListN.{getD}
 use Rattle.format.specs.Encode.{Row}
 use Rattle.format.specs.Layout.{rowAt}
-use Rattle.environment.specs.Tables.{endIs}
+use Rattle.environment.specs.Tables.{endIn, endIs}
 
 module _ (kind : ℕ) (ns ends′ : List ℕ) (node : ℕ) (r : Row) (is : r ≡ rowAt ns node) where
   pub is-other : (r .kind ≡ 18 → ⊥) → eqb (r .kind) kind ≡ endIs kind ns ends′ node
@@ -16,11 +15,11 @@ module _ (kind : ℕ) (ns ends′ : List ℕ) (node : ℕ) (r : Row) (is : r ≡
   is-other h = rw (← is, ne-eqb (r .kind) 18 h)
 
   module _ (h : r .kind ≡ 18) where
-    pub is-none : getD ends′ (r .value) 65535 ≡ 65535 → false ≡ endIs kind ns ends′ node
+    pub is-none : endIn ends′ (r .value) ≡ 65535 → false ≡ endIs kind ns ends′ node
     unfolding endIs
     is-none e = rw (← is, h, e)
 
-    module _ (some : getD ends′ (r .value) 65535 ≡ 65535 → ⊥) where
-      pub is-end : (e : ℕ) → e ≡ getD ends′ (r .value) 65535 → (q : Row) → q ≡ rowAt ns e → eqb (q .kind) kind ≡ endIs kind ns ends′ node
+    module _ (some : endIn ends′ (r .value) ≡ 65535 → ⊥) where
+      pub is-end : (e : ℕ) → e ≡ endIn ends′ (r .value) → (q : Row) → q ≡ rowAt ns e → eqb (q .kind) kind ≡ endIs kind ns ends′ node
       unfolding endIs
-      is-end e i q w = rw (← is, h, ne-eqb (getD ends′ (r .value) 65535) 65535 some, ← i, w)
+      is-end e i q w = rw (← is, h, ne-eqb (endIn ends′ (r .value)) 65535 some, ← i, w)

@@ -2,7 +2,7 @@
 use mathlib.Core.Path.{_≡_, refl, sym, ap, subst, _∙_}
 use mathlib.Core.Bool.{false, not}
 use mathlib.Core.List.{List}
-use Prim.Native.Nat.{ℕ, suc, _+_, _-_, _≤_, _<_}
+use Prim.Native.Nat.{ℕ, suc, _+_, _-_, _%_, _≤_, _<_}
 use native.Mathlib.Nat.{sub-zero}
 use native.Mathlib.Numerals.{add-one}
 use native.Mathlib.Decide.{ℕ-discrete, decLt}
@@ -18,7 +18,7 @@ use Rattle.judgement.specs.Environment.{Found, missing, body, findType}
 use Rattle.judgement.specs.Aliases.{End, unbound, circle, ends}
 use Rattle.judgement.specs.Check.{eachName, isCircle, circleVerdict}
 use Rattle.book.specs.Tables.{blankTable}
-use Rattle.environment.specs.Tables.{Binds, nameEnd, EndAt, EndKnown, FollowedAs, Unfinished, endBefore, Unbegun, NotedAs, AliasEndsAs}
+use Rattle.environment.specs.Tables.{Binds, nameEnd, endIn, EndAt, EndKnown, FollowedAs, Unfinished, endBefore, Unbegun, NotedAs, AliasEndsAs}
 use Rattle.environment.proofs.Links.{getD-within}
 use Rattle.environment.proofs.Names.{none-known}
 use Rattle.book.proofs.Blank.{blank-length, blank-at}
@@ -128,9 +128,9 @@ module _ {ns roots : List ℕ} {names count definitions : ℕ} (few : names ≤ 
         left = λ e. absurd (e refl);
       }
     where
-      node′ : (m : ℕ) → (getD ends′ m 65535 ≡ 65535 → ⊥) → Dec (m < names) → getD ends′ m 65535 < count
+      node′ : (m : ℕ) → (endIn ends′ m ≡ 65535 → ⊥) → Dec (m < names) → endIn ends′ m < count
       node′ m q (yes i) = s .table .known m i (s .done m (omega arith)) .node q
-      node′ m q (no i) = absurd (q (s .table .beyond m (omega arith)))
+      node′ m q (no i) = absurd (q (ap (λ (e : ℕ). e % 65536) (s .table .beyond m (omega arith))))
 
   module _ (h : n < names) (e : ℕ) (x : FollowedAs ns roots count definitions n e) where
     pub ends-circle : e ≡ 65534 → {after : List ℕ} → after ≡ blankTable → AliasEndsAs ns roots names count definitions after n
@@ -151,7 +151,7 @@ module _ {ns roots : List ℕ} {names count definitions : ℕ} (few : names ≤ 
           passed = omega arith;
           table = w .table;
           rest = λ ds b l.
-              sym (each-cons (verdicts ds) n names h ∙ rw (by-end ds n (findType ds n), ended-passes ns e (nameEnd ds n (findType ds n)) (x .known c .is ds b)))
+              sym (each-cons (verdicts ds) n names h ∙ rw (by-end ds n (findType ds n), ended-passes ns (e % 65536) (nameEnd ds n (findType ds n)) (x .known c .is ds b .end)))
               ∙ s .rest ds b l;
           done = λ m i. done′ m i (ℕ-discrete m n);
         }

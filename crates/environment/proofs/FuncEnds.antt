@@ -8,7 +8,7 @@ use Prim.Native.Nat.{ℕ, _<_}
 use native.Mathlib.Decide.{ℕ-discrete}
 use native.Mathlib.Omega.{arith}
 use lib.Dec.{eqb}
-use lib.ListN.{length, getD}
+use lib.ListN.{length}
 use Rattle.format.specs.Forest.{Forest, tree}
 use Rattle.format.specs.Node.{Kind, Node}
 use Rattle.format.specs.Book.{Definition}
@@ -18,8 +18,8 @@ use Rattle.format.proofs.References.{kind-alone}
 use Rattle.format.proofs.Stored.{tree-opens}
 use Rattle.judgement.specs.Environment.{findType, other, head, isFuncKind}
 use Rattle.judgement.specs.Aliases.{End, unbound, circle, ends, chain, aliasEnd, rootPasses, asFunc}
-use Rattle.environment.specs.Tables.{Nodes, Binds, nameEnd, EndAt, AliasEndsAs, endIs}
-use Rattle.environment.proofs.Links.{chain-other, head-var, head-other}
+use Rattle.environment.specs.Tables.{Nodes, Binds, nameEnd, endIn, EndAt, AliasEndsAs, endIs}
+use Rattle.environment.proofs.Links.{lastOf, chain-other, head-var, head-other}
 use Rattle.environment.proofs.Names.{to-name}
 use Rattle.environment.proofs.EndKinds.{is-other, is-none, is-end}
 
@@ -27,7 +27,7 @@ use Rattle.environment.proofs.EndKinds.{is-other, is-none, is-end}
 module _ (ds : List Definition) where
   pub stays : (t : Forest Node) → head t ≡ other → aliasEnd ds t ≡ ends t
   unfolding aliasEnd chain
-  stays t h = chain-other ds t (length ds) h
+  stays t h = ap lastOf (chain-other ds t (length ds) h)
 
 -- of a node
 module _ {ns : List ℕ} {names count : ℕ} (x : Nodes ns names count) (ds : List Definition) {n : ℕ} (h : n < count) where
@@ -46,12 +46,12 @@ module _ (test : Kind → Bool) (kind : ℕ) (says : (k v : ℕ) → test (kindO
   module _ {ns roots ends′ : List ℕ} {names count definitions : ℕ} (x : Nodes ns names count) (a : AliasEndsAs ns roots names count definitions ends′ 65535)
       (ds : List Definition) (b : Binds ns roots ds) (l : length ds ≡ definitions) (n : ℕ) (h : n < count) where
     -- a node that is a name, by what the table has for it
-    by-end : rowAt ns n .kind ≡ 18 → (e : End) → EndAt ns (getD ends′ (rowAt ns n .value) 65535) e → endIs kind ns ends′ n ≡ rootPasses test e
+    by-end : rowAt ns n .kind ≡ 18 → (e : End) → EndAt ns (endIn ends′ (rowAt ns n .value)) e → endIs kind ns ends′ n ≡ rootPasses test e
     unfolding rootPasses
     by-end k (unbound m) q = sym (is-none kind ns ends′ n (rowAt ns n) refl k q)
     by-end k circle q = absurd q
     by-end k (ends t) q =
-        let e = getD ends′ (rowAt ns n .value) 65535 in
+        let e = endIn ends′ (rowAt ns n .value) in
         sym (is-end kind ns ends′ n (rowAt ns n) refl k (q .0) e refl (rowAt ns e) refl)
         ∙ sym (root-kind (x .tree e (a .nodes refl .node (rowAt ns n .value) (q .0)) .whole))
         ∙ ap (λ (u : Forest Node). rootPasses test (ends u)) (sym (q .1))
@@ -63,7 +63,7 @@ module _ (test : Kind → Bool) (kind : ℕ) (says : (k v : ℕ) → test (kindO
         go (yes k) =
             let v = rowAt ns n .value in
             let c = a .all refl ds b l in
-            by-end k (nameEnd ds v (findType ds v)) (c v (x .row n h .name k)) ∙ ap (rootPasses test) (sym (name-ends x ds h k))
+            by-end k (nameEnd ds v (findType ds v)) (c v (x .row n h .name k) .end) ∙ ap (rootPasses test) (sym (name-ends x ds h k))
         go (no k) =
             sym (is-other kind ns ends′ n (rowAt ns n) refl k)
             ∙ sym (root-kind (x .tree n h .whole))

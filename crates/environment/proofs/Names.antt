@@ -1,29 +1,37 @@
--- The end of a name's chain, found at the names that the chain crosses. Assumes nothing.
+-- The end of a name's chain and its length, found at the names that the chain crosses. Assumes nothing.
 --     to-name, name-next                  a type that is a name has that name's end
+--     longer, alone, unnamed              and its chain is one name longer than that of the next
 --     Follows, follow-start, ..           the loop that follows a name's chain as far as a name whose end is known
 --     Notes, note-start, ..               the loop that writes the end down for the names on it
 use mathlib.Core.Path.{_≡_, refl, sym, ap, subst, _∙_}
 use mathlib.Core.Logic.{⊎-elim, inl, inr}
 use mathlib.Core.Bool.{cond}
 use mathlib.Core.List.{List, [], _∷_}
-use Prim.Native.Nat.{ℕ, zero, suc, _+_, _-_, _≤_, _<_}
+use Prim.Native.Nat.{ℕ, zero, suc, _+_, _-_, _*_, _/_, _%_, _≤_, _<_}
+use native.Mathlib.Nat.{le-refl}
 use native.Mathlib.Decide.{ℕ-discrete}
 use native.Mathlib.Omega.{arith}
 use borrow.Author.Tests.{ne-eqb}
 use lib.Dec.{eqb}
 use lib.ListN.{length, getD, set, length-set}
 use lib.Seq.{getD-set-same, getD-set-other}
-use Rattle.format.specs.Forest.{Forest, end, tree}
-use Rattle.format.specs.Node.{VarT, unlabelled, Node}
+use Rattle.format.specs.Forest.{Forest}
+use Rattle.format.specs.Node.{Node}
 use Rattle.format.specs.Book.{Definition}
 use Rattle.format.specs.Encode.{Row}
 use Rattle.format.specs.Layout.{rowAt}
 use Rattle.format.specs.Whole.{Within, treeAt}
 use Rattle.judgement.specs.Environment.{Found, missing, body, findType, named, other, headKind, head}
-use Rattle.judgement.specs.Aliases.{unbound, circle, ends, link, chainFrom, chain, aliasEnd}
+use Rattle.judgement.specs.Aliases.{End, unbound, circle, ends, link, chainFrom, chain, aliasEnd, aliasLength, nameType}
+use Rattle.judgement.proofs.Lookup.{find-missing}
 use Rattle.judgement.proofs.Chains.{crosses, outcome, run-end}
-use Rattle.environment.specs.Tables.{Nodes, Roots, Binds, nameEnd, EndAt, EndKnown, FollowedAs, Unfinished, NotedAs}
-use Rattle.environment.proofs.Links.{chain-other, chain-unbound, chain-circle, chain-on, head-var, head-other, found-none, found-some, getD-within, in-table}
+use Rattle.judgement.proofs.Lengths.{crossed-other, crossed-missing, crossed-on, crossed-same, crossed-most}
+use Rattle.environment.specs.Tables.{Nodes, Roots, Binds, nameEnd, EndAt, ChainAt, EndKnown, FollowedAs, Unfinished, NotedAs}
+use Rattle.environment.proofs.Links.{lastOf, chain-other, chain-unbound, chain-circle, chain-on, head-var, head-other, found-none, found-some, getD-within, in-table}
+
+pub is-named : (n : ℕ) → head (nameType n) ≡ named n
+unfolding head headKind
+is-named n = refl
 
 module _ (ds : List Definition) where
   -- a chain that never ends does not end where it crosses fewer names
@@ -33,8 +41,8 @@ module _ (ds : List Definition) where
   -- ---- a type that is a name
   module _ (t : Forest Node) (n : ℕ) (h : head t ≡ named n) where
     never-on : (u : Forest Node) → findType ds n ≡ body u → aliasEnd ds u ≡ circle → (k : ℕ) → chainFrom k ds t .last ≡ circle
-    never-on u f c zero = chain-circle ds t n h u f
-    never-on u f c (suc k) = chain-on ds t n h u (suc k) f (omega arith) ∙ never-sooner (suc k - 1) u c
+    never-on u f c zero = ap lastOf (chain-circle ds t n h u f)
+    never-on u f c (suc k) = ap lastOf (chain-on ds t n h u (suc k) f (omega arith)) ∙ never-sooner (suc k - 1) u c
 
     goes-on : (u : Forest Node) → findType ds n ≡ body u → aliasEnd ds t ≡ aliasEnd ds u
     unfolding aliasEnd chain
@@ -46,7 +54,7 @@ module _ (ds : List Definition) where
 
     by-found : (f : Found) → findType ds n ≡ f → aliasEnd ds t ≡ nameEnd ds n f
     unfolding nameEnd aliasEnd chain
-    by-found missing f = chain-unbound ds t n h (length ds) f
+    by-found missing f = ap lastOf (chain-unbound ds t n h (length ds) f)
     by-found (body u) f = goes-on u f
 
     pub to-name : aliasEnd ds t ≡ nameEnd ds n (findType ds n)
@@ -66,38 +74,62 @@ module _ (ds : List Definition) where
 
   name-stops : (n : ℕ) (u : Forest Node) → findType ds n ≡ body u → head u ≡ other → nameEnd ds n (findType ds n) ≡ ends u
   unfolding aliasEnd chain
-  name-stops n u f h = name-body n u f ∙ chain-other ds u (length ds) h
+  name-stops n u f h = name-body n u f ∙ ap lastOf (chain-other ds u (length ds) h)
 
--- ---- a type that is a name and no more
-abbrev nameTree : ℕ → Forest Node
-nameTree n = tree (record { kind = VarT n; label = unlabelled }) end end
+  -- ---- how many names are crossed
+  unnamed : (n : ℕ) → findType ds n ≡ missing → aliasLength ds (nameType n) ≡ 0
+  unfolding aliasLength
+  unnamed n f = ap length (crossed-missing ds (nameType n) n (is-named n) (find-missing ds n f))
 
-is-named : (n : ℕ) → head (nameTree n) ≡ named n
-unfolding head headKind
-is-named n = refl
+  alone : (n : ℕ) (u : Forest Node) → findType ds n ≡ body u → head u ≡ other → aliasLength ds (nameType n) ≡ 1
+  unfolding aliasLength
+  alone n u f h =
+      ap length (crossed-on ds (nameType n) u n (is-named n) f (λ c. let z : ends u ≡ circle = sym (name-stops n u f h) ∙ name-body n u f ∙ c in let y : _≡_ {A = ℕ} 0 1 = cc in omega arith))
+      ∙ ap (λ (l : List ℕ). suc (length l)) (crossed-other ds u h)
 
-same-chain : (ds : List Definition) (t : Forest Node) (n : ℕ) → head t ≡ named n → (k : ℕ) → chainFrom k ds t .last ≡ chainFrom k ds (nameTree n) .last
+  longer : (n m : ℕ) (u : Forest Node) → findType ds n ≡ body u → head u ≡ named m → (nameEnd ds m (findType ds m) ≡ circle → ⊥) →
+      aliasLength ds (nameType n) ≡ suc (aliasLength ds (nameType m))
+  unfolding aliasLength
+  longer n m u f h e =
+      ap length (crossed-on ds (nameType n) u n (is-named n) f (λ c. e (sym (to-name u m h) ∙ c)))
+      ∙ ap (λ (l : List ℕ). suc (length l)) (crossed-same ds u (nameType m) m h (is-named m))
+
+same-chain : (ds : List Definition) (t : Forest Node) (n : ℕ) → head t ≡ named n → (k : ℕ) → lastOf (chainFrom k ds t) ≡ lastOf (chainFrom k ds (nameType n))
 unfolding chainFrom link head headKind
 same-chain ds t n h zero = rw h
 same-chain ds t n h (suc k) = rw h
 
-name-end : (ds : List Definition) (n : ℕ) → nameEnd ds n (findType ds n) ≡ chainFrom (length ds) ds (nameTree n) .last
+name-end : (ds : List Definition) (n : ℕ) → nameEnd ds n (findType ds n) ≡ lastOf (chainFrom (length ds) ds (nameType n))
 unfolding aliasEnd chain
-name-end ds n = sym (to-name ds (nameTree n) n (is-named n))
+name-end ds n = sym (to-name ds (nameType n) n (is-named n))
 
--- ---- following: what is left of the chain, from name m on, ends where all of it does
-pub record Follows (ns roots : List ℕ) (names definitions n m k : ℕ) : Type 0 where
+-- ---- following: what is left of the chain, from name m on, ends where all of it does; `far` counts the names before
+pub record Follows (ns roots : List ℕ) (names definitions n m k far : ℕ) : Type 0 where
   pub inside : m < names
-  pub fuel : (ds : List Definition) → Binds ns roots ds → chainFrom k ds (nameTree m) .last ≡ chainFrom definitions ds (nameTree n) .last
+  pub fewer : k ≤ definitions
+  pub far-is : far ≡ (definitions - k) * 65536
+  pub fuel : (ds : List Definition) → Binds ns roots ds → lastOf (chainFrom k ds (nameType m)) ≡ lastOf (chainFrom definitions ds (nameType n))
   pub same : (ds : List Definition) → Binds ns roots ds → nameEnd ds m (findType ds m) ≡ nameEnd ds n (findType ds n)
+  pub crossed : (ds : List Definition) → Binds ns roots ds → (nameEnd ds m (findType ds m) ≡ circle → ⊥) →
+      aliasLength ds (nameType n) ≡ definitions - k + aliasLength ds (nameType m)
 
-pub follow-start : (ns roots : List ℕ) (names definitions n : ℕ) → n < names → Follows ns roots names definitions n n definitions
-follow-start ns roots names definitions n h = record { inside = h; fuel = λ ds b. refl; same = λ ds b. refl }
+pub follow-start : (ns roots : List ℕ) (names definitions n : ℕ) → n < names → Follows ns roots names definitions n n definitions 0
+follow-start ns roots names definitions n h =
+    record { inside = h; fewer = le-refl definitions; far-is = omega arith; fuel = λ ds b. refl; same = λ ds b. refl; crossed = λ ds b z. omega arith }
 
--- an end that is known of a later name
-known-same : {ns roots : List ℕ} {count n m e : ℕ} → EndKnown ns roots count m e →
-    ((ds : List Definition) → Binds ns roots ds → nameEnd ds m (findType ds m) ≡ nameEnd ds n (findType ds n)) → EndKnown ns roots count n e
-known-same {ns} {e = e} q s = record { node = q .node; is = λ ds b. subst (EndAt ns e) (s ds b) (q .is ds b) }
+-- an end that is known is no circle
+known-ends : {ns : List ℕ} {ds : List Definition} {n e : ℕ} → ChainAt ns ds n e → nameEnd ds n (findType ds n) ≡ circle → ⊥
+known-ends {ns} {e = e} q c = subst (EndAt ns (e % 65536)) c (q .end)
+
+-- of a name so many names before one whose entry is known, or after
+module _ {ns roots : List ℕ} {count n m e d : ℕ} (same : (ds : List Definition) → Binds ns roots ds → nameEnd ds m (findType ds m) ≡ nameEnd ds n (findType ds n)) where
+  known-same : EndKnown ns roots count m e → d % 65536 ≡ e % 65536 → ((ds : List Definition) → Binds ns roots ds → ChainAt ns ds m e → d / 65536 ≡ aliasLength ds (nameType n)) →
+      EndKnown ns roots count n d
+  known-same q low high =
+      record {
+        node = λ h. rw low (q .node (λ z. h (low ∙ z)));
+        is = λ ds b. record { end = rw low (subst (EndAt ns (e % 65536)) (same ds b) (q .is ds b .end)); crossed = high ds b (q .is ds b) };
+      }
 
 -- the marker is no end
 known-no-marker : {ns roots : List ℕ} {count n e : ℕ} → count ≤ 4096 → EndKnown ns roots count n e → e ≡ 65534 → ⊥
@@ -108,7 +140,9 @@ pub none-known : {ns roots : List ℕ} {count n : ℕ} → getD roots n 65535 �
 none-known {ns} {roots} {n = n} e =
     record {
       node = λ h. absurd (h refl);
-      is = λ ds b. subst (EndAt ns 65535) (sym (name-missing ds n (b n ∙ found-none ns (getD roots n 65535) e))) refl;
+      is = λ ds b.
+          let f = b n ∙ found-none ns (getD roots n 65535) e in
+          record { end = subst (EndAt ns 65535) (sym (name-missing ds n f)) refl; crossed = sym (unnamed ds n f) };
     }
 
 -- what is read of the tables
@@ -139,14 +173,18 @@ module _ {ns roots : List ℕ} {names count : ℕ} (x : Nodes ns names count) (y
   root-body ds b = b m ∙ found-some ns (getD roots m 65535) some ∙ ap (λ (i : ℕ). body (treeAt ns i)) (sym in-roots)
 
   module _ (r : Row) (is : r ≡ rowAt ns (getD roots m 0)) where
-    type-known : (r .kind ≡ 18 → ⊥) → EndKnown ns roots count m (getD roots m 0)
+    type-known : (r .kind ≡ 18 → ⊥) → EndKnown ns roots count m (getD roots m 0 + 65536)
     type-known k =
         let t = treeAt ns (getD roots m 0) in
+        let low : (getD roots m 0 + 65536) % 65536 ≡ getD roots m 0 = omega (arith, root-inside, x .fewNodes) in
         record {
-          node = λ h. root-inside;
+          node = λ h. rw low root-inside;
           is = λ ds b.
-              subst (EndAt ns (getD roots m 0)) (sym (name-stops ds m t (root-body ds b) (head-other (x .tree (getD roots m 0) root-inside .whole) r is k)))
-              (λ e. some (sym in-roots ∙ e), refl);
+              let o = head-other (x .tree (getD roots m 0) root-inside .whole) r is k in
+              record {
+                end = rw low (subst (EndAt ns (getD roots m 0)) (sym (name-stops ds m t (root-body ds b) o)) (λ e. some (sym in-roots ∙ e), refl));
+                crossed = omega (arith, root-inside, x .fewNodes, alone ds m t (root-body ds b) o);
+              };
         }
 
     module _ (k : r .kind ≡ 18) where
@@ -159,14 +197,35 @@ module _ {ns roots : List ℕ} {names count : ℕ} (x : Nodes ns names count) (y
       next-same : (ds : List Definition) → Binds ns roots ds → nameEnd ds m (findType ds m) ≡ nameEnd ds (r .value) (findType ds (r .value))
       next-same ds b = name-next ds m (r .value) (treeAt ns (getD roots m 0)) (root-body ds b) next-head
 
+      next-longer : (ds : List Definition) → Binds ns roots ds → (nameEnd ds (r .value) (findType ds (r .value)) ≡ circle → ⊥) →
+          aliasLength ds (nameType m) ≡ suc (aliasLength ds (nameType (r .value)))
+      next-longer ds b = longer ds m (r .value) (treeAt ns (getD roots m 0)) (root-body ds b) next-head
+
 -- of a chain that ends
 found : {ns roots : List ℕ} {count definitions n e : ℕ} → count ≤ 4096 → EndKnown ns roots count n e → FollowedAs ns roots count definitions n e
 found few q = record { never = λ e. absurd (known-no-marker few q e); known = λ h. q }
 
-module _ {ns roots : List ℕ} {names count definitions n m k : ℕ} (x : Nodes ns names count) (y : Roots roots count)
-    {ends′ : List ℕ} (u : Unfinished ns roots names count ends′) (l : Follows ns roots names definitions n m k) where
-  pub follow-known : (getD ends′ m 0 ≡ 65534 → ⊥) → FollowedAs ns roots count definitions n (getD ends′ m 0)
-  follow-known h = let i = in-ends x (l .inside) u in found (x .fewNodes) (known-same (rw i (u .known m (l .inside) (λ z. h (i ∙ z)))) (l .same))
+module _ {ns roots : List ℕ} {names count definitions n m k far : ℕ} (x : Nodes ns names count) (y : Roots roots count)
+    {ends′ : List ℕ} (u : Unfinished ns roots names count ends′) (l : Follows ns roots names definitions n m k far) where
+  -- what is known of the name that was come to is known of the first, with the names before counted
+  back : {e : ℕ} → EndKnown ns roots count m e → FollowedAs ns roots count definitions n (e + far)
+  back {e} q =
+      found (x .fewNodes)
+      (known-same (l .same) q (omega (arith, l .far-is)) (λ ds b c. omega (arith, l .far-is, c .crossed, l .crossed ds b (known-ends c))))
+
+  -- the sums are numbers of 32 bits
+  module _ (few : definitions ≤ 1024) where
+    pub far-small : far ≤ 67108864
+    far-small = omega (arith, l .far-is)
+
+    pub known-small : (ds : List Definition) → Binds ns roots ds → length ds ≡ definitions → (getD ends′ m 0 ≡ 65534 → ⊥) → getD ends′ m 0 < 67174400
+    known-small ds b s h =
+        let i = in-ends x (l .inside) u in
+        let c = u .known m (l .inside) (λ z. h (i ∙ z)) .is ds b in
+        omega (arith, i, c .crossed, crossed-most ds (nameType m))
+
+  pub follow-known : (getD ends′ m 0 ≡ 65534 → ⊥) → FollowedAs ns roots count definitions n (getD ends′ m 0 + far)
+  follow-known h = let i = in-ends x (l .inside) u in back (rw i (u .known m (l .inside) (λ z. h (i ∙ z))))
 
   module _ (h : getD ends′ m 0 ≡ 65534) where
     some′ : getD roots m 65535 ≡ 65535 → ⊥
@@ -176,25 +235,32 @@ module _ {ns roots : List ℕ} {names count definitions n m k : ℕ} (x : Nodes 
     follow-never z =
         record {
           never = λ e ds b s.
-              name-end ds n ∙ ap (λ (i : ℕ). chainFrom i ds (nameTree n) .last) s ∙ sym (l .fuel ds b) ∙ ap (λ (i : ℕ). chainFrom i ds (nameTree m) .last) z
-              ∙ chain-circle ds (nameTree m) m (is-named m) (treeAt ns (getD roots m 0)) (root-body x y (l .inside) some′ ds b);
+              name-end ds n ∙ ap (λ (i : ℕ). lastOf (chainFrom i ds (nameType n))) s ∙ sym (l .fuel ds b) ∙ ap (λ (i : ℕ). lastOf (chainFrom i ds (nameType m))) z
+              ∙ ap lastOf (chain-circle ds (nameType m) m (is-named m) (treeAt ns (getD roots m 0)) (root-body x y (l .inside) some′ ds b));
           known = λ i. absurd (i refl);
         }
 
     module _ (r : Row) (is : r ≡ rowAt ns (getD roots m 0)) where
-      pub follow-ends : (r .kind ≡ 18 → ⊥) → FollowedAs ns roots count definitions n (getD roots m 0)
-      follow-ends i = found (x .fewNodes) (known-same (type-known x y (l .inside) some′ r is i) (l .same))
+      pub follow-ends : (r .kind ≡ 18 → ⊥) → FollowedAs ns roots count definitions n (getD roots m 0 + (far + 65536))
+      follow-ends i =
+          let e : getD roots m 0 + 65536 + far ≡ getD roots m 0 + (far + 65536) = omega arith in
+          subst (FollowedAs ns roots count definitions n) e (back (type-known x y (l .inside) some′ r is i))
 
-      pub follow-on : r .kind ≡ 18 → (k ≡ 0 → ⊥) → Follows ns roots names definitions n (r .value) (k - 1)
+      pub follow-on : r .kind ≡ 18 → (k ≡ 0 → ⊥) → Follows ns roots names definitions n (r .value) (k - 1) (far + 65536)
       follow-on i z =
           let t = treeAt ns (getD roots m 0) in
           record {
             inside = next-inside x y (l .inside) some′ r is i;
+            fewer = omega (arith, l .fewer);
+            far-is = omega (arith, l .far-is, l .fewer);
             fuel = λ ds b.
                 sym (same-chain ds t (r .value) (next-head x y (l .inside) some′ r is i) (k - 1))
-                ∙ sym (chain-on ds (nameTree m) m (is-named m) t k (root-body x y (l .inside) some′ ds b) (omega arith))
+                ∙ sym (ap lastOf (chain-on ds (nameType m) m (is-named m) t k (root-body x y (l .inside) some′ ds b) (omega arith)))
                 ∙ l .fuel ds b;
             same = λ ds b. sym (next-same x y (l .inside) some′ r is i ds b) ∙ l .same ds b;
+            crossed = λ ds b e.
+                let s = next-same x y (l .inside) some′ r is i ds b in
+                omega (arith, l .fewer, l .crossed ds b (λ c. e (sym s ∙ c)), next-longer x y (l .inside) some′ r is i ds b e);
           }
 
 -- ---- writing down: how many ends are not known yet
@@ -262,12 +328,23 @@ module _ {ns roots : List ℕ} {names count n e m : ℕ} {before now′ : List �
         new i (yes z) = known-no-marker (x .fewNodes) (l .is) (sym here ∙ ap (λ (a : ℕ). getD (set now′ m e) a 65535) (sym z) ∙ i)
         new i (no z) = z (l .waits (sym (getD-set-other now′ m n e 65535 z) ∙ i))
 
-    pub note-on : (r : Row) (is : r ≡ rowAt ns (getD roots m 0)) → r .kind ≡ 18 → Notes ns roots names count n e before (set now′ m e) (r .value)
-    note-on r is k =
+    -- the next name crosses one name less
+    module _ (r : Row) (is : r ≡ rowAt ns (getD roots m 0)) (k : r .kind ≡ 18) where
+      shorter : (ds : List Definition) → Binds ns roots ds → e / 65536 ≡ suc (aliasLength ds (nameType (r .value)))
+      shorter ds b =
+          let some = open-bound x (l .inside) (l .table) h in
+          let c = l .is .is ds b in
+          c .crossed ∙ next-longer x y (l .inside) some r is k ds b (λ z. known-ends c (next-same x y (l .inside) some r is k ds b ∙ z))
+
+      pub note-more : (ds : List Definition) → Binds ns roots ds → 65536 ≤ e
+      note-more ds b = omega (arith, shorter ds b)
+
+    pub note-on : (r : Row) (is : r ≡ rowAt ns (getD roots m 0)) → r .kind ≡ 18 → 65536 ≤ e → Notes ns roots names count n (e - 65536) before (set now′ m e) (r .value)
+    note-on r is k more =
         let some = open-bound x (l .inside) (l .table) h in
         record {
           inside = next-inside x y (l .inside) some r is k;
-          is = known-same (l .is) (next-same x y (l .inside) some r is k);
+          is = known-same (λ ds b. next-same x y (l .inside) some r is k ds b) (l .is) (omega arith) (λ ds b c. omega (arith, shorter r is k ds b));
           table = note-set .table;
           kept = note-set .kept;
           waits = λ i. absurd (note-set .known i);

@@ -5,7 +5,7 @@
 use mathlib.Core.Path.{_≡_, refl, sym, ap, subst, _∙_}
 use mathlib.Core.Bool.{true, _&&_}
 use mathlib.Core.List.{List}
-use Prim.Native.Nat.{ℕ, zero, suc, _+_, _≤_, _<_}
+use Prim.Native.Nat.{ℕ, zero, suc, _+_, _%_, _≤_, _<_}
 use native.Mathlib.Decide.{decLt}
 use native.Mathlib.Omega.{arith}
 use lib.Dec.{T, leb→le}
@@ -180,6 +180,12 @@ module _ {ns roots ends′ : List ℕ} {n : ℕ} (t : Trees ns roots ends′ n (
 pub blank-nodes : (count : ℕ) (table : List ℕ) → table ≡ blankTable → Roots table count
 blank-nodes count table e = rw e (record { long = blank-length; node = λ n h. absurd (h (blank-at n)) })
 
+pub blank-ends : (count : ℕ) (table : List ℕ) → table ≡ blankTable → EndNodes table count
+blank-ends count table e = rw e (record { long = blank-length; node = λ n h. absurd (h (ap (λ (i : ℕ). i % 65536) (blank-at n))) })
+
 -- where no table is asked for
 pub top : {ns : List ℕ} {names count : ℕ} → AllTrees ns names count → {n : ℕ} → n < count → Top ns n
-top {count = count} a h = let z = blank-nodes count blankTable refl in node-top (node-trees a z z h) (node-some a z z h)
+top {count = count} a h =
+    let z = blank-nodes count blankTable refl in
+    let e = blank-ends count blankTable refl in
+    node-top (node-trees a z e h) (node-some a z e h)

@@ -2,7 +2,7 @@
 use mathlib.Core.Path.{_≡_}
 use mathlib.Core.Bool.{Bool, false, cond}
 use mathlib.Core.List.{List, [], _∷_, map}
-use Prim.Native.Nat.{ℕ, _-_, _*_, _≤_, _<_}
+use Prim.Native.Nat.{ℕ, _-_, _*_, _/_, _%_, _≤_, _<_}
 use lib.ListN.{length, getD}
 use lib.Dec.{eqb}
 use Rattle.format.specs.Book.{Definition}
@@ -10,13 +10,14 @@ use Rattle.format.specs.Encode.{Entry}
 use Rattle.format.specs.Layout.{run, entryAt, rowAt}
 use Rattle.format.specs.Whole.{Within, WholeIn, RowFits, treeAt, definitionAt}
 use Rattle.judgement.specs.Environment.{Found, missing, body, findType}
-use Rattle.judgement.specs.Aliases.{End, unbound, circle, ends, aliasEnd}
+use Rattle.judgement.specs.Aliases.{End, unbound, circle, ends, aliasEnd, aliasLength, nameType}
 use Rattle.judgement.specs.Check.{member, eachName, circleVerdict}
 use Rattle.book.specs.Tables.{blankTable}
 use Rattle.refusals.specs.declared.Refusal as refusal
 use Rattle.refusals.specs.declared.Verdict.the-variants.{Passed, Refused}
-use Rattle.environment.specs.declared.Alias.{Alias}
-use Rattle.environment.specs.declared.Alias.the-variants.{Unbound, Circle, Ends}
+use Rattle.environment.specs.declared.End as code
+use Rattle.environment.specs.declared.End.the-variants.{Unbound, Circle, Ends}
+use Rattle.environment.specs.declared.Lookup.{Lookup}
 
 -- ---- What is known of the nodes of an admitted book
 pub record Nodes (ns : List ℕ) (names count : ℕ) : Type 0 where
@@ -64,12 +65,12 @@ repeated seen [] = 65535
 repeated seen (e ∷ es) = cond (member (e .name) seen) (e .name) (repeated (e .name ∷ seen) es)
 
 -- ---- The alias end, as the code answers it
-unfoldable pub asEnd : List ℕ → Alias → End
+unfoldable pub asEnd : List ℕ → code.End → End
 asEnd ns (Unbound n) = unbound n
 asEnd ns Circle = circle
 asEnd ns (Ends n) = ends (treeAt ns n)
 
-abbrev pub InRange : ℕ → Alias → Type 0
+abbrev pub InRange : ℕ → code.End → Type 0
 InRange count (Unbound n) = Unit {0}
 InRange count Circle = Unit {0}
 InRange count (Ends n) = n < count
@@ -86,26 +87,37 @@ unfoldable pub nameEnd : List Definition → ℕ → Found → End
 nameEnd ds n missing = unbound n
 nameEnd ds n (body t) = aliasEnd ds t
 
--- A table of nodes by name, 65,535 for none.
-abbrev pub EndNodes : List ℕ → ℕ → Type 0
-EndNodes ends′ count = Roots ends′ count
+-- ---- A table of alias ends: for each name the number of names that its chain crosses, times 65,536, and the node where it ends, 65,535 for none
+abbrev pub endIn : List ℕ → ℕ → ℕ
+endIn ends′ n = getD ends′ n 65535 % 65536
 
--- What a table of alias ends has for a name.
+abbrev pub crossedIn : List ℕ → ℕ → ℕ
+crossedIn ends′ n = getD ends′ n 65535 / 65536
+
+pub record EndNodes (ends′ : List ℕ) (count : ℕ) : Type 0 where
+  pub long : length ends′ ≡ 1024
+  pub node : (n : ℕ) → (endIn ends′ n ≡ 65535 → ⊥) → endIn ends′ n < count
+
+-- The node at which a chain ends.
 abbrev pub EndAt : List ℕ → ℕ → End → Type 0
 EndAt ns e (unbound n) = e ≡ 65535
 EndAt ns e circle = ⊥
 EndAt ns e (ends t) = (e ≡ 65535 → ⊥) × (t ≡ treeAt ns e)
 
--- A table of alias ends has where the chain of each name's definition ends.
+-- What such a table has for a name: where the chain of its definition ends, and the length of that of the type that is the name.
+pub record ChainAt (ns : List ℕ) (ds : List Definition) (n e : ℕ) : Type 0 where
+  pub end : EndAt ns (e % 65536) (nameEnd ds n (findType ds n))
+  pub crossed : e / 65536 ≡ aliasLength ds (nameType n)
+
 abbrev pub Chains : List ℕ → List ℕ → ℕ → List Definition → Type 0
-Chains ns ends′ names ds = (n : ℕ) → n < names → EndAt ns (getD ends′ n 65535) (nameEnd ds n (findType ds n))
+Chains ns ends′ names ds = (n : ℕ) → n < names → ChainAt ns ds n (getD ends′ n 65535)
 
--- What a table of alias ends has for a name whose chain ends.
+-- The same of a name whose chain ends, whatever the definitions are that the table of roots was made of.
 pub record EndKnown (ns roots : List ℕ) (count n e : ℕ) : Type 0 where
-  pub node : (e ≡ 65535 → ⊥) → e < count
-  pub is : (ds : List Definition) → Binds ns roots ds → EndAt ns e (nameEnd ds n (findType ds n))
+  pub node : (e % 65536 ≡ 65535 → ⊥) → e % 65536 < count
+  pub is : (ds : List Definition) → Binds ns roots ds → ChainAt ns ds n e
 
--- The end of a name's chain; 65,534 if it never ends.
+-- What the table is to have for a name; 65,534 if its chain never ends.
 pub record FollowedAs (ns roots : List ℕ) (count definitions n e : ℕ) : Type 0 where
   pub never : e ≡ 65534 → (ds : List Definition) → Binds ns roots ds → length ds ≡ definitions → nameEnd ds n (findType ds n) ≡ circle
   pub known : (e ≡ 65534 → ⊥) → EndKnown ns roots count n e
@@ -154,9 +166,26 @@ pub record Ended (ns ends′ : List ℕ) (node : ℕ) : Type 0 where
 unfoldable pub endIs : ℕ → List ℕ → List ℕ → ℕ → Bool
 endIs kind ns ends′ node =
     cond (eqb (rowAt ns node .kind) 18)
-    (let e = getD ends′ (rowAt ns node .value) 65535 in cond (eqb e 65535) false (eqb (rowAt ns e .kind) kind))
+    (let e = endIn ends′ (rowAt ns node .value) in cond (eqb e 65535) false (eqb (rowAt ns e .kind) kind))
     (eqb (rowAt ns node .kind) kind)
 
 -- The node at which the chain from a node ends; 65,535 for none.
 unfoldable pub endNode : List ℕ → List ℕ → ℕ → ℕ
-endNode ns ends′ node = cond (eqb (rowAt ns node .kind) 18) (getD ends′ (rowAt ns node .value) 65535) node
+endNode ns ends′ node = cond (eqb (rowAt ns node .kind) 18) (endIn ends′ (rowAt ns node .value)) node
+
+-- How many names it crosses.
+unfoldable pub endCrossed : List ℕ → List ℕ → ℕ → ℕ
+endCrossed ns ends′ node = cond (eqb (rowAt ns node .kind) 18) (crossedIn ends′ (rowAt ns node .value)) 0
+
+-- The end of the chain from a node, by the table; the count is the chain's length, whatever definitions the table is of, and at most their
+-- number.
+pub record ReachedAs (ns ends′ : List ℕ) (node e crossed : ℕ) : Type 0 where
+  pub node-is : e ≡ endNode ns ends′ node
+  pub crossed-is : crossed ≡ endCrossed ns ends′ node
+  pub length-is : (s : Ended ns ends′ node) (ds : List Definition) → Chains ns ends′ (s .names) ds → crossed ≡ aliasLength ds (treeAt ns node)
+  pub few : (s : Ended ns ends′ node) (ds : List Definition) → Chains ns ends′ (s .names) ds → crossed ≤ length ds
+
+-- What a lookup of a kind finds there.
+pub record LookupAs (kind : ℕ) (ns ends′ : List ℕ) (node : ℕ) (r : Lookup) : Type 0 where
+  pub found-is : r .found ≡ endIs kind ns ends′ node
+  pub reached : ReachedAs ns ends′ node (r .node) (r .crossed)

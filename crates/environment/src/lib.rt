@@ -1,5 +1,5 @@
-// What names stand for: type_env.rs. A table from name number to definition is made once a call, and so is one of alias ends; both
-// are lent by the caller.
+// What names stand for: type_env.rs. A table from name number to definition is made once a call, and so is one of alias ends, with the length of
+// each chain; both are lent by the caller.
 // Functions ask of their caller what an admitted book gives: nodes that are whole trees with numbers in range (specs/Tables.antt).
 ghost use mathlib.Core.Path.{_≡_};
 ghost use mathlib.Core.List.{List};
@@ -9,7 +9,7 @@ ghost use Rattle.format.specs.Book.{Definition};
 ghost use Rattle.format.specs.Whole.{treeAt};
 ghost use Rattle.judgement.specs.Aliases.{chainFrom};
 ghost use Rattle.book.specs.Tables.{blankTable};
-ghost use Rattle.environment.specs.Tables.{Nodes, Entries, Roots, Binds, Tabled, asEnd, InRange, DefinesAs, Ended, EndKnown, FollowedAs, Unfinished, endBefore, Unbegun, NotedAs, AliasEndsAs, endIs, endNode};
+ghost use Rattle.environment.specs.Tables.{Nodes, Entries, Roots, Binds, Tabled, asEnd, InRange, DefinesAs, Ended, EndKnown, FollowedAs, Unfinished, endBefore, Unbegun, NotedAs, AliasEndsAs, ReachedAs, LookupAs};
 
 pub mod merge;
 
@@ -26,9 +26,31 @@ pub struct Table {
 impl Table {
     // No node, and no name.
     pub const NONE: u16 = 65535;
+}
+
+// For each of the 1,024 names how many names its alias chain crosses, itself among them, and the node where that ends, as one number.
+pub type EndByName = [u32; Limits::NAMES];
+
+// What a table of alias ends has for a name: CROSSED for each name crossed and the node, or one of the others.
+pub struct EndTable {
+    pub entry: u32,
+}
+
+impl EndTable {
+    const CROSSED: u32 = 65536;
+
+    // No node: of a name without definition, which crosses none.
+    const NONE: u32 = 65535;
 
     // An end that is not known yet, in a table that is being made; and that of a chain that never ends.
-    const OPEN: u16 = 65534;
+    const OPEN: u32 = 65534;
+}
+
+// A table of alias ends that has nothing.
+pub fn no_ends() -> EndByName
+    ensures { λ r. ⌜ r ≡ blankTable ⌝ }
+{
+    [EndTable::NONE; Limits::NAMES]
 }
 
 // Takes all that a table has out of it.
@@ -39,6 +61,18 @@ pub fn clear(table: &mut [u16])
     let mut n = 0;
     while n < Limits::NAMES {
         table[n] = Table::NONE;
+        n += 1;
+    }
+}
+
+// The same of a table of alias ends.
+pub fn clear_ends(table: &mut [u32])
+    requires { ⌜ length (now table) ≡ 1024 ⌝ }
+    ensures { λ r. ⌜ now (table .exit) ≡ blankTable ⌝ }
+{
+    let mut n = 0;
+    while n < Limits::NAMES {
+        table[n] = EndTable::NONE;
         n += 1;
     }
 }
@@ -71,10 +105,16 @@ pub fn enter(
 }
 
 // Where an alias chain ends: at a name without definition, never, or at a node that is no name.
-pub enum Alias {
+pub enum End {
     Unbound(u16),
     Circle,
     Ends(usize),
+}
+
+// The end of an alias chain, and how many names it crosses.
+pub struct Alias {
+    pub crossed: usize,
+    pub end: End,
 }
 
 // The end of the chain from a node, which crosses at most `left` names: with as many as there are definitions, one more never ends.
@@ -87,24 +127,36 @@ pub fn alias_end(
     node: usize,
 ) -> Alias
     requires { ⌜ Nodes (now rows) names nodes × Roots (now roots) nodes × (node < nodes) ⌝ }
-    ensures within { λ r. ⌜ InRange nodes r ⌝ }
+    ensures within { λ r. ⌜ InRange nodes (r .end) ⌝ }
     ensures is { λ r. ⌜ ((ds : List Definition) → Binds (now (rows .entry)) (now (roots .entry)) ds →
-        asEnd (now (rows .entry)) r ≡ chainFrom left ds (treeAt (now (rows .entry)) node) .last) ⌝ }
+        asEnd (now (rows .entry)) (r .end) ≡ chainFrom left ds (treeAt (now (rows .entry)) node) .last) ⌝ }
+    ensures crossed { λ r. ⌜ ((ds : List Definition) → Binds (now (rows .entry)) (now (roots .entry)) ds →
+        r .crossed ≡ length (chainFrom left ds (treeAt (now (rows .entry)) node) .crossed)) ⌝ }
+    ensures few { λ r. ⌜ r .crossed ≤ left ⌝ }
 {
     let mut at = node;
     let mut k = left;
     loop {
         let t = Node::at(rows, at);
         if t.kind != Kind::VAR {
-            return Alias::Ends(at);
+            return Alias {
+                crossed: left - k,
+                end: End::Ends(at),
+            };
         }
         let n = t.value as usize;
         let root = roots[n];
         if root == Table::NONE {
-            return Alias::Unbound(t.value as u16);
+            return Alias {
+                crossed: left - k,
+                end: End::Unbound(t.value as u16),
+            };
         }
         if k == 0 {
-            return Alias::Circle;
+            return Alias {
+                crossed: left,
+                end: End::Circle,
+            };
         }
         k -= 1;
         at = root as usize;
@@ -112,17 +164,17 @@ pub fn alias_end(
 }
 
 // What the table has for a name of this root before any chain is followed.
-fn end_before(root: u16) -> u16
+fn end_before(root: u16) -> u32
     ensures { λ r. ⌜ r ≡ endBefore root ⌝ }
 {
     if root == Table::NONE {
-        return Table::NONE;
+        return EndTable::NONE;
     }
-    Table::OPEN
+    EndTable::OPEN
 }
 
 // Opens the ends of all names that have a definition, in a table that has nothing.
-fn open_ends(roots: &[u16], names: usize, ends: &mut [u16])
+fn open_ends(roots: &[u16], names: usize, ends: &mut [u32])
     requires { ⌜ (length (now roots) ≡ 1024) × (names ≤ 1024) × (now ends ≡ blankTable) ⌝ }
     ensures { λ r. ⌜ Unbegun (now (roots .entry)) names (now (ends .exit)) ⌝ }
 {
@@ -133,84 +185,89 @@ fn open_ends(roots: &[u16], names: usize, ends: &mut [u16])
     }
 }
 
-// Follows the chain of a name as far as the first name on it whose end is known; `OPEN` if it never ends.
+// Follows the chain of a name as far as the first name on it whose end is known, and answers what the table is to have; `OPEN` if it never ends.
 fn follow(
     rows: &[u8],
     roots: &[u16],
-    ends: &[u16],
+    ends: &[u32],
     names: usize,
     nodes: usize,
     definitions: usize,
     n: usize,
-) -> u16
+) -> u32
     requires { ⌜ Nodes (now rows) names nodes × Roots (now roots) nodes ×
-        Unfinished (now rows) (now roots) names nodes (now ends) × (n < names) × ((ds : List Definition) × Tabled (now rows) (now roots) definitions ds) ⌝ }
+        Unfinished (now rows) (now roots) names nodes (now ends) × (n < names) × ((ds : List Definition) × Tabled (now rows) (now roots) definitions ds) × (definitions ≤ 1024) ⌝ }
     ensures { λ r. ⌜ FollowedAs (now (rows .entry)) (now (roots .entry)) nodes definitions n r ⌝ }
 {
     let mut m = n;
     let mut k = definitions;
+    let mut crossed: u32 = 0;
     loop {
         let known = ends[m];
-        if known != Table::OPEN {
-            return known;
+        if known != EndTable::OPEN {
+            return known + crossed;
         }
         if k == 0 {
-            return Table::OPEN;
+            return EndTable::OPEN;
         }
         k -= 1;
+        crossed += EndTable::CROSSED;
         let root = roots[m];
         let t = Node::at(rows, root as usize);
         if t.kind != Kind::VAR {
-            return root;
+            return root as u32 + crossed;
         }
         m = t.value as usize;
     }
 }
 
-// Writes the end of a name's chain down for each name on it, as far as the first whose end is known.
+// Writes down what the table is to have for a name, and for each name on its chain, as far as the first whose end is known: each crosses one name
+// less than the one before it.
 fn note(
     rows: &[u8],
     roots: &[u16],
     names: usize,
     nodes: usize,
     n: usize,
-    end: u16,
-    ends: &mut [u16],
+    end: u32,
+    ends: &mut [u32],
 )
     requires { ⌜ Nodes (now rows) names nodes × Roots (now roots) nodes ×
-        Unfinished (now rows) (now roots) names nodes (now ends) × (n < names) × EndKnown (now rows) (now roots) nodes n end ⌝ }
+        Unfinished (now rows) (now roots) names nodes (now ends) × (n < names) × EndKnown (now rows) (now roots) nodes n end × ((ds : List Definition) × Binds (now rows) (now roots) ds) ⌝ }
     ensures { λ r. ⌜ NotedAs (now (rows .entry)) (now (roots .entry)) names nodes n (now (ends .entry)) (now (ends .exit)) ⌝ }
 {
     let mut m = n;
-    while ends[m] == Table::OPEN {
-        ends[m] = end;
+    let mut e = end;
+    while ends[m] == EndTable::OPEN {
+        ends[m] = e;
         let t = Node::at(rows, roots[m] as usize);
         if t.kind != Kind::VAR {
             return;
         }
+        e -= EndTable::CROSSED;
         m = t.value as usize;
     }
 }
 
-// Finds the alias ends of all names once, in a table that has nothing. The names that a chain crosses are noted with it, so that no later
-// chain is followed beyond them. With a chain that never ends the table has nothing, as it was lent.
+// Finds the alias ends of all names once, with how many names each chain crosses, in a table that has nothing. The names that a chain crosses
+// are noted with it, so that no later chain is followed beyond them. With a chain that never ends the table has nothing, as it was lent.
 pub fn find_ends(
     rows: &[u8],
     roots: &[u16],
     names: usize,
     nodes: usize,
     definitions: usize,
-    ends: &mut [u16],
+    ends: &mut [u32],
 ) -> u16
-    requires { ⌜ Nodes (now rows) names nodes × Roots (now roots) nodes × (now ends ≡ blankTable) × ((ds : List Definition) × Tabled (now rows) (now roots) definitions ds) ⌝ }
+    requires { ⌜ Nodes (now rows) names nodes × Roots (now roots) nodes × (now ends ≡ blankTable) × ((ds : List Definition) × Tabled (now rows) (now roots) definitions ds) × (definitions ≤ 1024) ⌝ }
     ensures { λ r. ⌜ AliasEndsAs (now (rows .entry)) (now (roots .entry)) names nodes definitions (now (ends .exit)) r ⌝ }
 {
     open_ends(roots, names, ends);
     let mut n = 0;
     while n < names {
         let end = follow(rows, roots, ends, names, nodes, definitions, n);
-        if end == Table::OPEN {
-            clear(ends);
+        if end == EndTable::OPEN {
+            clear_ends(ends);
             return n as u16;
         }
         note(rows, roots, names, nodes, n, end, ends);
@@ -219,31 +276,71 @@ pub fn find_ends(
     Table::NONE
 }
 
-// The node at which the chain from a node ends, or NONE, by the table of alias ends.
-pub fn end_of(rows: &[u8], ends: &[u16], node: usize) -> u16
+// The node at which a chain ends, or NONE, and how many names it crosses.
+pub struct Reached {
+    pub node: u16,
+    pub crossed: u16,
+}
+
+// The end of the chain from a node, by the table of alias ends.
+pub fn end_of(rows: &[u8], ends: &[u32], node: usize) -> Reached
     requires { ⌜ Ended (now rows) (now ends) node ⌝ }
-    ensures { λ r. ⌜ r ≡ endNode (now (rows .entry)) (now (ends .entry)) node ⌝ }
+    ensures { λ r. ⌜ ReachedAs (now (rows .entry)) (now (ends .entry)) node (r .node) (r .crossed) ⌝ }
 {
     let t = Node::at(rows, node);
     if t.kind != Kind::VAR {
-        return node as u16;
+        return Reached {
+            node: node as u16,
+            crossed: 0,
+        };
     }
-    ends[t.value as usize]
+    let e = ends[t.value as usize];
+    Reached {
+        node: (e % EndTable::CROSSED) as u16,
+        crossed: (e / EndTable::CROSSED) as u16,
+    }
+}
+
+// What a lookup finds: the end of a chain, whether it is of the kind that is looked for, and, found or not, how many names were crossed.
+pub struct Lookup {
+    pub found: bool,
+    pub node: u16,
+    pub crossed: u16,
+}
+
+// Looks for a type of this kind at the end of the chain from a node.
+fn look_up(rows: &[u8], ends: &[u32], node: usize, kind: u8) -> Lookup
+    requires { ⌜ Ended (now rows) (now ends) node ⌝ }
+    ensures { λ r. ⌜ LookupAs kind (now (rows .entry)) (now (ends .entry)) node r ⌝ }
+{
+    let e = end_of(rows, ends, node);
+    if e.node == Table::NONE {
+        return Lookup {
+            found: false,
+            node: e.node,
+            crossed: e.crossed,
+        };
+    }
+    let t = Node::at(rows, e.node as usize);
+    Lookup {
+        found: t.kind == kind,
+        node: e.node,
+        crossed: e.crossed,
+    }
 }
 
 // Whether the chain from a node ends at a function: `as_func`, by the table of alias ends.
-pub fn as_func(rows: &[u8], ends: &[u16], node: usize) -> bool
+pub fn as_func(rows: &[u8], ends: &[u32], node: usize) -> Lookup
     requires { ⌜ Ended (now rows) (now ends) node ⌝ }
-    ensures { λ r. ⌜ r ≡ endIs 23 (now (rows .entry)) (now (ends .entry)) node ⌝ }
+    ensures { λ r. ⌜ LookupAs 23 (now (rows .entry)) (now (ends .entry)) node r ⌝ }
 {
-    let t = Node::at(rows, node);
-    if t.kind != Kind::VAR {
-        return t.kind == Kind::FUNC;
-    }
-    let e = ends[t.value as usize];
-    if e == Table::NONE {
-        return false;
-    }
-    let u = Node::at(rows, e as usize);
-    u.kind == Kind::FUNC
+    look_up(rows, ends, node, Kind::FUNC)
+}
+
+// Whether it ends at a service: `as_service`, of what stands below a class's top. A class adds nothing to the names that are crossed.
+pub fn as_service(rows: &[u8], ends: &[u32], node: usize) -> Lookup
+    requires { ⌜ Ended (now rows) (now ends) node ⌝ }
+    ensures { λ r. ⌜ LookupAs 24 (now (rows .entry)) (now (ends .entry)) node r ⌝ }
+{
+    look_up(rows, ends, node, Kind::SERVICE)
 }

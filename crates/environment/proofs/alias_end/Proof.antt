@@ -25,8 +25,11 @@ loop-holds c = chain-start _ _ _ _ _ (c .before .before .pre .2)
 at-requires : tie.Need-at-requires Inv-loop μ-loop
 at-requires c κs = row-within (c .before .before .before .pre .0) (c .before .before .before .pre .1) (c .loop .inv)
 
+sub-t13 : tie.Need-sub-t13 Inv-loop μ-loop
+sub-t13 c = omega (arith, c .before .before .before .loop .inv .fewer)
+
 returns : tie.Need-returns Inv-loop μ-loop
-returns c = let a = alias-ends (c .before .before .before .before .before .before .pre .0) (c .before .before .before .before .before .before .pre .1) (c .before .before .before .loop .inv) _ (c .before .before .at .ensures) (c .if1 .taken) in (a .within, a .is)
+returns c = let a = alias-ends (c .before .before .before .before .before .before .pre .0) (c .before .before .before .before .before .before .pre .1) (c .before .before .before .loop .inv) _ (c .before .before .at .ensures) (c .if1 .taken) in (a .within, (a .is, (a .crossed-is, a .few)))
 
 -- the node is a name, within the table
 small : (c : tie.After-struct-known2 Inv-loop μ-loop) → c .before .before .before .at .result .value < 1024
@@ -41,20 +44,23 @@ mul-root c = omega (arith, small c)
 shared-slice-read-root : tie.Need-shared-slice-read-root Inv-loop μ-loop
 shared-slice-read-root c = omega (arith, small (c .before), c .before .before .before .before .before .before .before .before .pre .1 .long)
 
-cast-t16 : tie.Need-cast-t16 Inv-loop μ-loop
-cast-t16 c = omega (arith, small (c .before .before .before))
+sub-t18 : tie.Need-sub-t18 Inv-loop μ-loop
+sub-t18 c = omega (arith, c .before .before .before .before .before .before .loop .inv .fewer)
+
+cast-t19 : tie.Need-cast-t19 Inv-loop μ-loop
+cast-t19 c = omega (arith, small (c .before .before .before))
 
 returns-2 : tie.Need-returns-2 Inv-loop μ-loop
 returns-2 c =
     let v = in-table ((entry-after-then2 (c .before)) .pre .1) (small (c .before .before .before)) in
     let a = alias-unbound ((entry-after-then2 (c .before)) .pre .0) ((entry-after-then2 (c .before)) .pre .1) (c .before .before .before .before .before .before .before .loop .inv) _ (c .before .before .before .before .before .before .at .ensures) (c .before .before .before .before .if1 .left) (sym v ∙ c .before .if2 .taken) in
-    (a .within, a .is)
+    (a .within, (a .is, (a .crossed-is, a .few)))
 
 returns-3 : tie.Need-returns-3 Inv-loop μ-loop
 returns-3 c =
     let v = in-table ((entry-after-else2 (c .before)) .pre .1) (small (c .before .before .before)) in
     let a = alias-circle ((entry-after-else2 (c .before)) .pre .0) ((entry-after-else2 (c .before)) .pre .1) (c .before .before .before .before .before .before .before .loop .inv) _ (c .before .before .before .before .before .before .at .ensures) (c .before .before .before .before .if1 .left) (λ e. c .before .if2 .left (v ∙ e)) (c .if3 .taken) in
-    (a .within, a .is)
+    (a .within, (a .is, (a .crossed-is, a .few)))
 
 sub-k : tie.Need-sub-k Inv-loop μ-loop
 sub-k c = omega arith
@@ -80,11 +86,13 @@ alias-end-spec =
     μ-loop
     loop-holds
     at-requires
+    sub-t13
     returns
     cast-n
     mul-root
     shared-slice-read-root
-    cast-t16
+    sub-t18
+    cast-t19
     returns-2
     returns-3
     sub-k

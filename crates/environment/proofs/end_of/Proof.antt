@@ -1,8 +1,9 @@
 -- `end_of` meets its contract. Assumes nothing.
-use mathlib.Core.Path.{_∙_}
+use mathlib.Core.Path.{ap, _∙_}
+use Prim.Native.Nat.{ℕ, _/_, _%_}
 use native.Mathlib.Omega.{arith}
 use Rattle.environment.proofs.Links.{getD-within}
-use Rattle.environment.proofs.ChainEnds.{end-other, end-named, served-within, served-small, served-named}
+use Rattle.environment.proofs.ChainEnds.{end-other, end-named, crossed-other, crossed-named, served-within, served-small, served-named, reached}
 use borrow.Author.Needs.{needs}
 use Rattle.environment.proofs.end_of.Statement.{statement}
 use Rattle.environment.proofs.end_of.Tie as tie
@@ -10,34 +11,45 @@ use Rattle.environment.proofs.end_of.Tie as tie
 at-requires : tie.Need-at-requires
 at-requires c κs = served-within (c .before .before .pre)
 
-cast-result : tie.Need-cast-result
-cast-result c = omega (arith, served-small (c .before .before .before .before .before .pre))
+cast-t7 : tie.Need-cast-t7
+cast-t7 c = omega (arith, served-small (c .before .before .before .before .before .pre))
 
 returns : tie.Need-returns
-returns c = end-other _ _ _ _ (c .before .before .at .ensures) (c .if1 .taken)
+returns c = reached (end-other _ _ _ _ (c .before .before .at .ensures) (c .if1 .taken)) (crossed-other _ _ _ _ (c .before .before .at .ensures) (c .if1 .taken))
 
-cast-result-2 : tie.Need-cast-result-2
-cast-result-2 c = search needs
+cast-e : tie.Need-cast-e
+cast-e c = search needs
 
-mul-result : tie.Need-mul-result
-mul-result c = search needs
+mul-e : tie.Need-mul-e
+mul-e c = search needs
 
-shared-slice-read-result : tie.Need-shared-slice-read-result
-shared-slice-read-result c = served-named (c .before .before .before .before .before .before .before .pre) _ (c .before .before .before .before .at .ensures) (c .before .before .if1 .left)
+shared-slice-read-e : tie.Need-shared-slice-read-e
+shared-slice-read-e c = served-named (c .before .before .before .before .before .before .before .pre) _ (c .before .before .before .before .at .ensures) (c .before .before .if1 .left)
+
+cast-t12 : tie.Need-cast-t12
+cast-t12 c = search needs
+
+cast-t14 : tie.Need-cast-t14
+cast-t14 c = omega (arith, c .shared-slice-known3 .given (c .before .before .before .before .at .result .value))
 
 returns-2 : tie.Need-returns-2
 returns-2 c =
     let a = c .before .before .before .before .before .before .before .args in
-    getD-within (a .ends .now) _ 0 65535 (served-named (c .before .before .before .before .before .before .before .pre) _ (c .before .before .before .before .at .ensures) (c .before .before .if1 .left)) ∙ end-named _ _ _ _ (c .before .before .before .before .at .ensures) (c .before .before .if1 .left)
+    let w = getD-within (a .ends .now) _ 0 65535 (served-named (c .before .before .before .before .before .before .before .pre) _ (c .before .before .before .before .at .ensures) (c .before .before .if1 .left)) in
+    reached
+    (ap (λ (e : ℕ). e % 65536) w ∙ end-named _ _ _ _ (c .before .before .before .before .at .ensures) (c .before .before .if1 .left))
+    (ap (λ (e : ℕ). e / 65536) w ∙ crossed-named _ _ _ _ (c .before .before .before .before .at .ensures) (c .before .before .if1 .left))
 
 pub end-of-spec : {M : Type 1} → statement M
 end-of-spec =
     tie.close
     (tie.spec
     at-requires
-    cast-result
+    cast-t7
     returns
-    cast-result-2
-    mul-result
-    shared-slice-read-result
+    cast-e
+    mul-e
+    shared-slice-read-e
+    cast-t12
+    cast-t14
     returns-2)

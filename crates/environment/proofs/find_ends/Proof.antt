@@ -29,24 +29,24 @@ loop-holds : tie.Need-loop-holds Inv-loop μ-loop
 loop-holds c = ends-start _ _ _ _ _ _ (c .before .before .open-ends .ensures)
 
 follow-requires : tie.Need-follow-requires Inv-loop μ-loop
-follow-requires c κs = ((entry-after-in-loop (c .before)) .pre .0, (entry-after-in-loop (c .before)) .pre .1, c .before .before .loop .inv .table, c .before .loop-test .taken, (entry-after-in-loop (c .before)) .pre .3)
+follow-requires c κs = ((entry-after-in-loop (c .before)) .pre .0, (entry-after-in-loop (c .before)) .pre .1, c .before .before .loop .inv .table, c .before .loop-test .taken, (entry-after-in-loop (c .before)) .pre .3, (entry-after-in-loop (c .before)) .pre .4)
 
-clear-requires : tie.Need-clear-requires Inv-loop μ-loop
-clear-requires c κs = c .before .before .before .before .before .loop .inv .table .long
+clear-ends-requires : tie.Need-clear-ends-requires Inv-loop μ-loop
+clear-ends-requires c κs = c .before .before .before .before .before .loop .inv .table .long
 
 cast-result : tie.Need-cast-result Inv-loop μ-loop
 cast-result c = let k = turned (c .before .before .before .before) in omega (arith, k .loop-test .taken, (entry-after-in-loop k) .pre .0 .fewNames)
 
 same-length : tie.Need-same-length Inv-loop μ-loop
-same-length c = ap length (c .before .before .clear .ensures ∙ sym ((entry-after-in-loop (turned (c .before .before .before .before))) .pre .2))
+same-length c = ap length (c .before .before .clear-ends .ensures ∙ sym ((entry-after-in-loop (turned (c .before .before .before .before))) .pre .2))
 
 returns : tie.Need-returns Inv-loop μ-loop
 returns c =
     let e = c .before .before .before .before in let k = turned e in
-    ends-circle ((entry-after-in-loop k) .pre .0 .fewNames) (k .before .loop .inv) (k .loop-test .taken) _ (e .before .follow .ensures) (e .if1 .taken) (c .before .before .clear .ensures)
+    ends-circle ((entry-after-in-loop k) .pre .0 .fewNames) (k .before .loop .inv) (k .loop-test .taken) _ (e .before .follow .ensures) (e .if1 .taken) (c .before .before .clear-ends .ensures)
 
 note-requires : tie.Need-note-requires Inv-loop μ-loop
-note-requires c κs = ((entry-after-in-loop (c .before .before .before .before)) .pre .0, (entry-after-in-loop (c .before .before .before .before)) .pre .1, c .before .before .before .before .before .loop .inv .table, c .before .before .before .before .loop-test .taken, c .before .before .follow .ensures .known (c .before .if1 .left))
+note-requires c κs = ((entry-after-in-loop (c .before .before .before .before)) .pre .0, (entry-after-in-loop (c .before .before .before .before)) .pre .1, c .before .before .before .before .before .loop .inv .table, c .before .before .before .before .loop-test .taken, c .before .before .follow .ensures .known (c .before .if1 .left), (let t = (entry-after-in-loop (c .before .before .before .before)) .pre .3 in (t .0, t .1 .0)))
 
 add-n : tie.Need-add-n Inv-loop μ-loop
 add-n c = omega (arith, c .before .before .before .before .before .before .before .loop-test .taken, (entry-after-in-loop (c .before .before .before .before .before .before .before)) .pre .0 .fewNames)
@@ -72,7 +72,7 @@ find-ends-spec =
     open-ends-requires
     loop-holds
     follow-requires
-    clear-requires
+    clear-ends-requires
     cast-result
     same-length
     returns

@@ -1,15 +1,16 @@
 -- `note` meets its contract: each turn knows one end more. Assumes nothing.
+use Prim.Native.Nat.{_≤_}
 use mathlib.Core.Path.{sym, _∙_}
 use native.Mathlib.Omega.{arith}
-use Rattle.environment.proofs.Names.{name-small, open-bound, root-within, next-inside, toFind, Notes, note-start, note-inside, note-end, note-less, note-set, note-on}
+use Rattle.environment.proofs.Names.{name-small, open-bound, root-within, next-inside, toFind, Notes, note-start, note-inside, note-end, note-less, note-set, note-more, note-on}
 use Rattle.environment.proofs.note.Statement.{statement}
 use Rattle.environment.proofs.note.Tie as tie
 
 abbrev Inv-loop : tie.InvT-loop
-Inv-loop rows roots names nodes n end ends₀ m₀ ends m = Notes rows roots names nodes n end ends₀ ends m
+Inv-loop rows roots names nodes n end ends₀ m₀ e₀ ends m e = Notes rows roots names nodes n e ends₀ ends m
 
 abbrev μ-loop : tie.MeasureT-loop
-μ-loop rows roots names nodes n end ends₀ m₀ ends m = toFind ends
+μ-loop rows roots names nodes n end ends₀ m₀ e₀ ends m e = toFind ends
 
 -- places that are far back
 abbrev entry-after-struct-known : tie.After-struct-known Inv-loop μ-loop → tie.Start Inv-loop μ-loop
@@ -48,6 +49,15 @@ same-length c = note-set ((entry-after-struct-known (c .before)) .pre .0) ((entr
 returns : tie.Need-returns Inv-loop μ-loop
 returns c = note-set ((entry-after-struct-known (c .before)) .pre .0) ((entry-after-struct-known (c .before)) .pre .1) (c .before .before .before .before .before .before .loop .inv) (c .before .before .before .before .if1 .taken)
 
+-- each name crosses one name less
+more : (c : tie.Else2 Inv-loop μ-loop) → 65536 ≤ c .before .before .before .before .before .before .loop .e
+more c =
+    let p = (entry-after-struct-known (c .before)) .pre in
+    note-more (p .0) (p .1) (c .before .before .before .before .before .before .loop .inv) (c .before .before .before .before .if1 .taken) _ (c .before .before .at .ensures) (c .if2 .left) (p .5 .0) (p .5 .1)
+
+sub-e : tie.Need-sub-e Inv-loop μ-loop
+sub-e c = omega (arith, more c)
+
 cast-m : tie.Need-cast-m Inv-loop μ-loop
 cast-m c = omega (arith, next-inside ((entry-after-struct-known (c .before .before)) .pre .0) ((entry-after-struct-known (c .before .before)) .pre .1) (c .before .before .before .before .before .before .before .loop .inv .inside) (open-bound ((entry-after-struct-known (c .before .before)) .pre .0) (c .before .before .before .before .before .before .before .loop .inv .inside) (c .before .before .before .before .before .before .before .loop .inv .table) (c .before .before .before .before .before .if1 .taken)) _ (c .before .before .before .at .ensures) (c .before .if2 .left), (entry-after-struct-known (c .before .before)) .pre .0 .fewNames)
 
@@ -55,7 +65,7 @@ loop-less : tie.Need-loop-less Inv-loop μ-loop
 loop-less c = note-less ((entry-after-struct-known (c .before .before)) .pre .0) ((entry-after-struct-known (c .before .before)) .pre .1) (c .before .before .before .before .before .before .before .loop .inv) (c .before .before .before .before .before .if1 .taken)
 
 loop-again : tie.Need-loop-again Inv-loop μ-loop
-loop-again c = note-on ((entry-after-struct-known (c .before .before)) .pre .0) ((entry-after-struct-known (c .before .before)) .pre .1) (c .before .before .before .before .before .before .before .loop .inv) (c .before .before .before .before .before .if1 .taken) _ (c .before .before .before .at .ensures) (c .before .if2 .left)
+loop-again c = note-on ((entry-after-struct-known (c .before .before)) .pre .0) ((entry-after-struct-known (c .before .before)) .pre .1) (c .before .before .before .before .before .before .before .loop .inv) (c .before .before .before .before .before .if1 .taken) _ (c .before .before .before .at .ensures) (c .before .if2 .left) (more (c .before))
 
 same-length-2 : tie.Need-same-length-2 Inv-loop μ-loop
 same-length-2 c = c .before .before .loop .inv .table .long ∙ sym (c .before .before .before .before .before .before .pre .2 .long)
@@ -80,6 +90,7 @@ note-spec =
     at-requires
     same-length
     returns
+    sub-e
     cast-m
     loop-less
     loop-again
