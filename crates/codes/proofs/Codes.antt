@@ -8,7 +8,10 @@ use Rattle.refusals.specs.declared.Verdict.the-variants.{Passed, Refused}
 use Rattle.refusals.specs.Refusal.{numberOf, nameOf, neededOf}
 use Rattle.refusals.specs.declared.Answer.{Answer}
 use Rattle.refusals.specs.declared.Answer.the-variants.{Given, Refused as RefusedAnswer}
-use Rattle.codes.specs.Coded.{coded, lowOf, codedBy}
+use Rattle.refusals.specs.declared.Crossed.{Crossed}
+use Rattle.refusals.specs.declared.AliasAnswer.{AliasAnswer}
+use Rattle.refusals.specs.declared.AliasAnswer.the-variants.{Given as GivenAlias, Refused as RefusedAlias}
+use Rattle.codes.specs.Coded.{coded, lowOf, codedBy, codedUses, codedAlias}
 
 pub passed-code : {v : Verdict} → v ≡ Passed → 0 ≡ coded v
 unfolding coded
@@ -35,3 +38,12 @@ pub answer-refused : (unit : ℕ) {a : Answer} {why : Refusal} {number low : ℕ
     number * unit + low ≡ codedBy unit a
 unfolding codedBy
 answer-refused unit e f g = rw (e, f, g)
+
+-- ---- Alias chains
+pub crossed-code : {a : AliasAnswer} {c : Crossed} → a ≡ GivenAlias c → c .names * 65536 + c .last ≡ codedAlias a
+unfolding codedAlias
+crossed-code e = rw e
+
+pub alias-refused : {a : AliasAnswer} {why : Refusal} {code : ℕ} → a ≡ RefusedAlias why → code ≡ codedUses (RefusedAnswer why) → code ≡ codedAlias a
+unfolding codedAlias
+alias-refused e f = rw e f

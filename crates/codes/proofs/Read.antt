@@ -2,7 +2,8 @@
 -- the name and the entries are below the unit of the row: the functions know it of names by their types, and ask it of entries.
 --     passed-read, refused-read              a verdict is read
 --     given-read, refusal-read               an answer is read
---     answer-settled, uses-settled           answers that are read alike are the same
+--     crossed-read, alias-read               an alias chain's is read
+--     answer-settled, uses-settled, ..       answers that are read alike are the same
 --     verdict-settled                        and verdicts, where one is not refused with row 16
 use mathlib.Core.Path.{_≡_, refl, sym, ap, _∙_}
 use mathlib.Core.Logic.{inl, inr}
@@ -17,8 +18,11 @@ use Rattle.refusals.specs.declared.Verdict.the-variants.{Passed, Refused}
 use Rattle.refusals.specs.Refusal.{numberOf, nameOf, neededOf}
 use Rattle.refusals.specs.declared.Answer.{Answer}
 use Rattle.refusals.specs.declared.Answer.the-variants.{Given, Refused as RefusedAnswer}
+use Rattle.refusals.specs.declared.Crossed.{Crossed}
+use Rattle.refusals.specs.declared.AliasAnswer.{AliasAnswer}
+use Rattle.refusals.specs.declared.AliasAnswer.the-variants.{Given as GivenAlias, Refused as RefusedAlias}
 use Rattle.refusals.proofs.Refusals.{number-some, needed-short, row-short, row-settles}
-use Rattle.codes.specs.Coded.{lowOf, refusalIn, nameIn, entriesIn, usesRefusalIn, usesNameIn, usesEntriesIn, SaysVerdict, SaysWhy, SaysAnswer, ReadVerdict, ReadAnswer, ReadUses}
+use Rattle.codes.specs.Coded.{lowOf, refusalIn, nameIn, entriesIn, usesRefusalIn, usesNameIn, usesEntriesIn, aliasNamesIn, aliasLastIn, SaysVerdict, SaysWhy, SaysAnswer, SaysAlias, ReadVerdict, ReadAnswer, ReadUses, ReadAlias}
 use Rattle.codes.proofs.Codes.{low-needed, low-name}
 
 -- ---- The high and the low part of a number
@@ -55,6 +59,15 @@ module _ (unit : ℕ) where
         needed = λ s. l ∙ low-needed why (sym r ∙ s);
       })
 
+-- ---- Alias chains
+pub crossed-read : {a : AliasAnswer} {c : Crossed} → a ≡ GivenAlias c → c .names < 65536 → c .last < 65536 → ReadAlias a (c .names * 65536 + c .last)
+crossed-read {c = c} e h k =
+    let few : c .names * 65536 + c .last < 4294967296 = omega arith in
+    rw e (div-eq-of-lt few, ap (λ (x : ℕ). x / 65536) (mod-eq-of-lt few) ∙ high 65536 (c .names) (c .last) k, lower 65536 (c .names) (c .last) k)
+
+pub alias-read : {a : AliasAnswer} {why : Refusal} (code : ℕ) → a ≡ RefusedAlias why → ReadUses (RefusedAnswer why) code → ReadAlias a code
+alias-read code e r = rw e r
+
 -- ---- What is read alike is the same
 not-read : {A : Type 0} {n : ℕ} → n ≡ 0 → 1 ≤ n → A
 not-read e h = absurd (omega arith)
@@ -81,6 +94,13 @@ module _ (refusal named : ℕ) where
   answer-same entries (RefusedAnswer r) (Given m) x y = not-read (y .0) (x .some)
   answer-same entries (RefusedAnswer r) (RefusedAnswer s) x y = ap RefusedAnswer (why-same entries r s x y)
 
+  alias-same : (entries names last : ℕ) (a b : AliasAnswer) → SaysAlias a refusal named entries names last → SaysAlias b refusal named entries names last → a ≡ b
+  alias-same entries names last (GivenAlias c) (GivenAlias d) x y =
+      ap GivenAlias (λ i. record { names = (sym (x .1) ∙ y .1) i; last = (sym (x .2) ∙ y .2) i })
+  alias-same entries names last (GivenAlias c) (RefusedAlias s) x y = not-read (x .0) (y .some)
+  alias-same entries names last (RefusedAlias r) (GivenAlias d) x y = not-read (y .0) (x .some)
+  alias-same entries names last (RefusedAlias r) (RefusedAlias s) x y = ap RefusedAlias (why-same entries r s x y)
+
   -- a verdict's code has no entries needed
   verdict-same : (v w : Verdict) → ((r : Refusal) → v ≡ Refused r → numberOf r ≡ 16 → ⊥) → SaysVerdict v refusal named → SaysVerdict w refusal named → v ≡ w
   verdict-same Passed Passed n x y = refl
@@ -93,6 +113,9 @@ answer-settled a b code = answer-same (refusalIn code) (nameIn code) (entriesIn 
 
 pub uses-settled : (a b : Answer) (code : ℕ) → ReadUses a code → ReadUses b code → a ≡ b
 uses-settled a b code = answer-same (usesRefusalIn code) (usesNameIn code) (usesEntriesIn code) a b
+
+pub alias-settled : (a b : AliasAnswer) (code : ℕ) → ReadAlias a code → ReadAlias b code → a ≡ b
+alias-settled a b code = alias-same (usesRefusalIn code) (usesNameIn code) (usesEntriesIn code) (aliasNamesIn code) (aliasLastIn code) a b
 
 pub verdict-settled : (v w : Verdict) (code : ℕ) → ((r : Refusal) → v ≡ Refused r → numberOf r ≡ 16 → ⊥) → ReadVerdict v code → ReadVerdict w code → v ≡ w
 verdict-settled v w code = verdict-same (refusalIn code) (nameIn code) v w

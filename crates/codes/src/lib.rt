@@ -3,7 +3,9 @@
 ghost use mathlib.Core.Path.{_≡_};
 ghost use Prim.Native.Nat.{_<_};
 ghost use Rattle.refusals.specs.Refusal.{neededOf};
-ghost use Rattle.codes.specs.Coded.{coded, lowOf, codedAnswer, codedUses, Below, small, wide, ReadVerdict, ReadAnswer, ReadUses};
+ghost use Rattle.refusals.specs.declared.Answer.the-variants.{Refused};
+ghost use Rattle.codes.specs.Coded.{coded, lowOf, codedAnswer, codedUses, codedAlias, Below, small, wide, ReadVerdict, ReadAnswer, ReadUses, ReadAlias};
+use refusals::AliasAnswer;
 use refusals::Answer;
 use refusals::Refusal;
 use refusals::Verdict;
@@ -51,6 +53,14 @@ pub fn answer_code(a: Answer) -> u32
     }
 }
 
+// A refusal in 64 bits.
+fn wide_code(why: Refusal) -> u64
+    ensures answer { λ r. ⌜ r ≡ codedUses (Refused why) ⌝ }
+    ensures read { λ r. ⌜ ReadUses (Refused why) r ⌝ }
+{
+    why.number() as u64 * BELOW_USES + low(why) as u64
+}
+
 // The same for uses. What is asked keeps entries apart from refusals.
 pub fn uses_code(a: Answer) -> u64
     requires { ⌜ Below wide a ⌝ }
@@ -59,6 +69,17 @@ pub fn uses_code(a: Answer) -> u64
 {
     match a {
         Answer::Given(n) => n as u64,
-        Answer::Refused(why) => why.number() as u64 * BELOW_USES + low(why) as u64,
+        Answer::Refused(why) => wide_code(why),
+    }
+}
+
+// The same for an alias chain: the names crossed stand above the last of them.
+pub fn alias_code(a: AliasAnswer) -> u64
+    ensures answer { λ r. ⌜ r ≡ codedAlias a ⌝ }
+    ensures read { λ r. ⌜ ReadAlias a r ⌝ }
+{
+    match a {
+        AliasAnswer::Given(c) => c.names as u64 * 65536 + c.last as u64,
+        AliasAnswer::Refused(why) => wide_code(why),
     }
 }

@@ -2,5 +2,6 @@
 pub mod Computed
 pub mod Theorems
 pub mod Repeats
+pub mod Chains
 pub mod P1
 pub mod P5

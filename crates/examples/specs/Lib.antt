@@ -2,4 +2,5 @@
 pub mod Answer
 pub mod Table
 pub mod Repeats
+pub mod Chains
 pub mod Ring

@@ -5,7 +5,8 @@
 --     not-admitted, admission-refuses  a refusal lies in its row, and a row is refused
 --     judged-says, judged-refuses, ..  what is said of a check of every book, on bytes
 --     asked-is, asked-refuses          a question on bytes is that on the book, and refuses just what that does
---     asked-row, row-numbers           what a question on bytes refuses, in so many places, and the numbers of the rows that there are
+--     asked-in-row, asked-row          what a question on bytes refuses, and what in so many places
+--     row-numbers                      the numbers of the rows that there are
 use mathlib.Core.Path.{_≡_, refl, sym, ap, subst, _∙_}
 use mathlib.Core.Logic.{_↔_, inl, inr, ⊎-elim}
 use mathlib.Core.Bool.{Bool, true, false, cond}
@@ -158,17 +159,22 @@ module _ (bs : Source) where
   unfolding asked
   asked-is question e = rw e
 
+  pub asked-in-row : {A : Type 0} (question : Book → Outcome A) (Row : Book → Refusal → Type 0) {r : Refusal} →
+      ((b : Book) → Fits b → question b ≡ refused r → Row b r) → onBytes question bs ≡ refused r → InRow bs Row r
+  unfolding asked
+  asked-in-row question Row {r} row = go (admitted bs) refl
+    where
+      go : (o : Outcome Book) → admitted bs ≡ o → asked question o ≡ refused r → InRow bs Row r
+      go (refused q) w e = inl (not-admitted (w ∙ ap refused cc))
+      go (given b) w e = inr record { book = b; laidOut = w; holds = row b (admitted-fits w) e }
+
   pub asked-refuses : {A : Type 0} (question : Book → Outcome A) (Row : Book → Refusal → Type 0) {r : Refusal} →
       ((b : Book) → Fits b → (question b ≡ refused r) ↔ Row b r) → (onBytes question bs ≡ refused r) ↔ InRow bs Row r
   unfolding asked
   asked-refuses question Row {r} says = (
-    go (admitted bs) refl,
+    asked-in-row question Row (λ b fits. says b fits .0),
     ⊎-elim (λ x. rw (admission-refuses x)) (λ x. rw (x .laidOut) (says (x .book) (admitted-fits (x .laidOut)) .1 (x .holds))),
   )
-    where
-      go : (o : Outcome Book) → admitted bs ≡ o → asked question o ≡ refused r → InRow bs Row r
-      go (refused q) w e = inl (not-admitted (w ∙ ap refused cc))
-      go (given b) w e = inr record { book = b; laidOut = w; holds = says b (admitted-fits w) .0 e }
 
   pub asked-row : {A : Type 0} (places : ℕ) (question : Book → Outcome (List A)) (Row : Book → Refusal → Type 0) {r : Refusal} →
       ((b : Book) → Fits b → fit places (question b) ≡ refused r → Row b r) → fit places (onBytes question bs) ≡ refused r → InRow bs Row r

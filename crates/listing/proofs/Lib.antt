@@ -16,6 +16,7 @@ pub mod InitList
 pub mod DraftList
 pub mod Marks
 pub mod Uses
+pub mod Alias
 pub mod DefUse
 pub mod Project
 pub mod Rows

@@ -1,11 +1,11 @@
--- What a question's refusal names is a name of the book, but for 3 of a listed number, which the marks refuse, and 15. Assumes that the book
--- fits; one that was read from bytes does.
+-- What a question's refusal names is a name of the book, but for 3 of a number that marks or an alias chain were asked with, and 15. Assumes
+-- that the book fits; one that was read from bytes does.
 --     reachable-named                     a reachable name is one of the book
 --     list-names, init-list-names, ..     of each question
 --     list-bytes-names, ..                the same on bytes, which are refused by admission or a book
 use mathlib.Core.Path.{_≡_, refl, subst}
 use mathlib.Core.Logic.{inl, inr}
-use mathlib.Core.List.{List, List·Memᴰ}
+use mathlib.Core.List.{List, [], _∷_, List·Memᴰ, List·Memᴰ·head}
 use Prim.Native.Nat.{ℕ, _<_}
 use native.Mathlib.Omega.{arith}
 use lib.ListN.{length}
@@ -15,7 +15,7 @@ use Rattle.format.specs.Node.{Node}
 use Rattle.format.specs.Book.{Definition, Book}
 use Rattle.format.specs.Fits.{Fits}
 use Rattle.format.specs.Admission.{InRow, Source, onBytes}
-use Rattle.format.proofs.Admission.{asked-row}
+use Rattle.format.proofs.Admission.{asked-in-row, asked-row}
 use Rattle.refusals.specs.declared.Refusal.{Refusal}
 use Rattle.refusals.specs.declared.Refusal.the-variants.{Unbound, Absent}
 use Rattle.refusals.specs.Outcome.{refused, fit}
@@ -33,6 +33,7 @@ use Rattle.listing.specs.InitList.{initList, InitListRow}
 use Rattle.listing.specs.DraftList.{draftDefinitions, draftList, DraftRow}
 use Rattle.listing.specs.Marks.{marksOver, MarksRow}
 use Rattle.listing.specs.Uses.{uses, UsesRow}
+use Rattle.listing.specs.Alias.{alias, AliasRow}
 use Rattle.listing.specs.Project.{project, ProjectRow}
 use Rattle.listing.specs.Empty.{emptiness, EmptinessRow}
 use Rattle.listing.specs.List as listed
@@ -40,6 +41,7 @@ use Rattle.listing.specs.InitList as inits
 use Rattle.listing.specs.DraftList as drafts
 use Rattle.listing.specs.Marks as marks
 use Rattle.listing.specs.Uses as used
+use Rattle.listing.specs.Alias as aliased
 use Rattle.listing.specs.Project as projected
 use Rattle.listing.specs.Empty as empty
 use Rattle.listing.proofs.List.{list-in-row}
@@ -47,6 +49,7 @@ use Rattle.listing.proofs.InitList.{init-list-in-row}
 use Rattle.listing.proofs.DraftList.{draft-in-row}
 use Rattle.listing.proofs.Marks.{marks-in-row}
 use Rattle.listing.proofs.Uses.{uses-in-row}
+use Rattle.listing.proofs.Alias.{alias-in-row}
 use Rattle.listing.proofs.Project.{listed-times, project-in-row}
 use Rattle.listing.proofs.Empty.{emptiness-in-row}
 
@@ -123,6 +126,14 @@ module _ (b : Book) (fits : Fits b) (places : ℕ) where
   pub project-names : (asked : List ℕ) {r : Refusal} → fit places (project b asked) ≡ refused r → NamesAsked Absent names asked r
   project-names asked e = project-row-names asked (project-in-row b fits asked places e)
 
+-- 3 names the number that is asked.
+alias-row-names : (b : Book) → Fits b → (n : ℕ) {r : Refusal} → AliasRow b n r → NamesAsked Unbound (length (b .names)) (n ∷ []) r
+alias-row-names b fits n (aliased.checked x) = inl (row-names b fits x)
+alias-row-names b fits n (aliased.unbound x) = inr (n, refl, List·Memᴰ·head refl)
+
+pub alias-names : (b : Book) → Fits b → (n : ℕ) {r : Refusal} → alias b n ≡ refused r → NamesAsked Unbound (length (b .names)) (n ∷ []) r
+alias-names b fits n e = alias-row-names b fits n (alias-in-row b fits n e)
+
 -- ---- On bytes
 module _ (bs : Source) (places : ℕ) {r : Refusal} where
   pub list-bytes-names : fit places (onBytes list bs) ≡ refused r → InRow bs (λ b. NamesPlace (length (b .names))) r
@@ -145,3 +156,6 @@ module _ (bs : Source) (places : ℕ) {r : Refusal} where
 
   pub project-bytes-names : (asked : List ℕ) → fit places (onBytes (λ b. project b asked) bs) ≡ refused r → InRow bs (λ b. NamesAsked Absent (length (b .names)) asked) r
   project-bytes-names asked = asked-row bs places (λ b. project b asked) (λ b. NamesAsked Absent (length (b .names)) asked) (λ b fits. project-names b fits places asked)
+
+pub alias-bytes-names : (bs : Source) (n : ℕ) {r : Refusal} → onBytes (λ b. alias b n) bs ≡ refused r → InRow bs (λ b. NamesAsked Unbound (length (b .names)) (n ∷ [])) r
+alias-bytes-names bs n = asked-in-row bs (λ b. alias b n) (λ b. NamesAsked Unbound (length (b .names)) (n ∷ [])) (λ b fits. alias-names b fits n)

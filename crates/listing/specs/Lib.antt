@@ -13,5 +13,6 @@ pub mod InitList
 pub mod DraftList
 pub mod Marks
 pub mod Uses
+pub mod Alias
 pub mod Project
 pub mod Demand3

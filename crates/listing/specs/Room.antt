@@ -49,6 +49,10 @@ pub record Most {A : Type 0} (most : ℕ) (o : Outcome (List A)) : Type 0 where
 abbrev pub EachOnce : (ℕ → Type 0) → List ℕ → Type 0
 EachOnce P l = Distinct l × ((n : ℕ) → List·Memᴰ n l ↔ P n)
 
+-- Nothing is given.
+abbrev pub NotGiven : {A : Type 0} → Outcome A → Type 0
+NotGiven {A} o = (a : A) → o ≡ given a → ⊥
+
 -- No list is given in so many places.
 abbrev pub Unanswered : {A : Type 0} → ℕ → Outcome (List A) → Type 0
 Unanswered {A} places o = (l : List A) → fit places o ≡ given l → ⊥

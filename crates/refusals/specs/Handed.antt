@@ -5,6 +5,9 @@ use Prim.Native.Nat.{ℕ, _*_, _/_}
 use lib.ListN.{length, drop}
 use Rattle.refusals.specs.declared.Answer.{Answer}
 use Rattle.refusals.specs.declared.Answer.the-variants.{Given, Refused}
+use Rattle.refusals.specs.declared.Crossed.{Crossed}
+use Rattle.refusals.specs.declared.AliasAnswer.{AliasAnswer}
+use Rattle.refusals.specs.declared.AliasAnswer.the-variants.{Given as GivenAlias, Refused as RefusedAlias}
 use Rattle.refusals.specs.Lists.{flat}
 use Rattle.refusals.specs.Outcome.{Outcome, refused, given, fit}
 
@@ -43,3 +46,9 @@ usesLeft (given es) old = flat numbers es ++ drop (3 * length es) old
 pub record UsesAs (o : Outcome (List Use)) (old new : List ℕ) (r : Answer) : Type 0 where
   pub answer : r ≡ answerOf (fit (length old / 3) o)
   pub left : new ≡ usesLeft (fit (length old / 3) o) old
+
+-- ---- An alias chain, which takes no list
+
+unfoldable pub aliasAnswer : Outcome Crossed → AliasAnswer
+aliasAnswer (refused r) = RefusedAlias r
+aliasAnswer (given c) = GivenAlias c

@@ -38,7 +38,8 @@ numberOf r = saysOf r .0
 abbrev pub told : Refusal → Told
 told r = saysOf r .1
 
--- Whether it names a number: a place in the table of names, but that of 15, and of 3 over marks, is the one asked with, even 65,535.
+-- Whether it names a number: a place in the table of names, but that of 15, and of 3 over marks or an alias chain, is the one asked with, even
+-- 65,535.
 abbrev pub namesTold : Told → Bool
 namesTold nothing = false
 namesTold (name n) = true

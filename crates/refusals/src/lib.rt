@@ -138,6 +138,18 @@ pub enum Answer {
     Refused(Refusal),
 }
 
+// The names that an alias chain crosses: how many, and the last of them.
+pub struct Crossed {
+    pub names: u16,
+    pub last: u16,
+}
+
+// What the question about an alias chain answers.
+pub enum AliasAnswer {
+    Given(Crossed),
+    Refused(Refusal),
+}
+
 // Hands a list over into a lent one; 16 where that is shorter.
 pub fn hand(list: &[u16], out: &mut [u16]) -> Answer
     requires { ⌜ length (now list) < 4294967296 ⌝ }
