@@ -19,16 +19,12 @@ use Rattle.judgement.specs.Environment.{isServKind, kidsOf}
 use Rattle.judgement.specs.Aliases.{ends, rootPasses, methodsAt}
 use Rattle.judgement.specs.Actor.{isClassKind, isClass}
 use Rattle.judgement.proofs.Methods.{served-methods}
-use Rattle.environment.proofs.FuncEnds.{as-test}
+use Rattle.environment.proofs.FuncEnds.{as-test, serv-kind}
 
 -- ---- a kind by its number
 pub class-kind : (k v : ℕ) → isClassKind (kindOf k v) ≡ eqb k 25
 unfolding isClassKind kinds
 class-kind k v = kind-alone isClassKind false true 25 v (omega arith) refl refl k ∙ as-test (eqb k 25)
-
-pub serv-kind : (k v : ℕ) → isServKind (kindOf k v) ≡ eqb k 24
-unfolding isServKind kinds
-serv-kind k v = kind-alone isServKind false true 24 v (omega arith) refl refl k ∙ as-test (eqb k 24)
 
 -- ---- a stored tree
 module _ {ns : List ℕ} {n : ℕ} (w : WholeAt ns n) where

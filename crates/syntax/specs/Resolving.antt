@@ -16,6 +16,7 @@ use Rattle.refusals.specs.declared.Verdict.the-variants.{Passed, Refused}
 use Rattle.refusals.specs.Verdict.{isPassed, andThen}
 use Rattle.book.specs.declared.kinds.Contents.{Contents}
 use Rattle.book.specs.Reading.{Admitted}
+use Rattle.judgement.specs.Aliases.{aliasLength}
 use Rattle.judgement.specs.Actor.{serviceImports, mainActor, belowClass}
 use Rattle.judgement.specs.Resolve.{methodsOf, importedMethods, mergedActor, resolveWith}
 use Rattle.judgement.specs.Check.{mainVerdict, importedVerdict, resolveVerdict}
@@ -27,33 +28,33 @@ use Rattle.syntax.specs.Interfaces.{IsService, methodsIn, noServices, no
 
 -- ---- One service
 
--- No service, with a verdict; and the service at a node, where it is one.
-abbrev pub noService : Verdict → Service
-noService v = record { verdict = v; count = 0; node = 0 }
+-- No service, with a verdict; and the service at a node, where it is one. So many names were crossed.
+abbrev pub noService : ℕ → Verdict → Service
+noService k v = record { verdict = v; count = 0; node = 0; crossed = k }
 
-abbrev pub serviceAt : List ℕ → Refusal → ℕ → Service
-serviceAt ns other e = cond (eqb (rowAt ns e .kind) 24) (record { verdict = Passed; count = 1; node = e }) (noService (Refused other))
+abbrev pub serviceAt : List ℕ → Refusal → ℕ → ℕ → Service
+serviceAt ns other k e = cond (eqb (rowAt ns e .kind) 24) (record { verdict = Passed; count = 1; node = e; crossed = k }) (noService k (Refused other))
 
--- A service or none: it has the verdict and the methods that are said of the definitions.
-pub record ServiceAs (ns roots : List ℕ) (count definitions : ℕ) (said : List Definition → Verdict) (held : List Definition → Forest Node) (s : Service) : Type 0 where
+-- A service or none: it has the verdict, the methods and the length of the chain that are said of the definitions.
+pub record ServiceAs (ns roots : List ℕ) (count definitions : ℕ) (said : List Definition → Verdict) (held : List Definition → Forest Node) (long : List Definition → ℕ)
+    (s : Service) : Type 0 where
   pub verdict : (ds : List Definition) → Tabled ns roots definitions ds → s .verdict ≡ said ds
   pub one : s .count ≤ 1
   pub node : s .count ≡ 1 → IsService ns count (s .node)
   pub methods : isPassed (s .verdict) ≡ true → (ds : List Definition) → Tabled ns roots definitions ds → methodsIn ns (take (s .count) (s .node ∷ [])) ≡ held ds
-  pub refused : isPassed (s .verdict) ≡ false → s ≡ noService (s .verdict)
+  pub refused : isPassed (s .verdict) ≡ false → s ≡ noService (s .crossed) (s .verdict)
+  pub length-is : (ds : List Definition) → Tabled ns roots definitions ds → s .crossed ≡ long ds
+  pub few : s .crossed ≤ definitions
 
 -- That of the main actor, which has this root or 65,535.
 abbrev pub MainAs : List ℕ → List ℕ → ℕ → ℕ → ℕ → Service → Type 0
 MainAs ns roots count definitions root s =
-    ServiceAs ns roots count definitions (λ ds. mainVerdict ds (actorAt ns root)) (λ ds. methodsOf ds (belowClass (actorAt ns root))) s
+    ServiceAs ns roots count definitions (λ ds. mainVerdict ds (actorAt ns root)) (λ ds. methodsOf ds (belowClass (actorAt ns root)))
+    (λ ds. aliasLength ds (belowClass (actorAt ns root))) s
 
 pub record MainService (ns roots : List ℕ) (count definitions root : ℕ) (s : Service) : Type 0 where
   pub main : MainAs ns roots count definitions root s
   pub passed : isPassed (s .verdict) ≡ true
-
--- How many services the type at node e is; 65,535 for none.
-unfoldable pub serviceCount : List ℕ → ℕ → ℕ
-serviceCount ns e = cond (eqb e 65535) 0 (cond (eqb (rowAt ns e .kind) 24) 1 0)
 
 -- ---- Main's service and those of imports
 

@@ -1,6 +1,7 @@
 // The actor that a book means: `resolve_actor` of syntax/mod.rs, on main and the service imports. It runs after the definitions have passed,
 // so that the table of alias ends is there.
 ghost use mathlib.Core.Path.{_≡_};
+ghost use mathlib.Core.Bool.{cond};
 ghost use mathlib.Core.List.{List, []};
 ghost use Prim.Native.Nat.{ℕ, _+_, _<_};
 ghost use lib.ListN.{take};
@@ -8,7 +9,7 @@ ghost use Rattle.format.specs.Book.{Definition};
 ghost use Rattle.format.specs.Layout.{nodesPart, filesPart};
 ghost use Rattle.format.specs.Whole.{Within, treeAt, actorAt};
 ghost use Rattle.book.specs.Reading.{Admitted};
-ghost use Rattle.judgement.specs.Aliases.{aliasEnd};
+ghost use Rattle.judgement.specs.Aliases.{aliasEnd, aliasLength};
 ghost use Rattle.judgement.specs.Resolve.{methodsOf};
 ghost use Rattle.judgement.specs.Check.{serviceVerdict, hashesVerdict};
 ghost use Rattle.environment.specs.Tables.{Roots, EndNodes, Chains, Tabled};
@@ -16,7 +17,7 @@ ghost use Rattle.environment.specs.Trees.{AllTrees};
 ghost use Rattle.syntax.specs.Files.{Listed, listedFiles, FilesPassed};
 ghost use Rattle.syntax.specs.Classes.{BelowAs, TopAs};
 ghost use Rattle.syntax.specs.Interfaces.{methodsIn, InterfaceNodes, ActorAs};
-ghost use Rattle.syntax.specs.Resolving.{serviceAt, ServiceAs, MainAs, MainService, serviceCount, ServicesAs, resolvedNone, MergedActorAs, ResolvedAs};
+ghost use Rattle.syntax.specs.Resolving.{serviceAt, ServiceAs, MainAs, MainService, ServicesAs, resolvedNone, MergedActorAs, ResolvedAs};
 use crate::class::Top;
 use crate::files::Files;
 use crate::files::Imports;
@@ -26,25 +27,25 @@ use book::kinds::Contents;
 use book::kinds::Kind;
 use book::read::Entry;
 use book::read::Node;
-use environment::Alias;
-use environment::Table;
+use environment::End;
 use format::Limits;
 use refusals::Refusal;
 use refusals::Verdict;
 
 // ---- One service
 
-// The node of a service, or none; or why it is refused.
+// The node of a service, or none; or why it is refused. In each case how many names were crossed.
 struct Service {
     verdict: Verdict,
     count: usize,
     node: u16,
+    crossed: usize,
 }
 
 // A service, where the node is one; `other` of another type.
-fn service_at(rows: &[u8], e: usize, other: Refusal) -> Service
+fn service_at(rows: &[u8], e: usize, crossed: usize, other: Refusal) -> Service
     requires { ⌜ Within (now rows) (e + 1) × (e < 4096) ⌝ }
-    ensures { λ r. ⌜ r ≡ serviceAt (now (rows .entry)) other e ⌝ }
+    ensures { λ r. ⌜ r ≡ serviceAt (now (rows .entry)) other crossed e ⌝ }
 {
     let t = Node::at(rows, e);
     if t.kind != Kind::SERVICE {
@@ -52,12 +53,14 @@ fn service_at(rows: &[u8], e: usize, other: Refusal) -> Service
             verdict: Verdict::Refused(other),
             count: 0,
             node: 0,
+            crossed,
         };
     }
     Service {
         verdict: Verdict::Passed,
         count: 1,
         node: e as u16,
+        crossed,
     }
 }
 
@@ -74,21 +77,27 @@ fn chase_service(
         ((ds : List Definition) × Tabled (nodesPart (now book)) (now roots) main ds) ⌝ }
     ensures { λ r. ⌜ ServiceAs (nodesPart (now (book .entry))) (now (roots .entry)) (c .nodes) main
         (λ ds. serviceVerdict other (aliasEnd ds (treeAt (nodesPart (now (book .entry))) node)))
-        (λ ds. methodsOf ds (treeAt (nodesPart (now (book .entry))) node)) r ⌝ }
+        (λ ds. methodsOf ds (treeAt (nodesPart (now (book .entry))) node))
+        (λ ds. aliasLength ds (treeAt (nodesPart (now (book .entry))) node)) r ⌝ }
 {
     let rows = c.nodes(book);
-    match environment::alias_end(rows, roots, c.names, c.nodes, main, node) {
-        Alias::Unbound(n) => Service {
+    let chain = environment::alias_end(rows, roots, c.names, c.nodes, main, node);
+    let crossed = chain.crossed;
+    let end = chain.end;
+    match end {
+        End::Unbound(n) => Service {
             verdict: Verdict::Refused(Refusal::Unbound(n)),
             count: 0,
             node: 0,
+            crossed,
         },
-        Alias::Circle => Service {
+        End::Circle => Service {
             verdict: Verdict::Refused(other),
             count: 0,
             node: 0,
+            crossed,
         },
-        Alias::Ends(e) => service_at(rows, e, other),
+        End::Ends(e) => service_at(rows, e, crossed, other),
     }
 }
 
@@ -110,6 +119,7 @@ fn main_service(
             verdict: Verdict::Passed,
             count: 0,
             node: 0,
+            crossed: 0,
         };
     }
     chase_service(book, c, roots, main, below, Refusal::NoService)
@@ -123,23 +133,18 @@ pub struct Resolved {
     pub interface: Interface,
 }
 
-// How many services the type is at which a chain ends.
-fn service_count(rows: &[u8], e: u16) -> usize
-    requires { ⌜ ((e ≡ 65535 → ⊥) → Within (now rows) (e + 1)) ⌝ }
-    ensures { λ r. ⌜ r ≡ serviceCount (now (rows .entry)) e ⌝ }
+// As many services as a lookup finds.
+fn service_count(found: bool) -> usize
+    ensures { λ r. ⌜ r ≡ cond found 1 0 ⌝ }
 {
-    if e == Table::NONE {
-        return 0;
-    }
-    let t = Node::at(rows, e as usize);
-    if t.kind == Kind::SERVICE {
+    if found {
         return 1;
     }
     0
 }
 
 // Without service imports the actor is main's as written: the service at the end of the chain from what stands below its top.
-fn written(rows: &[u8], ends: &[u16], root: u16, top: Top) -> Interface
+fn written(rows: &[u8], ends: &[u32], root: u16, top: Top) -> Interface
     requires { ⌜ ((names nodes : ℕ) × AllTrees (now rows) names nodes × EndNodes (now ends) nodes × ((root ≡ 65535 → ⊥) → root < nodes) × TopAs (now rows) nodes root top ×
         ((ds : List Definition) × Chains (now rows) (now ends) names ds)) ⌝ }
     ensures { λ r. ⌜ ((names nodes : ℕ) (ds : List Definition) → AllTrees (now (rows .entry)) names nodes → EndNodes (now (ends .entry)) nodes → ((root ≡ 65535 → ⊥) → root < nodes) →
@@ -148,15 +153,15 @@ fn written(rows: &[u8], ends: &[u16], root: u16, top: Top) -> Interface
     if root == Entry::NO_ROOT {
         return crate::interface::no_interface();
     }
-    let e = environment::end_of(rows, ends, top.below);
-    let count = service_count(rows, e);
+    let service = environment::as_service(rows, ends, top.below);
+    let count = service_count(service.found);
     Interface {
         merged: false,
         root,
         from: top.from,
         until: top.until,
         count,
-        services: [e; Limits::FILES],
+        services: [service.node; Limits::FILES],
     }
 }
 
@@ -276,7 +281,7 @@ pub fn resolve_actor(
     files: Files,
     main: usize,
     roots: &[u16],
-    ends: &[u16],
+    ends: &[u32],
 ) -> Resolved
     requires { ⌜ ((a : Admitted (now book) c) × FilesPassed a files × Roots (now roots) (c .nodes) × EndNodes (now ends) (c .nodes) ×
         ((ds : List Definition) × Tabled (nodesPart (now book)) (now roots) main ds × Chains (nodesPart (now book)) (now ends) (c .names) ds)) ⌝ }

@@ -33,7 +33,7 @@ fn last_child(rows: &[u8], from: usize, until: usize) -> usize
 }
 
 // The top of an actor of this root, or NO_ROOT.
-pub(crate) fn top_of(rows: &[u8], root: u16) -> Top
+pub fn top_of(rows: &[u8], root: u16) -> Top
     requires { ⌜ ((names nodes : ℕ) × AllTrees (now rows) names nodes × ((root ≡ 65535 → ⊥) → root < nodes)) ⌝ }
     ensures { λ r. ⌜ ((names nodes : ℕ) → AllTrees (now (rows .entry)) names nodes → ((root ≡ 65535 → ⊥) → root < nodes) → TopAs (now (rows .entry)) nodes root r) ⌝ }
 {

@@ -2,7 +2,7 @@
 use mathlib.Core.Path.{_≡_, refl, sym, ap, subst, _∙_}
 use mathlib.Core.Bool.{Bool, true, false, cond, false≢true}
 use mathlib.Core.List.{List}
-use Prim.Native.Nat.{ℕ, zero, suc, _+_, _≤_, _<_}
+use Prim.Native.Nat.{ℕ, zero, suc, _≤_, _<_}
 use native.Mathlib.Decide.{ℕ-discrete}
 use native.Mathlib.Omega.{arith}
 use borrow.Author.Tests.{ne-eqb}
@@ -12,22 +12,20 @@ use Rattle.format.specs.Forest.{Forest, end}
 use Rattle.format.specs.Node.{Node}
 use Rattle.format.specs.Book.{Definition}
 use Rattle.format.specs.Layout.{rowAt}
-use Rattle.format.specs.Whole.{Within, WholeAt, treeAt, actorAt}
-use Rattle.format.proofs.Rows.{node-within}
+use Rattle.format.specs.Whole.{WholeAt, treeAt, actorAt}
 use Rattle.format.proofs.Trees.{beside-end}
 use Rattle.format.proofs.Stored.{actor-none, actor-some}
 use Rattle.judgement.specs.Environment.{head, isServKind, kidsOf}
 use Rattle.judgement.specs.Aliases.{End, unbound, circle, ends, aliasEnd, rootPasses, asService, methodsAt}
 use Rattle.judgement.specs.Actor.{isClass, belowClass}
-use Rattle.environment.specs.Tables.{EndNodes, EndAt, Chains, Ended, endNode}
+use Rattle.environment.specs.Tables.{EndNodes, EndAt, Chains, Ended, endIs, endNode}
 use Rattle.environment.specs.Trees.{AllTrees}
-use Rattle.environment.proofs.FuncEnds.{stays}
+use Rattle.environment.proofs.FuncEnds.{stays, ends-service}
 use Rattle.environment.proofs.ChainEnds.{end-at, end-inside, end-whole}
 use Rattle.syntax.specs.declared.class.Top.{Top}
 use Rattle.syntax.specs.declared.interface.Interface.{Interface}
 use Rattle.syntax.specs.Classes.{TopAs}
 use Rattle.syntax.specs.Interfaces.{IsService, methodsIn, interfaceTree, noInterface, ActorAs}
-use Rattle.syntax.specs.Resolving.{serviceCount}
 use Rattle.syntax.proofs.Lists.{no-long}
 use Rattle.syntax.proofs.class.Laws.{none-arguments}
 use Rattle.syntax.proofs.Stored.{tree-service, tree-methods}
@@ -57,14 +55,14 @@ record Served (ns : List ℕ) (count : ℕ) (ds : List Definition) (below e n : 
   service : n ≡ 1 → IsService ns count e
   methods : asService ds (treeAt ns below) ≡ true → methodsIn ns (take n (replicate 16 e)) ≡ methodsAt (aliasEnd ds (treeAt ns below))
 
-module _ {ns ends′ : List ℕ} {below : ℕ} (s : Ended ns ends′ below) {e n : ℕ} (is : e ≡ endNode ns ends′ below) (z : n ≡ serviceCount ns e) (ds : List Definition) where
+module _ {ns ends′ : List ℕ} {below : ℕ} (s : Ended ns ends′ below) {e n : ℕ} (is : e ≡ endNode ns ends′ below) (ds : List Definition) (z : n ≡ cond (asService ds (treeAt ns below)) 1 0) where
   by-end : (f : End) → aliasEnd ds (treeAt ns below) ≡ f → EndAt ns e f → Served ns (s .count) ds below e n
-  unfolding asService rootPasses serviceCount methodsAt methodsIn
+  unfolding asService rootPasses methodsAt methodsIn
   by-end (unbound m) q x =
-      let none : n ≡ 0 = z ∙ rw x in
       let no : asService ds (treeAt ns below) ≡ false = ap (rootPasses isServKind) q in
+      let none : n ≡ 0 = z ∙ rw no in
       record {
-        counted = none ∙ rw no;
+        counted = z;
         service = λ o. absurd (let f : ⊥ = omega (arith, none, o) in f);
         methods = λ t. absurd (false≢true (sym no ∙ t));
       }
@@ -81,13 +79,13 @@ module _ {ns ends′ : List ℕ} {below : ℕ} (s : Ended ns ends′ below) {e n
       says = ap (rootPasses isServKind) at ∙ tree-service whole
 
       some : n ≡ cond (eqb (rowAt ns e .kind) 24) 1 0
-      some = z ∙ rw (ne-eqb e 65535 (x .0))
+      some = z ∙ rw says
 
       go : Dec (rowAt ns e .kind ≡ 24) → Served ns (s .count) ds below e n
       go (yes k) =
           let one : n ≡ 1 = some ∙ rw k in
           record {
-            counted = some ∙ rw says;
+            counted = z;
             service = λ o. (end-inside s is (x .0), k);
             methods = λ t. rw one (beside-end (kidsOf (treeAt ns e)) ∙ tree-methods whole k ∙ ap methodsAt (sym at));
           }
@@ -95,7 +93,7 @@ module _ {ns ends′ : List ℕ} {below : ℕ} (s : Ended ns ends′ below) {e n
           let no : eqb (rowAt ns e .kind) 24 ≡ false = ne-eqb (rowAt ns e .kind) 24 k in
           let none : n ≡ 0 = some ∙ rw no in
           record {
-            counted = some ∙ rw says;
+            counted = z;
             service = λ o. absurd (let f : ⊥ = omega (arith, none, o) in f);
             methods = λ t. absurd (false≢true (sym no ∙ sym says ∙ t));
           }
@@ -112,14 +110,11 @@ module _ {ns ends′ : List ℕ} {names count root : ℕ} (a : AllTrees ns names
       record { names = names; count = count; nodes = a .nodes; table = z; inside = omega (arith, b .inside, a .nodes .tree root h .ends) }
 
   module _ {e : ℕ} (is : e ≡ endNode ns ends′ (top .below)) where
-    pub end-within : (e ≡ 65535 → ⊥) → Within ns (e + 1)
-    end-within n = node-within (end-whole below-ended is n)
-
-    pub written-as : {n : ℕ} → n ≡ serviceCount ns e → (ds : List Definition) → Chains ns ends′ names ds →
+    pub written-as : {n : ℕ} → n ≡ cond (endIs 24 ns ends′ (top .below)) 1 0 → (ds : List Definition) → Chains ns ends′ names ds →
         ActorAs ns count ds (actorAt ns root) (record { merged = false; root = root; from = top .from; until = top .until; count = n; services = replicate 16 e })
     unfolding interfaceTree below-ended
     written-as {n} q ds c =
-        let s = served below-ended is q ds c in
+        let s = served below-ended is ds (q ∙ ap (λ (b : Bool). cond b 1 0) (ends-service below-ended ds c)) c in
         let same : treeAt ns (top .below) ≡ belowClass (actorAt ns root) = t .below some .is ∙ ap belowClass (sym (actor-some ns root some)) in
         let few : n ≤ 1 = at-most (asService ds (treeAt ns (top .below))) (s .counted) in
         record {

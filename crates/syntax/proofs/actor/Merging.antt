@@ -24,7 +24,7 @@ use Rattle.refusals.specs.Verdict.{isPassed, andThen}
 use Rattle.book.specs.declared.kinds.Contents.{Contents}
 use Rattle.book.specs.Reading.{EntryWithin, Admitted}
 use Rattle.judgement.specs.Environment.{kidsOf}
-use Rattle.judgement.specs.Aliases.{aliasEnd}
+use Rattle.judgement.specs.Aliases.{aliasEnd, aliasLength}
 use Rattle.judgement.specs.Actor.{serviceImports, mainActor, belowClass, mergedOf}
 use Rattle.judgement.specs.Resolve.{methodsOf, importedMethods, mergedActor, resolveWith}
 use Rattle.judgement.specs.Check.{serviceVerdict, mainVerdict, importedVerdict, hashesVerdict, resolveVerdict}
@@ -111,7 +111,8 @@ module _ {ns roots fs numbers : List ℕ} {total nodes definitions root : ℕ} w
   -- each import
   module _ {services : List ℕ} {k f : ℕ} (l : ServicesLeft ns roots fs numbers total nodes definitions root services k f) where
     module _ (h : f < total) (long : total ≤ length numbers) (few : suc total ≤ 16) (e : Entry) (is : e ≡ entryAt fs (getD numbers f 0)) (rooted : entryAt fs (getD numbers f 0) .root ≡ 65535 → ⊥) {m : Service}
-        (s : ServiceAs ns roots nodes definitions (λ ds. serviceVerdict (refusal.Refusal.ImportNoService (e .name)) (aliasEnd ds (treeAt ns (e .root)))) (λ ds. methodsOf ds (treeAt ns (e .root))) m) where
+        (s : ServiceAs ns roots nodes definitions (λ ds. serviceVerdict (refusal.Refusal.ImportNoService (e .name)) (aliasEnd ds (treeAt ns (e .root)))) (λ ds. methodsOf ds (treeAt ns (e .root)))
+        (λ ds. aliasLength ds (treeAt ns (e .root))) m) where
       abbrev rest : List File
       rest = listedFiles ns fs (drop (f + 1) (take total numbers))
 

@@ -29,7 +29,7 @@ use Rattle.judgement.proofs.Lookup.{member-says}
 use Rattle.book.specs.Tables.{blankTable, zeroTable, HashesAgree}
 use Rattle.book.proofs.Blank.{zero-length}
 use Rattle.environment.specs.Trees.{Methods, AllTrees}
-use Rattle.environment.proofs.Trees.{opened, method-label, kids-methods, rest-methods, blank-nodes, node-trees, node-some}
+use Rattle.environment.proofs.Trees.{opened, method-label, kids-methods, rest-methods, blank-nodes, blank-ends, node-trees, node-some}
 use Rattle.syntax.specs.declared.interface.Interface.{Interface}
 use Rattle.syntax.specs.Interfaces.{IsService, methodsIn, InterfaceNodes}
 use Rattle.syntax.specs.Hashed.{ServicesIn}
@@ -45,7 +45,10 @@ module _ {ns : List ℕ} {names nodes : ℕ} (a : AllTrees ns names nodes) where
   service-ends n s = a .nodes .tree n (s .0) .ends
 
   pub service-methods : (n : ℕ) → IsService ns nodes n → Methods ns blankTable blankTable (n + 1) (n + rowAt ns n .size)
-  service-methods n s = let z = blank-nodes nodes blankTable refl in kids-methods (node-trees a z z (s .0)) (node-some a z z (s .0)) (s .1)
+  service-methods n s =
+      let z = blank-nodes nodes blankTable refl in
+      let e = blank-ends nodes blankTable refl in
+      kids-methods (node-trees a z e (s .0)) (node-some a z e (s .0)) (s .1)
 
   service-kids : (n : ℕ) → IsService ns nodes n → kidsOf (treeAt ns n) ≡ siblings ns (n + 1) (n + rowAt ns n .size)
   unfolding kidsOf

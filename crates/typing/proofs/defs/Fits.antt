@@ -14,7 +14,7 @@ use Rattle.judgement.specs.Check.{methodsFit, bodiesFit}
 use Rattle.environment.specs.Tables.{endIs}
 use Rattle.environment.specs.Trees.{Trees}
 use Rattle.typing.specs.Walk.{Env}
-use Rattle.syntax.proofs.Stored.{serv-kind}
+use Rattle.environment.proofs.FuncEnds.{serv-kind}
 use Rattle.typing.specs.Defs.{BodiesIn, FitAs, BodiesFitAs}
 use Rattle.environment.proofs.Trees.{opened, rest-trees, kids-trees}
 use Rattle.typing.proofs.Walk.{tested-as}

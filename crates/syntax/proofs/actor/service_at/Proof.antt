@@ -12,11 +12,11 @@ at-requires c κs = search needs
 returns : tie.Need-returns
 returns c = rw (ne-eqb _ 24 (λ e. c .if1 .taken (ap (λ (q : Row). q .kind) (c .before .before .at .ensures) ∙ e)))
 
-cast-t8 : tie.Need-cast-t8
-cast-t8 c = search needs
+cast-t9 : tie.Need-cast-t9
+cast-t9 c = search needs
 
 returns-2 : tie.Need-returns-2
 returns-2 c = rw (ap (λ (q : Row). q .kind) (sym (c .before .before .at .ensures)) ∙ c .if1 .left)
 
 pub service-at-spec : {M : Type 1} → statement M
-service-at-spec = tie.close (tie.spec at-requires returns cast-t8 returns-2)
+service-at-spec = tie.close (tie.spec at-requires returns cast-t9 returns-2)
