@@ -167,7 +167,7 @@ struct Counted {
 // The entries of the methods of a service, whose first one has position `first`.
 fn put_methods(
     rows: &[u8],
-    ends: &[u16],
+    ends: &[u32],
     near: &[u16],
     service: usize,
     first: usize,
@@ -189,8 +189,8 @@ fn put_methods(
     let mut m = first;
     let mut at = k;
     while i < until {
-        let e = environment::end_of(rows, ends, i);
-        at = put_end(rows, near, e, m as u16, at, places, out);
+        let end = environment::end_of(rows, ends, i);
+        at = put_end(rows, near, end.node, m as u16, at, places, out);
         let u = Node::at(rows, i);
         m += 1;
         i += u.size;
@@ -205,7 +205,7 @@ fn put_methods(
 // services[0..count], in order. Gives how many there are; those that have a place are written.
 pub fn put_uses(
     rows: &[u8],
-    ends: &[u16],
+    ends: &[u32],
     near: &[u16],
     from: usize,
     until: usize,

@@ -134,7 +134,7 @@ fn marked(
     book: &[u8],
     p: Passed,
     roots: &[u16],
-    ends: &[u16],
+    ends: &[u32],
     listed: &[u16],
     out: &mut [u8],
 ) -> usize
@@ -156,7 +156,7 @@ fn room_for_list() -> [u16; Limits::DEFINITIONS]
 }
 
 // What is printed of a book that passed.
-fn print_passed(book: &[u8], p: Passed, roots: &[u16], ends: &[u16], out: &mut [u8]) -> usize
+fn print_passed(book: &[u8], p: Passed, roots: &[u16], ends: &[u32], out: &mut [u8]) -> usize
     requires { ⌜ BookPassed (now book under full) (now roots) (now ends) p ⌝ }
     ensures { λ r. ⌜ LaidWithin 409600 (printed (now (book .entry))) (now (out .entry)) 0 r (now (out .exit)) ⌝ }
 {
@@ -173,7 +173,7 @@ fn print(book: &[u8], out: &mut [u8]) -> usize
     ensures { λ r. ⌜ (take r (now (out .exit)) ≡ printed (now (book .entry))) × (r < 409600) ⌝ }
 {
     let mut roots = book::tables::blank();
-    let mut ends = book::tables::blank();
+    let mut ends = environment::no_ends();
     let found = passed::pass(book, Limits::full(), &mut roots, &mut ends);
     let v = found.verdict;
     let p = found.passed;

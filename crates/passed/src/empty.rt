@@ -10,7 +10,7 @@ pub fn emptiness_passed(
     book: &[u8],
     p: Passed,
     roots: &[u16],
-    ends: &[u16],
+    ends: &[u32],
     out: &mut [u16],
 ) -> Answer
     requires { ⌜ PassedBook (now book) (now roots) (now ends) p ⌝ }

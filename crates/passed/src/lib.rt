@@ -36,7 +36,7 @@ fn no_contents() -> Contents
 }
 
 // Admits a book and checks it, into tables that have nothing, and have nothing again where it is refused.
-pub fn pass(book: &[u8], limits: Limits, roots: &mut [u16], ends: &mut [u16]) -> Found
+pub fn pass(book: &[u8], limits: Limits, roots: &mut [u16], ends: &mut [u32]) -> Found
     requires { ⌜ (now roots ≡ blankTable) × (now ends ≡ blankTable) ⌝ }
     ensures { λ r. ⌜ PassAs (now (book .entry) under limits) (now (roots .exit)) (now (ends .exit)) r ⌝ }
 {

@@ -7,7 +7,7 @@ use refusals::Refusal;
 use typing::prog::Passed;
 
 // Of a book that passed.
-pub fn list_passed(book: &[u8], p: Passed, roots: &[u16], ends: &[u16], out: &mut [u16]) -> Answer
+pub fn list_passed(book: &[u8], p: Passed, roots: &[u16], ends: &[u32], out: &mut [u16]) -> Answer
     requires { ⌜ PassedBook (now book) (now roots) (now ends) p ⌝ }
     ensures { λ r. ⌜ ((b : PassedBook (now (book .entry)) (now (roots .entry)) (now (ends .entry)) p) →
         HandedAs (list (b .admitted .book)) (now (out .entry)) (now (out .exit)) r) ⌝ }

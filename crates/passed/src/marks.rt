@@ -11,7 +11,7 @@ pub fn marks_passed(
     book: &[u8],
     p: Passed,
     roots: &[u16],
-    ends: &[u16],
+    ends: &[u32],
     list: &[u16],
     out: &mut [u16],
 ) -> Answer

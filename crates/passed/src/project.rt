@@ -11,7 +11,7 @@ pub fn project_passed(
     book: &[u8],
     p: Passed,
     roots: &[u16],
-    ends: &[u16],
+    ends: &[u32],
     asked: &[u16],
     out: &mut [u16],
 ) -> Answer

@@ -13,7 +13,7 @@ use syntax::interface::Interface;
 use typing::prog::Passed;
 
 // The entries of an interface: counted first, and written where there are places for all.
-fn hand_uses(rows: &[u8], ends: &[u16], near: &[u16], offer: Interface, out: &mut [u16]) -> Answer
+fn hand_uses(rows: &[u8], ends: &[u32], near: &[u16], offer: Interface, out: &mut [u16]) -> Answer
     requires { ⌜ Offered (now rows) (now ends) (now near) (offer .from) (offer .until) (offer .services) (offer .count) × (length (now near) ≡ 4097) ⌝ }
     ensures { λ r. ⌜ UsesHanded (now (rows .entry)) (now (ends .entry)) (now (near .entry)) offer (now (out .entry)) (now (out .exit)) r ⌝ }
 {
@@ -52,7 +52,7 @@ pub fn uses_passed(
     book: &[u8],
     p: Passed,
     roots: &[u16],
-    ends: &[u16],
+    ends: &[u32],
     name: u16,
     out: &mut [u16],
 ) -> Answer

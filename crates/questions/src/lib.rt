@@ -22,7 +22,7 @@ pub fn check(book: &[u8], limits: Limits) -> Verdict
     ensures { λ r. ⌜ r ≡ checkBytes (now (book .entry) under limits) ⌝ }
 {
     let mut roots = book::tables::blank();
-    let mut ends = book::tables::blank();
+    let mut ends = environment::no_ends();
     let found = passed::pass(book, limits, &mut roots, &mut ends);
     found.verdict
 }
@@ -32,7 +32,7 @@ pub fn init_check(book: &[u8], limits: Limits) -> Verdict
     ensures { λ r. ⌜ r ≡ initCheckBytes (now (book .entry) under limits) ⌝ }
 {
     let mut roots = book::tables::blank();
-    let mut ends = book::tables::blank();
+    let mut ends = environment::no_ends();
     let found = passed::pass(book, limits, &mut roots, &mut ends);
     let v = found.verdict;
     if !v.passed() {
@@ -49,7 +49,7 @@ pub fn list(book: &[u8], limits: Limits, out: &mut [u16]) -> Answer
     ensures { λ r. ⌜ HandedAs (onBytes list (now (book .entry) under limits)) (now (out .entry)) (now (out .exit)) r ⌝ }
 {
     let mut roots = book::tables::blank();
-    let mut ends = book::tables::blank();
+    let mut ends = environment::no_ends();
     let found = passed::pass(book, limits, &mut roots, &mut ends);
     let v = found.verdict;
     let p = found.passed;
@@ -65,7 +65,7 @@ pub fn init_list(book: &[u8], limits: Limits, out: &mut [u16]) -> Answer
     ensures { λ r. ⌜ HandedAs (onBytes initList (now (book .entry) under limits)) (now (out .entry)) (now (out .exit)) r ⌝ }
 {
     let mut roots = book::tables::blank();
-    let mut ends = book::tables::blank();
+    let mut ends = environment::no_ends();
     let found = passed::pass(book, limits, &mut roots, &mut ends);
     let v = found.verdict;
     let p = found.passed;
@@ -91,7 +91,7 @@ pub fn marks(book: &[u8], limits: Limits, list: &[u16], out: &mut [u16]) -> Answ
     ensures { λ r. ⌜ HandedAs (onBytes (λ b. marksOver b (now (list .entry))) (now (book .entry) under limits)) (now (out .entry)) (now (out .exit)) r ⌝ }
 {
     let mut roots = book::tables::blank();
-    let mut ends = book::tables::blank();
+    let mut ends = environment::no_ends();
     let found = passed::pass(book, limits, &mut roots, &mut ends);
     let v = found.verdict;
     let p = found.passed;
@@ -107,7 +107,7 @@ pub fn uses(book: &[u8], limits: Limits, name: u16, out: &mut [u16]) -> Answer
     ensures { λ r. ⌜ UsesAs (onBytes (λ b. uses b name) (now (book .entry) under limits)) (now (out .entry)) (now (out .exit)) r ⌝ }
 {
     let mut roots = book::tables::blank();
-    let mut ends = book::tables::blank();
+    let mut ends = environment::no_ends();
     let found = passed::pass(book, limits, &mut roots, &mut ends);
     let v = found.verdict;
     let p = found.passed;
@@ -123,7 +123,7 @@ pub fn project(book: &[u8], limits: Limits, asked: &[u16], out: &mut [u16]) -> A
     ensures { λ r. ⌜ HandedAs (onBytes (λ b. project b (now (asked .entry))) (now (book .entry) under limits)) (now (out .entry)) (now (out .exit)) r ⌝ }
 {
     let mut roots = book::tables::blank();
-    let mut ends = book::tables::blank();
+    let mut ends = environment::no_ends();
     let found = passed::pass(book, limits, &mut roots, &mut ends);
     let v = found.verdict;
     let p = found.passed;
@@ -138,7 +138,7 @@ pub fn emptiness(book: &[u8], limits: Limits, out: &mut [u16]) -> Answer
     ensures { λ r. ⌜ HandedAs (onBytes emptiness (now (book .entry) under limits)) (now (out .entry)) (now (out .exit)) r ⌝ }
 {
     let mut roots = book::tables::blank();
-    let mut ends = book::tables::blank();
+    let mut ends = environment::no_ends();
     let found = passed::pass(book, limits, &mut roots, &mut ends);
     let v = found.verdict;
     let p = found.passed;

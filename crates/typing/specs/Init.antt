@@ -72,6 +72,7 @@ pub record Merged {bs : List ℕ} {c : Contents} (a : Admitted bs c) (own roots 
 pub record Seen (bs : List ℕ) (c : Contents) (both : List ℕ) (count : ℕ) (ds : List Definition) : Type 0 where
   pub binds : Binds (nodesPart bs) both ds
   pub counted : length ds ≡ count
+  pub few : count ≤ 512
   pub ended : eachName (λ n. circleVerdict ds n (findType ds n)) 0 (c .names) ≡ Passed
 
 -- Refused init arguments.

@@ -22,7 +22,7 @@ use syntax::interface::ByFile;
 use syntax::interface::Interface;
 
 // The children of a class, or another type.
-fn check_top(rows: &[u8], roots: &[u16], ends: &[u16], n: usize) -> Verdict
+fn check_top(rows: &[u8], roots: &[u16], ends: &[u32], n: usize) -> Verdict
     requires { ⌜ Trees (now rows) (now roots) (now ends) n (n + rowAt (now rows) n .size) × (n < n + rowAt (now rows) n .size) ×
         ((ds : List Definition) × Env (now rows) (now roots) (now ends) false ds) ⌝ }
     ensures { λ r. ⌜ ((ds : List Definition) → Env (now (rows .entry)) (now (roots .entry)) (now (ends .entry)) false ds →
@@ -39,7 +39,7 @@ fn check_top(rows: &[u8], roots: &[u16], ends: &[u16], n: usize) -> Verdict
 fn check_services(
     rows: &[u8],
     roots: &[u16],
-    ends: &[u16],
+    ends: &[u32],
     services: ByFile,
     count: usize,
 ) -> Verdict
@@ -59,7 +59,7 @@ fn check_services(
 }
 
 // An actor merged from services: main's arguments, and then the methods of each.
-fn check_merged(rows: &[u8], roots: &[u16], ends: &[u16], interface: Interface) -> Verdict
+fn check_merged(rows: &[u8], roots: &[u16], ends: &[u32], interface: Interface) -> Verdict
     requires { ⌜ ((ds : List Definition) × ActorStored (now rows) (now roots) (now ends) ds interface × (interface .merged ≡ true) × Env (now rows) (now roots) (now ends) false ds) ⌝ }
     ensures { λ r. ⌜ ((ds : List Definition) → ActorStored (now (rows .entry)) (now (roots .entry)) (now (ends .entry)) ds interface → interface .merged ≡ true →
         Env (now (rows .entry)) (now (roots .entry)) (now (ends .entry)) false ds → r ≡ actorVerdict ds (interfaceTree (now (rows .entry)) interface)) ⌝ }
@@ -73,7 +73,7 @@ fn check_merged(rows: &[u8], roots: &[u16], ends: &[u16], interface: Interface) 
 }
 
 // The actor, where there is one: 3, 4, 5, 6 and 9 in the walk, and then 10: one as written that is no service below its top has none.
-pub(crate) fn check_actor(rows: &[u8], roots: &[u16], ends: &[u16], interface: Interface) -> Verdict
+pub(crate) fn check_actor(rows: &[u8], roots: &[u16], ends: &[u32], interface: Interface) -> Verdict
     requires { ⌜ ((ds : List Definition) × ActorStored (now rows) (now roots) (now ends) ds interface × Env (now rows) (now roots) (now ends) false ds) ⌝ }
     ensures { λ r. ⌜ ((ds : List Definition) → ActorStored (now (rows .entry)) (now (roots .entry)) (now (ends .entry)) ds interface →
         Env (now (rows .entry)) (now (roots .entry)) (now (ends .entry)) false ds → r ≡ actorVerdict ds (interfaceTree (now (rows .entry)) interface)) ⌝ }

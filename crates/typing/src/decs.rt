@@ -20,9 +20,9 @@ fn check_cycle(
     names: usize,
     nodes: usize,
     definitions: usize,
-    ends: &mut [u16],
+    ends: &mut [u32],
 ) -> Verdict
-    requires { ⌜ Nodes (now rows) names nodes × Roots (now roots) nodes × (now ends ≡ blankTable) × ((ds : List Definition) × Tabled (now rows) (now roots) definitions ds) ⌝ }
+    requires { ⌜ Nodes (now rows) names nodes × Roots (now roots) nodes × (now ends ≡ blankTable) × ((ds : List Definition) × Tabled (now rows) (now roots) definitions ds) × (definitions ≤ 1024) ⌝ }
     ensures { λ r. ⌜ CycleAs (now (rows .entry)) (now (roots .entry)) names nodes definitions (now (ends .exit)) r ⌝ }
 {
     let circle = environment::find_ends(rows, roots, names, nodes, definitions, ends);
@@ -39,7 +39,7 @@ fn check_ends(
     from: usize,
     to: usize,
     roots: &[u16],
-    ends: &mut [u16],
+    ends: &mut [u32],
 ) -> Verdict
     requires { ⌜ Admitted (now book) c × Walked (definitionsPart (now book)) (nodesPart (now book)) (c .names) (c .nodes) from to (now roots) × (now ends ≡ blankTable) ⌝ }
     ensures { λ r. ⌜ EnteredAs (definitionsPart (now (book .entry))) (nodesPart (now (book .entry))) (c .names) (c .nodes) from to r (now (roots .entry)) (now (ends .exit)) ⌝ }
@@ -52,7 +52,7 @@ fn check_ends(
     if crate::defs::validate_decs(c.definitions(book), rows, ends, from, to) {
         return Verdict::Passed;
     }
-    environment::clear(ends);
+    environment::clear_ends(ends);
     Verdict::Refused(Refusal::NoFunction)
 }
 
@@ -63,7 +63,7 @@ fn check_entered(
     from: usize,
     to: usize,
     roots: &[u16],
-    ends: &mut [u16],
+    ends: &mut [u32],
 ) -> Verdict
     requires { ⌜ Admitted (now book) c × Entered (definitionsPart (now book)) (nodesPart (now book)) (c .names) (c .nodes) from to (now roots) × (now ends ≡ blankTable) ⌝ }
     ensures { λ r. ⌜ EnteredAs (definitionsPart (now (book .entry))) (nodesPart (now (book .entry))) (c .names) (c .nodes) from to r (now (roots .entry)) (now (ends .exit)) ⌝ }
@@ -84,7 +84,7 @@ pub(crate) fn check_decs(
     from: usize,
     to: usize,
     roots: &mut [u16],
-    ends: &mut [u16],
+    ends: &mut [u32],
 ) -> Verdict
     requires { ⌜ Admitted (now book) c × (from ≤ to) × (to ≤ c .definitions) × (now roots ≡ blankTable) × (now ends ≡ blankTable) ⌝ }
     ensures { λ r. ⌜ DecsAs (definitionsPart (now (book .entry))) (nodesPart (now (book .entry))) (c .names) (c .nodes) from to r (now (roots .exit)) (now (ends .exit)) ⌝ }

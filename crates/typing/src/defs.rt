@@ -19,7 +19,7 @@ pub(crate) fn check_defs(
     entries: &[u8],
     rows: &[u8],
     roots: &[u16],
-    ends: &[u16],
+    ends: &[u32],
     from: usize,
     to: usize,
 ) -> Verdict
@@ -40,7 +40,7 @@ pub(crate) fn check_defs(
 }
 
 // Whether each method of each service in the trees from node `from` up to node `until` is a function. `tested`: these trees are methods.
-fn validate_type(rows: &[u8], ends: &[u16], tested: bool, from: usize, until: usize) -> bool
+fn validate_type(rows: &[u8], ends: &[u32], tested: bool, from: usize, until: usize) -> bool
     requires { ⌜ ((roots : List ℕ) × Trees (now rows) roots (now ends) from until × ((ds : List Definition) × Env (now rows) roots (now ends) false ds)) ⌝ }
     ensures { λ r. ⌜ FitAs (now (rows .entry)) (now (ends .entry)) tested from until r ⌝ }
 {
@@ -63,7 +63,7 @@ fn validate_type(rows: &[u8], ends: &[u16], tested: bool, from: usize, until: us
 pub(crate) fn validate_decs(
     entries: &[u8],
     rows: &[u8],
-    ends: &[u16],
+    ends: &[u32],
     from: usize,
     to: usize,
 ) -> bool

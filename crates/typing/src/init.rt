@@ -44,7 +44,7 @@ fn check_own(book: &[u8], c: Contents, main: usize, own: &mut [u16]) -> Verdict
     requires { ⌜ Admitted (now book) c × (main ≤ c .definitions) × (now own ≡ blankTable) ⌝ }
     ensures { λ r. ⌜ OwnDecsAs (now (book .entry)) c main (now (own .exit)) r ⌝ }
 {
-    let mut ends = book::tables::blank();
+    let mut ends = environment::no_ends();
     crate::decs::check_decs(book, c, main, c.definitions, own, &mut ends)
 }
 
@@ -88,7 +88,7 @@ fn check_arguments(book: &[u8], c: Contents, both: &[u16], count: usize, root: u
     ensures { λ r. ⌜ ((ds : List Definition) → Seen (now (book .entry)) c (now (both .entry)) count ds → ArgumentsFound (now (book .entry)) count root ds r) ⌝ }
 {
     let rows = c.nodes(book);
-    let mut ends = book::tables::blank();
+    let mut ends = environment::no_ends();
     environment::find_ends(rows, both, c.names, c.nodes, count, &mut ends);
     let n = Node::at(rows, root);
     let from = root + 1;

@@ -58,7 +58,7 @@ fn check_modes(value: u32, kids: usize) -> Verdict
 }
 
 // The type at node n. While bodies are walked (`pre`) methods are not tested for being functions.
-fn check_type(rows: &[u8], roots: &[u16], ends: &[u16], pre: bool, n: usize) -> Verdict
+fn check_type(rows: &[u8], roots: &[u16], ends: &[u32], pre: bool, n: usize) -> Verdict
     requires { ⌜ Trees (now rows) (now roots) (now ends) n (n + rowAt (now rows) n .size) × (n < n + rowAt (now rows) n .size) ×
         ((ds : List Definition) × Env (now rows) (now roots) (now ends) pre ds) ⌝ }
     ensures { λ r. ⌜ ((ds : List Definition) → Env (now (rows .entry)) (now (roots .entry)) (now (ends .entry)) pre ds → r ≡ typeVerdict pre ds (now (rows .entry)) n) ⌝ }
@@ -88,7 +88,7 @@ fn check_type(rows: &[u8], roots: &[u16], ends: &[u16], pre: bool, n: usize) -> 
 fn check_fields(
     rows: &[u8],
     roots: &[u16],
-    ends: &[u16],
+    ends: &[u32],
     pre: bool,
     from: usize,
     until: usize,
@@ -112,7 +112,7 @@ fn check_fields(
 fn check_func(
     rows: &[u8],
     roots: &[u16],
-    ends: &[u16],
+    ends: &[u32],
     pre: bool,
     value: u32,
     from: usize,
@@ -136,21 +136,22 @@ fn check_func(
 }
 
 // Whether a method may stand: while bodies are walked any does.
-fn method_fits(rows: &[u8], ends: &[u16], pre: bool, n: usize) -> bool
+fn method_fits(rows: &[u8], ends: &[u32], pre: bool, n: usize) -> bool
     requires { ⌜ Ended (now rows) (now ends) n ⌝ }
     ensures { λ r. ⌜ r ≡ (not (not pre) || endIs 23 (now (rows .entry)) (now (ends .entry)) n) ⌝ }
 {
     if pre {
         return true;
     }
-    environment::as_func(rows, ends, n)
+    let function = environment::as_func(rows, ends, n);
+    function.found
 }
 
 // The methods from node `from` up to node `until`.
 fn check_meths(
     rows: &[u8],
     roots: &[u16],
-    ends: &[u16],
+    ends: &[u32],
     pre: bool,
     from: usize,
     until: usize,

@@ -45,7 +45,7 @@ fn check_resolved(
     files: Files,
     main: usize,
     roots: &[u16],
-    ends: &[u16],
+    ends: &[u32],
 ) -> Found
     requires { ⌜ ((a : Admitted (now book) c) × FilesPassed a files × DecsPassed a main (now roots) (now ends)) ⌝ }
     ensures { λ r. ⌜ ((a : Admitted (now (book .entry)) c) → FilesPassed a files → DecsPassed a main (now (roots .entry)) (now (ends .entry)) →
@@ -73,7 +73,7 @@ fn check_resolved(
 
 // The definitions that are not the init file's, of a book whose imports passed; and its actor. A refusal leaves both tables with nothing, as
 // they were lent.
-fn check_files(book: &[u8], c: Contents, files: Files, roots: &mut [u16], ends: &mut [u16]) -> Found
+fn check_files(book: &[u8], c: Contents, files: Files, roots: &mut [u16], ends: &mut [u32]) -> Found
     requires { ⌜ ((a : Admitted (now book) c) × FilesPassed a files × (now roots ≡ blankTable) × (now ends ≡ blankTable)) ⌝ }
     ensures { λ r. ⌜ ((a : Admitted (now (book .entry)) c) → FilesPassed a files → FoundAs a (now (roots .exit)) (now (ends .exit)) r) ⌝ }
 {
@@ -86,14 +86,14 @@ fn check_files(book: &[u8], c: Contents, files: Files, roots: &mut [u16], ends: 
     let w = found.verdict;
     if !w.passed() {
         environment::clear(roots);
-        environment::clear(ends);
+        environment::clear_ends(ends);
         return found;
     }
     found
 }
 
 // The check of an admitted book, into tables that have nothing: refusals 2 to 10 and 12 to 14, the first in the order of the check.
-pub fn check_prog(book: &[u8], c: Contents, roots: &mut [u16], ends: &mut [u16]) -> Found
+pub fn check_prog(book: &[u8], c: Contents, roots: &mut [u16], ends: &mut [u32]) -> Found
     requires { ⌜ Admitted (now book) c × (now roots ≡ blankTable) × (now ends ≡ blankTable) ⌝ }
     ensures { λ r. ⌜ ((a : Admitted (now (book .entry)) c) → FoundAs a (now (roots .exit)) (now (ends .exit)) r) ⌝ }
 {

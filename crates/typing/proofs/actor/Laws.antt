@@ -30,7 +30,7 @@ use Rattle.refusals.specs.declared.Verdict.{Verdict}
 use Rattle.refusals.specs.declared.Verdict.the-variants.{Passed, Refused}
 use Rattle.refusals.specs.Verdict.{isPassed, andThen, unless}
 use Rattle.judgement.specs.Environment.{head, headKind, isServKind, kidsOf}
-use Rattle.judgement.specs.Aliases.{chain, aliasEnd, rootPasses, asService}
+use Rattle.judgement.specs.Aliases.{Chain, chain, aliasEnd, rootPasses, asService}
 use Rattle.judgement.specs.Actor.{isClassKind, isClass, lastTree, allButLast, classArguments, belowClass, serviceOf, classOf, mergedOf}
 use Rattle.judgement.specs.Check.{kindVerdict, methodVerdict, checkForest, actorVerdict}
 use Rattle.judgement.specs.WellFormed.{belowTop}
@@ -106,7 +106,7 @@ module _ (ds : List Definition) (methods : Forest Node) where
 
   service-is : asService ds (serviceOf methods) ≡ true
   unfolding asService aliasEnd chain head headKind rootPasses isServKind
-  service-is = ap (rootPasses isServKind) (chain-other ds (serviceOf methods) (length ds) refl)
+  service-is = ap (λ (c : Chain). rootPasses isServKind (c .last)) (chain-other ds (serviceOf methods) (length ds) refl)
 
   -- ---- a merged actor: a class with its arguments, or a service
   pub merged-verdict : (main : Forest Node) → andThen (checkForest false false ds (classArguments main)) (checkForest false true ds methods) ≡ actorVerdict ds (mergedOf main methods)

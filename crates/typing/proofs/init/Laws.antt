@@ -402,6 +402,7 @@ module _ {bs : List ℕ} {c : Contents} (a : Admitted bs c) {own : List ℕ} {in
           record {
             binds = both-binds;
             counted = count-is;
+            few = count-few;
             ended =
                 ap (eachName (λ n. circleVerdict both-ds n (findType both-ds n)) 0) (names-count a)
                 ∙ merged-no-circle (length (a .book .names)) (ids a) (ds a) (init-definitions-fit (a .book) (found bs (a .book) .0 (a .laid) .0) .exists) own-passed

@@ -1,4 +1,5 @@
 -- `check_ends` meets its contract. Assumes nothing.
+use native.Mathlib.Omega.{arith}
 use mathlib.Core.Path.{refl, sym, _∙_}
 use borrow.Author.Tests.{not-true, not-false}
 use Rattle.typing.proofs.decs.Laws.{tabled, table, bodies-here, decs-circle, ends-nodes, env-ends, decs-unfit, decs-passed}
@@ -20,7 +21,7 @@ sub-check-cycle : tie.Need-sub-check-cycle
 sub-check-cycle c = c .before .before .before .before .pre .1 .entered .bodies .entries .ordered
 
 check-cycle-requires : tie.Need-check-cycle-requires
-check-cycle-requires c κs = let p = c .before .before .before .before .before .pre in rw (c .before .nodes .ensures) (p .1 .entered .bodies .nodes, table (p .1 .entered), p .2, (_, tabled (p .1 .entered)))
+check-cycle-requires c κs = let p = c .before .before .before .before .before .pre in rw (c .before .nodes .ensures) (p .1 .entered .bodies .nodes, table (p .1 .entered), p .2, (_, tabled (p .1 .entered)), omega (arith, p .1 .entered .bodies .entries .held, p .1 .entered .bodies .entries .few))
 
 passed-requires : tie.Need-passed-requires
 passed-requires c κs = search needs
@@ -47,8 +48,8 @@ same-length-2 c = search needs
 returns-2 : tie.Need-returns-2
 returns-2 c = decs-passed ((entry-after-passed (c .before .before .before .before .before)) .pre .1) (rw ((nodes-after-validate-decs (c .before)) .nodes .ensures) at (c .before .before .before .before .before .before .before .before .check-cycle .ensures)) (sym (c .before .before .before .before .before .passed .ensures) ∙ not-false _ (c .before .before .before .before .if1 .left)) (rw (c .before .before .before .definitions .ensures, (nodes-after-validate-decs (c .before)) .nodes .ensures) at (c .before .validate-decs .ensures)) (c .if2 .taken)
 
-clear-requires : tie.Need-clear-requires
-clear-requires c κs =
+clear-ends-requires : tie.Need-clear-ends-requires
+clear-ends-requires c κs =
     let k = c .before .before .before .before .before in
     k .before .before .before .before .check-cycle .ensures .ends (sym (k .before .passed .ensures) ∙ not-false _ (k .if1 .left)) .nodes refl .long
 
@@ -58,7 +59,7 @@ same-length-3 c = search needs
 returns-3 : tie.Need-returns-3
 returns-3 c =
     let k = c .before .before .before .before in
-    decs-unfit ((entry-after-passed (k .before .before .before .before .before)) .pre .1) (rw ((nodes-after-validate-decs (k .before)) .nodes .ensures) at (k .before .before .before .before .before .before .before .before .check-cycle .ensures)) (sym (k .before .before .before .before .before .passed .ensures) ∙ not-false _ (k .before .before .before .before .if1 .left)) (rw (k .before .before .before .definitions .ensures, (nodes-after-validate-decs (k .before)) .nodes .ensures) at (k .before .validate-decs .ensures)) (k .if2 .left) (c .before .before .clear .ensures)
+    decs-unfit ((entry-after-passed (k .before .before .before .before .before)) .pre .1) (rw ((nodes-after-validate-decs (k .before)) .nodes .ensures) at (k .before .before .before .before .before .before .before .before .check-cycle .ensures)) (sym (k .before .before .before .before .before .passed .ensures) ∙ not-false _ (k .before .before .before .before .if1 .left)) (rw (k .before .before .before .definitions .ensures, (nodes-after-validate-decs (k .before)) .nodes .ensures) at (k .before .validate-decs .ensures)) (k .if2 .left) (c .before .before .clear-ends .ensures)
 
 pub check-ends-spec : {M : Type 1} → statement M
 check-ends-spec =
@@ -74,6 +75,6 @@ check-ends-spec =
     validate-decs-requires
     same-length-2
     returns-2
-    clear-requires
+    clear-ends-requires
     same-length-3
     returns-3)

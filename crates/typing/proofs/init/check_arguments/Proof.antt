@@ -19,14 +19,14 @@ nodes-after-passed c = c .before .before .before .before .before .before .before
 nodes-requires : tie.Need-nodes-requires
 nodes-requires c κs = search needs
 
-blank-requires : tie.Need-blank-requires
-blank-requires c κs = search needs
+no-ends-requires : tie.Need-no-ends-requires
+no-ends-requires c κs = search needs
 
 slice-aggregate-find-ends : tie.Need-slice-aggregate-find-ends
 slice-aggregate-find-ends c = search needs
 
 find-ends-requires : tie.Need-find-ends-requires
-find-ends-requires c κs = let p = c .before .before .before .before .before .pre in rw (c .before .before .nodes .ensures) (all-trees (p .0) .nodes, p .1, c .before .blank .ensures, (_, (p .3 .1 .binds, p .3 .1 .counted)))
+find-ends-requires c κs = let p = c .before .before .before .before .before .pre in rw (c .before .before .nodes .ensures) (all-trees (p .0) .nodes, p .1, c .before .no-ends .ensures, (_, (p .3 .1 .binds, p .3 .1 .counted)), omega (arith, p .3 .1 .few))
 
 at-requires : tie.Need-at-requires
 at-requires c κs = let p = c .before .before .before .before .before .before .before .pre in rw (c .before .before .before .before .nodes .ensures) (node-within (all-trees (p .0) .nodes .tree _ (p .2) .whole))
@@ -73,7 +73,7 @@ check-arguments-spec =
     tie.close
     (tie.spec
     nodes-requires
-    blank-requires
+    no-ends-requires
     slice-aggregate-find-ends
     find-ends-requires
     at-requires

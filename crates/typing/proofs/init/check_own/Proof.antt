@@ -5,14 +5,14 @@ use borrow.Author.Needs.{needs}
 use Rattle.typing.proofs.init.check_own.Statement.{statement}
 use Rattle.typing.proofs.init.check_own.Tie as tie
 
-blank-requires : tie.Need-blank-requires
-blank-requires c κs = search needs
+no-ends-requires : tie.Need-no-ends-requires
+no-ends-requires c κs = search needs
 
 slice-aggregate-check-decs : tie.Need-slice-aggregate-check-decs
 slice-aggregate-check-decs c = search needs
 
 check-decs-requires : tie.Need-check-decs-requires
-check-decs-requires c κs = let p = c .before .before .before .before .before .pre in (p .0, p .1, omega arith, p .2, c .before .before .blank .ensures)
+check-decs-requires c κs = let p = c .before .before .before .before .before .pre in (p .0, p .1, omega arith, p .2, c .before .before .no-ends .ensures)
 
 same-length : tie.Need-same-length
 same-length c = search needs
@@ -24,7 +24,7 @@ pub check-own-spec : {M : Type 1} → statement M
 check-own-spec =
     tie.close
     (tie.spec
-    blank-requires
+    no-ends-requires
     slice-aggregate-check-decs
     check-decs-requires
     same-length

@@ -58,8 +58,8 @@ clear-requires c κs =
     let k = c .before .before .before .before .before .before in
     decs-tables (k .before .before .before .before .before .before .check-decs .ensures) (sym (k .before .passed .ensures) ∙ not-false _ (k .if1 .left)) .table .long
 
-clear-requires-2 : tie.Need-clear-requires-2
-clear-requires-2 c κs =
+clear-ends-requires : tie.Need-clear-ends-requires
+clear-ends-requires c κs =
     let t = c .before .before .before .before .before in let k = t .before .before .before .before .before in
     decs-tables (k .before .before .before .before .before .before .check-decs .ensures) (sym (k .before .passed .ensures) ∙ not-false _ (k .if1 .left)) .ended .long
 
@@ -77,7 +77,7 @@ returns-2 c =
     let s = split-files a x ((definitions-after-passed (k .before .before .before .before)) .definitions .ensures) ((main-definitions-after-else1 (k .before .before .before)) .main-definitions .ensures) in
     let d = defined a s x (k .before .before .before .before .before .before .before .before .before .check-decs .ensures) (sym (k .before .before .before .before .passed .ensures) ∙ not-false _ (k .before .before .before .if1 .left)) in
     found-cleared a (k .check-resolved .ensures a x d)
-    (sym (t .before .passed2 .ensures) ∙ not-true _ (t .if2 .taken)) (c .before .before .before .before .before .before .clear .ensures) (c .before .before .clear2 .ensures)
+    (sym (t .before .passed2 .ensures) ∙ not-true _ (t .if2 .taken)) (c .before .before .before .before .before .before .clear .ensures) (c .before .before .clear-ends .ensures)
 
 same-length-5 : tie.Need-same-length-5
 same-length-5 c = search needs
@@ -109,7 +109,7 @@ check-files-spec =
     check-resolved-requires
     passed-requires-2
     clear-requires
-    clear-requires-2
+    clear-ends-requires
     same-length-3
     same-length-4
     returns-2
