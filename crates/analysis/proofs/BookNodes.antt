@@ -3,7 +3,7 @@
 --     here-..                    a node
 --     rowNames, names-name, ..   the names that rows refer to, one after the other
 --     services-open, ..          the methods of services, by their nodes
-use mathlib.Core.Path.{_≡_, sym, ap, _∙_}
+use mathlib.Core.Path.{_≡_, refl, sym, ap, _∙_}
 use mathlib.Core.List.{List, [], _∷_}
 use Prim.Native.Nat.{ℕ, suc, _+_, _-_, _≤_, _<_}
 use native.Mathlib.Numerals.{add-one}
@@ -24,7 +24,7 @@ use Rattle.book.proofs.Blank.{blank-length, blank-at}
 use Rattle.environment.specs.Trees.{Trees, AllTrees}
 use Rattle.syntax.specs.Interfaces.{methodsIn}
 use Rattle.syntax.proofs.Stored.{tree-kids}
-use Rattle.environment.proofs.Trees.{node-trees, node-some}
+use Rattle.environment.proofs.Trees.{node-trees, node-some, blank-ends}
 use Rattle.listing.proofs.Leaves.{Leafy, fits-leafy}
 use Rattle.analysis.specs.Book.{Rooted, Readable}
 
@@ -42,12 +42,12 @@ module _ {ns roots : List ℕ} (b : Rooted ns roots) {n : ℕ} (h : n < b .count
   pub here-within : Within ns (n + 1)
   here-within = node-within here-whole
 
-  -- the tree of a book needs no table of alias ends: that of roots stands for it
-  pub here-trees : Trees ns roots roots n (n + rowAt ns n .size)
-  here-trees = node-trees (b .all) (b .bound) (b .bound) h
+  -- the tree of a book needs no table of alias ends: one that has nothing stands for it
+  pub here-trees : Trees ns roots blankTable n (n + rowAt ns n .size)
+  here-trees = node-trees (b .all) (b .bound) (blank-ends (b .count) blankTable refl) h
 
   pub here-some : n < n + rowAt ns n .size
-  here-some = node-some (b .all) (b .bound) (b .bound) h
+  here-some = node-some (b .all) (b .bound) (blank-ends (b .count) blankTable refl) h
 
   pub here-leafy : Leafy (treeAt ns n)
   here-leafy = let t = here-trees in fits-leafy (t .walk .names) (t .place) (treeAt ns n) (t .fits)

@@ -47,7 +47,7 @@ put-end-requires c κs =
     let p = (entry-from-end-of (c .before)) .pre in
     let l = c .before .before .before .loop .inv in
     let inside : c .before .before .before .loop .i < p .0 .ended .count = omega (arith, served-until (p .0 .ended), ap (λ (q : Row). q .size) (c .before .before .before .before .before .at .ensures), c .before .before .loop-test .taken) in (
-      end-tested (p .0) (inside) (c .before .end-of .ensures),
+      end-tested (p .0) (inside) (c .before .end-of .ensures .node-is),
       p .1,
       omega (arith, p .2, l .long),
       omega (arith, p .4, l .few, methods-few l, c .before .before .loop-test .taken),
@@ -70,7 +70,7 @@ loop-less : tie.Need-loop-less Inv-loop μ-loop
 loop-less c = omega (arith, method-next (c .before .before .before .before .before .before .before .before .loop .inv) (c .before .before .before .before .before .before .before .loop-test .taken) _ (c .before .at2 .ensures) .0, c .before .before .before .before .before .before .before .loop-test .taken)
 
 loop-again : tie.Need-loop-again Inv-loop μ-loop
-loop-again c = methods-on (c .before .before .before .before .before .before .before .before .loop .inv) (c .before .before .before .before .before .before .before .loop-test .taken) _ (c .before .at2 .ensures) _ (c .before .before .before .before .before .before .end-of .ensures) (c .before .before .before .before .put-end .ensures .0) (c .before .before .before .before .put-end .ensures .1)
+loop-again c = methods-on (c .before .before .before .before .before .before .before .before .loop .inv) (c .before .before .before .before .before .before .before .loop-test .taken) _ (c .before .at2 .ensures) _ (c .before .before .before .before .before .before .end-of .ensures .node-is) (c .before .before .before .before .put-end .ensures .0) (c .before .before .before .before .put-end .ensures .1)
 
 same-length : tie.Need-same-length Inv-loop μ-loop
 same-length c = c .before .loop .inv .long
