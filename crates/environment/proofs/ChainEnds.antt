@@ -3,11 +3,12 @@
 --     crossed-other, ..        `end_of`
 --     served-..                the node
 --     end-at, end-inside       what stands at the end, and that it is a node of the book
+--     name-ended               a name that the table has is on no circle
 --     length-at, reached       how many names are crossed
 use mathlib.Core.Path.{_≡_, refl, sym, ap, subst, _∙_}
 use mathlib.Core.Bool.{false}
 use mathlib.Core.List.{List}
-use Prim.Native.Nat.{ℕ, _+_, _≤_, _<_}
+use Prim.Native.Nat.{ℕ, _+_, _%_, _≤_, _<_}
 use native.Mathlib.Decide.{ℕ-discrete}
 use native.Mathlib.Omega.{arith}
 use borrow.Author.Tests.{ne-eqb}
@@ -19,13 +20,13 @@ use Rattle.format.specs.Layout.{rowAt}
 use Rattle.format.specs.Whole.{Within, WholeAt, treeAt}
 use Rattle.format.proofs.Rows.{node-within}
 use Rattle.judgement.specs.Environment.{findType}
-use Rattle.judgement.specs.Aliases.{End, ends, chain, aliasEnd, aliasLength, nameType}
+use Rattle.judgement.specs.Aliases.{End, circle, ends, chain, aliasEnd, aliasLength, nameType}
 use Rattle.judgement.proofs.Lengths.{crossed-same, crossed-most}
 use Rattle.judgement.proofs.Lengths as chains
-use Rattle.environment.specs.Tables.{nameEnd, endIn, crossedIn, EndAt, Chains, Ended, endIs, endNode, endCrossed, ReachedAs}
+use Rattle.environment.specs.Tables.{nameEnd, endIn, crossedIn, EndAt, ChainAt, Chains, Ended, endIs, endNode, endCrossed, ReachedAs}
 use Rattle.environment.proofs.EndKinds.{is-other, is-none, is-end}
 use Rattle.environment.proofs.Links.{head-var, head-other}
-use Rattle.environment.proofs.Names.{is-named}
+use Rattle.environment.proofs.Names.{is-named, to-name}
 use Rattle.environment.proofs.FuncEnds.{node-ends, name-ends}
 
 pub end-other : (ns ends′ : List ℕ) (node : ℕ) (r : Row) → r ≡ rowAt ns node → (r .kind ≡ 18 → ⊥) → node ≡ endNode ns ends′ node
@@ -108,6 +109,10 @@ module _ {ns ends′ : List ℕ} {node : ℕ} (s : Ended ns ends′ node) where
 
     pub end-whole : (e ≡ 65535 → ⊥) → WholeAt ns e
     end-whole z = s .nodes .tree e (end-inside z) .whole
+
+-- a name whose chain the table has is on no circle
+pub name-ended : {ns : List ℕ} (ds : List Definition) (n e : ℕ) → ChainAt ns ds n e → aliasEnd ds (nameType n) ≡ circle → ⊥
+name-ended {ns} ds n e c z = subst (EndAt ns (e % 65536)) (sym (to-name ds (nameType n) n (is-named n)) ∙ z) (c .end)
 
 -- the kind at the end
 module _ (kind : ℕ) (ns ends′ : List ℕ) (node e : ℕ) (is : e ≡ endNode ns ends′ node) where

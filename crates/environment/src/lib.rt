@@ -9,7 +9,7 @@ ghost use Rattle.format.specs.Book.{Definition};
 ghost use Rattle.format.specs.Whole.{treeAt};
 ghost use Rattle.judgement.specs.Aliases.{chainFrom};
 ghost use Rattle.book.specs.Tables.{blankTable};
-ghost use Rattle.environment.specs.Tables.{Nodes, Entries, Roots, Binds, Tabled, asEnd, InRange, DefinesAs, Ended, EndKnown, FollowedAs, Unfinished, endBefore, Unbegun, NotedAs, AliasEndsAs, ReachedAs, LookupAs};
+ghost use Rattle.environment.specs.Tables.{Nodes, Entries, Roots, Binds, Tabled, asEnd, InRange, DefinesAs, crossedIn, Ended, EndKnown, FollowedAs, Unfinished, endBefore, Unbegun, NotedAs, AliasEndsAs, ReachedAs, LookupAs};
 
 pub mod merge;
 
@@ -299,6 +299,14 @@ pub fn end_of(rows: &[u8], ends: &[u32], node: usize) -> Reached
         node: (e % EndTable::CROSSED) as u16,
         crossed: (e / EndTable::CROSSED) as u16,
     }
+}
+
+// How many names the chain of a name crosses, itself among them, by the table of alias ends.
+pub fn names_crossed(ends: &[u32], n: usize) -> u16
+    requires { ⌜ (length (now ends) ≡ 1024) × (n < 1024) ⌝ }
+    ensures { λ r. ⌜ r ≡ crossedIn (now (ends .entry)) n ⌝ }
+{
+    (ends[n] / EndTable::CROSSED) as u16
 }
 
 // What a lookup finds: the end of a chain, whether it is of the kind that is looked for, and, found or not, how many names were crossed.

@@ -1,6 +1,7 @@
 -- How many names an alias chain crosses: `chain` and `aliasLength` against `Across`, the way from type to type, and `NeverEnds`. Assumes nothing;
 -- where it matters that each name is defined once, the lemma says so.
 --     crossed-other, crossed-on, ..     the names crossed, link by link
+--     ended                             a chain that is no circle ends
 --     crossed-first, crossed-missing    the first is the name that the type is; one without definition is not crossed
 --     crossed-defined, crossed-most     all have a definition, and there are at most as many as definitions
 --     crosses-ends, crosses-unbound,    what is crossed in each case of the end: the way there, or, where it never ends, as many names as there
@@ -40,8 +41,8 @@ module _ (ds : List Definition) where
   pub crossed-missing : (t : Forest Node) (n : ℕ) → head t ≡ named n → (Defined ds n → ⊥) → chain ds t .crossed ≡ []
   crossed-missing t n h m = ap (λ (c : Chain). c .crossed) (run-crossed (loses (record { is-name = h; no-type = missing-find ds n m })))
 
-  -- a chain that ends, or never does
-  ended : (t : Forest Node) → (aliasEnd ds t ≡ circle → ⊥) → Run ds t (chain ds t .crossed) (aliasEnd ds t)
+  -- a chain that does not run for ever ends, and crosses these
+  pub ended : (t : Forest Node) → (aliasEnd ds t ≡ circle → ⊥) → Run ds t (chain ds t .crossed) (aliasEnd ds t)
   unfolding aliasEnd chain
   ended t h = ⊎-elim (λ r. r) (λ p. absurd (h (p .0))) (outcome ds (length ds) t .either)
 

@@ -3,3 +3,4 @@ pub mod Stages
 pub mod Answers
 pub mod Drafts
 pub mod Uses
+pub mod Alias

@@ -5,6 +5,7 @@ ghost use Rattle.format.specs.Admission.{_under_};
 ghost use Rattle.book.specs.Tables.{blankTable};
 ghost use Rattle.passed.specs.Stages.{PassAs, noContents};
 
+pub mod alias;
 pub mod draft_list;
 pub mod empty;
 mod hand;
