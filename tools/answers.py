@@ -3,7 +3,7 @@ r"""Answers the questions on a book, by the papers alone:
 
     python3 tools/answers.py BOOK-OR-SOURCE.did [NAME METHOD PLACES [NAMES NODES DEFINITIONS]]
 
-This is a second reading of document 01, of the Rust functions that it names and of requests 1 and 14 of document 02, for the tests;
+This is a second reading of document 01, of the Rust functions that it names and of requests 1, 3 and 14 of document 02, for the tests;
 tools/layout.py reads the bytes. It prints, one line each, what the program answer_batch prints of the book after its name:
 
     layout OUTCOME          whether the layout is whole, with the counts of names, nodes, definitions and files
@@ -18,10 +18,15 @@ tools/layout.py reads the bytes. It prints, one line each, what the program answ
     init OUTCOME            the init list
     draft OUTCOME           the draft list
     empty OUTCOME           the names that are empty
+    chains OUTCOME          the alias chain from each definition's body, in order, all files' definitions taken as one environment
+    lookups OUTCOME         what stands at the chain's end from the body of each definition but the init file's, and from main's actor
     uses "NAME" OUTCOME     for each name of the table: its uses, METHOD.KIND.INDEX,
+    alias "NAME" OUTCOME    the number of names that the alias chain from it crosses, and the last of them,
     project "NAME" OUTCOME  the positions of the methods projected when it is asked for once
     twice "NAME" OUTCOME    and twice
     uses-outside OUTCOME    the uses of a number outside every table
+    alias-outside OUTCOME   its alias chain,
+    alias-highest OUTCOME   that of the highest number
     project-outside OUTCOME the methods projected when it is asked for,
     project-highest OUTCOME when the highest number is,
     project-none OUTCOME    when nothing is asked for,
@@ -29,7 +34,11 @@ tools/layout.py reads the bytes. It prints, one line each, what the program answ
     project-every OUTCOME   and when every name of the table is, the last name first
 
 OUTCOME is `passed` of a check, `whole` and the counts of a layout, `given`, the number of entries and these, or `refused`, the number
-and the name or `-`. A number that was asked with and is outside the book's table is named as it is, without quotes. Of a book with more
+and the name or `-`. A number that was asked with and is outside the book's table is named as it is, without quotes. An alias is given as the
+number of names and the last one. An entry of chains is ends.K, circle.K or unbound.K and the name without definition, one of lookups f.K (a
+function), s.K (a service) or -.K; K are the names crossed, of a chain that never ends as many as there are definitions. After the lookups comes
+actor.K, of what stands below main's class, where main has an actor; it is no entry. These two are of functions inside the crates, which C has
+not: chains is refused with 1, 24, 18 and 2, lookups with what the check is. Of a book with more
 than 514 names that lists none, so that no name has uses, only the first 8 names and the last 8 are asked about. A broken book is not asked
 about names. After list, marks, init, draft, empty, uses and project-all, if entries were given, it is asked again with one place fewer than
 they take:
@@ -42,8 +51,8 @@ Then each is `refused 18` if a label is repeated anywhere in the book: two child
 methods of one service with equal names. It names the later one's label if it is spelled, of the lowest node that has such an earlier sibling.
 
 QUESTIONS below is the table of them all; a new question is a row there. With the numbers of a NAME and of a METHOD and the PLACES lent, in
-numbers, it prints what c/questions.c has to: each question once, uses of NAME and a projection to METHOD, names by number; with limits
-under these.
+numbers, it prints what c/questions.c has to: each question once, uses and alias chain of NAME and a projection to METHOD, names by number;
+with limits under these.
 """
 
 import functools
@@ -170,15 +179,23 @@ def below_class(actor):
     return actor.kids[-1] if actor.kind == CLASS else actor
 
 
+def chain(env, tree):
+    """The names that a chain of names crosses, in order, and where it ends: in a type, at the number of a name without definition, which is
+    not crossed, or None where it comes to a name again."""
+    crossed = {}
+    while tree.kind == NAME:
+        if tree.value not in env:
+            return [*crossed], tree.value
+        if tree.value in crossed:
+            return [*crossed], None
+        crossed[tree.value] = True
+        tree = env[tree.value]
+    return [*crossed], tree
+
+
 def alias_end(env, tree):
     """The type that a chain of names ends in, None where it runs into a circle."""
-    crossed = set()
-    while tree.kind == NAME:
-        if tree.value in crossed:
-            return None
-        crossed.add(tree.value)
-        tree = env[tree.value]
-    return tree
+    return chain(env, tree)[1]
 
 
 # The check
@@ -408,6 +425,15 @@ def uses(book, name):
     return handed(chase_def_use(book).get(name, []), MOST_USES)
 
 
+def alias(book, name):
+    """How many names the chain from a name crosses, and the last of them, whose definition is no name; 3."""
+    env, _ = check(book)
+    if name not in env:
+        raise Refused(3, name)
+    crossed, _ = chain(env, Tree(NAME, 0, 0, name, []))
+    return len(crossed), crossed[-1]
+
+
 def project(book, asked):
     """Methods in order take an asked name of theirs while one is left; 15."""
     env, actor = with_actor(book)
@@ -433,6 +459,37 @@ def emptiness(book):
         if not ending:
             return sorted(left)
         left -= ending
+
+
+# What functions inside the crates answer
+
+def chains(book):
+    """`trace_type` and its like on an unchecked book, from each body: how a chain ends, the names crossed, the name without definition. A chain
+    that never ends has crossed as many names as there are definitions. 18, 2."""
+    distinct(book)
+    env, found = once(book.definitions), []
+    for row in book.definitions:
+        crossed, end = chain(env, row.type)
+        if end is None:
+            found.append(("circle", len(env), None))
+        elif isinstance(end, Tree):
+            found.append(("ends", len(crossed), None))
+        else:
+            found.append(("unbound", len(crossed), end))
+    return found
+
+
+def lookups(book):
+    """`as_func` and `as_service` on a checked book, from each body and from main's actor, below its class: what is found, the names crossed."""
+    env, _ = check(book)
+
+    def found(tree):
+        crossed, end = chain(env, tree)
+        return {FUNC: "f", SERVICE: "s"}.get(end.kind, "-"), len(crossed)
+
+    actor = book.files[0].type
+    return ([found(row.type) for row in book.definitions_of(MAIN, TYPE_IMPORT, SERVICE_IMPORT)],
+            None if actor is None else found(below_class(actor)))
 
 
 # Lines
@@ -478,6 +535,21 @@ def entries_of_uses(lines, entries):
     return given([".".join(map(str, entry)) for entry in entries])
 
 
+def length_and_last(lines, found):
+    count, last = found
+    return f"given {count} {lines.name(last)}"
+
+
+def ends_of_chains(lines, entries):
+    return given([f"{end}.{count}" + ("" if name is None else f" {lines.name(name)}") for end, count, name in entries])
+
+
+def found_by_lookups(lines, found):
+    entries, actor = found
+    said = given([f"{kind}.{count}" for kind, count in entries])
+    return said if actor is None else f"{said} {'actor' if actor[0] == 's' else 'actor-'}.{actor[1]}"
+
+
 # A line: its word; of what it is asked: of every book, of each name of a whole one, and then of a whole one once; the word under which it
 # is counted; its function; what that is asked with, beside the book; how its answer is said; whether it is asked again with too short a list.
 Question = namedtuple("Question", "word of counted function asked said again")
@@ -495,10 +567,15 @@ QUESTIONS = tuple(Question(*row) for row in (
     ("init", OF_BOOK, "init", init_list, lambda lines, _: [], names, True),
     ("draft", OF_BOOK, "draft", draft_list, lambda lines, _: [], names, True),
     ("empty", OF_BOOK, "empty", emptiness, lambda lines, _: [], names, True),
+    ("chains", OF_BOOK, "chains", chains, lambda lines, _: [], ends_of_chains, False),
+    ("lookups", OF_BOOK, "lookups", lookups, lambda lines, _: [], found_by_lookups, False),
     ("uses", OF_NAME, "uses", uses, lambda lines, number: [number], entries_of_uses, True),
+    ("alias", OF_NAME, "alias", alias, lambda lines, number: [number], length_and_last, False),
     ("project", OF_NAME, "project", project, lambda lines, number: [[number]], numbers, False),
     ("twice", OF_NAME, "project", project, lambda lines, number: [[number, number]], numbers, False),
     ("uses-outside", OF_WHOLE, "uses", uses, lambda lines, _: [OUTSIDE], entries_of_uses, False),
+    ("alias-outside", OF_WHOLE, "alias", alias, lambda lines, _: [OUTSIDE], length_and_last, False),
+    ("alias-highest", OF_WHOLE, "alias", alias, lambda lines, _: [HIGHEST], length_and_last, False),
     ("project-outside", OF_WHOLE, "project", project, lambda lines, _: [[OUTSIDE]], numbers, False),
     ("project-highest", OF_WHOLE, "project", project, lambda lines, _: [[HIGHEST]], numbers, False),
     ("project-none", OF_WHOLE, "project", project, lambda lines, _: [[]], numbers, False),
@@ -507,6 +584,7 @@ QUESTIONS = tuple(Question(*row) for row in (
 ))
 ROWS = {row.word: row for row in QUESTIONS}
 LIMITED = [row for row in QUESTIONS if row.word not in ("layout", "name")]  # those that take limits
+INNER = ("chains", "lookups")  # those of functions inside the crates
 BROKEN = {row.word: 'given 2 "" ""' if row.word == "name" else "refused 1 -" for row in QUESTIONS if row.of == OF_BOOK}
 
 
@@ -610,8 +688,8 @@ class Tally:
 
 def numbered(data, name, method, places, limits=FULL):
     """What c/questions.c prints of a book. How many uses are needed it knows up to MOST_USES alone."""
-    about = {"uses": name, "project": method}
-    rows = [row for row in LIMITED if row.word == row.counted]
+    about = {"uses": name, "alias": name, "project": method}
+    rows = [row for row in LIMITED if row.word == row.counted and row.word not in INNER]
     try:
         lines = Lines(Book(data), limits)
     except Refused:
@@ -623,6 +701,8 @@ def numbered(data, name, method, places, limits=FULL):
             answer = lines.answers[row.word] = lines.answer(row, about.get(row.word))
             if row.said is passed:
                 outcome = passed(lines, answer)
+            elif row.said is length_and_last:
+                outcome = f"given {answer[0]} {answer[1]}"
             else:
                 handed(answer, places // 3 if row.said is entries_of_uses else places)
                 outcome = (entries_of_uses if row.said is entries_of_uses else numbers)(lines, answer)

@@ -23,6 +23,7 @@ A stated outcome of a question is
     // QUESTION: passes          of check and init-check
     // QUESTION: whole N N N N   of layout: names, nodes, definitions, files
     // QUESTION: needs N         of a question with too short a list
+    // alias TEXT: N TEXT        the names crossed and the last of them
 Each three limits are a record of its own, whose name is NAME@NAMES-NODES-DEFINITIONS; stated is
     // NAMES NODES DEFINITIONS: within    every line is as under document 01's figures
     // NAMES NODES DEFINITIONS: over      all but layout and name are refused with 24
@@ -133,6 +134,15 @@ def entries(text):
     return found
 
 
+def given(word, listed):
+    """Stated entries after `given` and their number, but for what is no entry of its own: the name of an unbound chain, and the actor's lookup.
+    An alias chain is one entry that begins with its number."""
+    if word == "alias":
+        return " ".join(["given", *listed])
+    count = sum(not entry.startswith(("actor", '"')) for entry in listed) if word in answers.INNER else len(listed)
+    return " ".join([f"given {count}", *listed])
+
+
 def stated(text):
     """The outcomes that a source of the questions states, as they are printed."""
     if not is_of_questions(text):
@@ -161,8 +171,7 @@ def stated(text):
         elif said.startswith("whole "):
             found[question] = said
         else:
-            listed = [] if said == "none" else entries(said)
-            found[question] = " ".join([f"given {len(listed)}", *listed])
+            found[question] = given(question.split()[0], [] if said == "none" else entries(said))
     if not found:
         raise mkbook.SourceError("no outcome is stated")
     return found

@@ -328,28 +328,39 @@ class Answers(unittest.TestCase):
 
     def test_numbered(self):
         """By hand, what c/build.sh tries. Names: "" fork leaf pair put spare tree; a b c d init m main; "" r s t; "" a b c d m; "" f m000 m001 ..;
-        "" a m."""
+        "" a m; "" a b; "" n0000 .. \\ff; a000 .. a510 head m; a b c d init main."""
         p1 = {"check": "passed", "init-check": "passed", "list": "given 2 3 6", "marks": "given 1 6", "init": "given 0",
-              "draft": "given 2 3 6", "empty": "given 0", "uses": "given 1 0.0.0", "project": "given 1 0"}
+              "draft": "given 2 3 6", "empty": "given 0", "uses": "given 1 0.0.0", "alias": "given 1 6", "project": "given 1 0"}
         short, circle = "refused 16 needs", "refused 7 1"
         books = LIST_BOOKS | {"uses-most": MOST_USES}
         for (name, *asked), right in {
             ("p01", 6, 4, 4096): p1,
-            ("p01", 5, 6, 4096): p1 | {"uses": "given 0", "project": "refused 15 6"},
-            ("p01", 1024, 1024, 4096): p1 | {"uses": "given 0", "project": "refused 15 1024"},
-            ("p01", 65535, 65535, 4096): p1 | {"uses": "given 0", "project": "refused 15 65535"},
+            ("p01", 5, 6, 4096): p1 | {"uses": "given 0", "alias": "given 1 5", "project": "refused 15 6"},
+            ("p01", 1024, 1024, 4096): p1 | {"uses": "given 0", "alias": "refused 3 1024", "project": "refused 15 1024"},
+            ("p01", 65535, 65535, 4096): p1 | {"uses": "given 0", "alias": "refused 3 65535", "project": "refused 15 65535"},
             ("p01", 6, 4, 3): p1,
             ("p01", 6, 4, 2): p1 | {"uses": f"{short} 1"},
             ("p01", 6, 4, 0): p1 | {"list": f"{short} 2", "draft": f"{short} 2",
                                     "marks": f"{short} 1", "uses": f"{short} 1", "project": f"{short} 1"},
             ("init-own", 0, 5, 4096): {"init": "given 3 3 2 1", "draft": "given 1 0", "marks": "given 0", "empty": "given 0",
-                                       "uses": "given 1 0.0.0", "project": "given 1 0"},
+                                       "uses": "given 1 0.0.0", "alias": "given 1 0", "project": "given 1 0"},
             ("p11-empty", 1, 1, 4096): {"init": "given 0", "draft": "refused 17 -", "marks": "given 0", "empty": "given 3 1 2 3",
-                                        "uses": "refused 17 -", "project": "refused 17 -"},
+                                        "uses": "refused 17 -", "alias": "given 1 1", "project": "refused 17 -"},
             ("class-arguments", 2, 5, 4096): {"init": "given 0", "draft": "given 4 4 2 3 1", "marks": "given 0", "empty": "given 0",
                                               "uses": "given 1 65535.0.1", "project": "given 1 0"},
             ("uses-most", 1, 3, 4096): {"init": "given 0", "draft": "given 1 1", "marks": "given 1 1", "empty": "given 0",
                                         "uses": f"{short} 4097", "project": "given 1 3"},
+            ("alias-2", 1, 1, 0): {"list": "refused 17 -", "empty": "given 0", "uses": "refused 17 -", "alias": "given 2 2"},
+            ("alias-2", 2, 1, 0): {"alias": "given 1 2"},
+            ("alias-2", 0, 1, 0): {"alias": "refused 3 0"},
+            ("alias-2", 3, 1, 0): {"alias": "refused 3 3"},
+            ("large-alias-names", 0, 0, 0): {"alias": "given 2 1023"},
+            ("large-alias-names", 1023, 0, 0): {"alias": "given 1 1023"},
+            ("large-chain", 511, 512, 4096): {"alias": "given 512 510", "project": "given 1 0"},
+            ("large-chain", 0, 512, 4096): {"alias": "given 511 510"},
+            ("large-chain", 512, 512, 4096): {"alias": "refused 3 512"},
+            ("alias-init", 0, 0, 0): {"alias": "given 2 1"},
+            ("alias-init", 2, 0, 0): {"alias": "refused 3 2"},
             ("repeat-every-question", 6, 4, 4096): dict.fromkeys(p1, "refused 18 7"),
             ("repeat-none", 65535, 65535, 0): dict.fromkeys(p1, "refused 18 -"),
             ("p03", 2, 1, 4096): dict.fromkeys(p1, circle) | {"draft": "refused 17 -"},
@@ -360,7 +371,7 @@ class Answers(unittest.TestCase):
 
     def test_numbered_limits(self):
         """P1 has 7 names, 10 nodes and 3 definitions. A limit too small is told before a name outside the table and a list too short."""
-        words = "check init-check list marks init draft empty uses project".split()
+        words = "check init-check list marks init draft empty uses alias project".split()
         for asked in ((6, 4, 4096), (65535, 65535, 4096), (6, 4, 0)):
             full = answers.numbered(LIST_BOOKS["p01"], *asked)
             for limits in ((7, 10, 3), (7, 4096, 512), (1024, 10, 512), (1024, 4096, 3), (1025, 4097, 513), (2**32 - 1,) * 3):
@@ -447,9 +458,10 @@ class Limits(unittest.TestCase):
         self.assertEqual(answers.outcomes(book, (6, 10, 3)) | {"name": None}, {
             "layout": "whole 7 10 3 1", "name": None,
             **{question: OVER for question in (
-                "check init-check list marks marks-back marks-outside marks-highest init draft empty uses-outside project-outside "
-                "project-highest project-none project-all project-every").split()},
-            **{f'{word} "{name}"': OVER for word in ("uses", "project", "twice") for name in ("", *"fork leaf pair put spare tree".split())}})
+                "check init-check list marks marks-back marks-outside marks-highest init draft empty chains lookups uses-outside "
+                "alias-outside alias-highest project-outside project-highest project-none project-all project-every").split()},
+            **{f'{word} "{name}"': OVER for word in ("uses", "alias", "project", "twice")
+               for name in ("", *"fork leaf pair put spare tree".split())}})
 
     def test_above_the_figures(self):
         """A limit above a figure counts as the figure, so no whole book is over it, and none with more than the figure becomes whole."""
@@ -629,6 +641,118 @@ class Repeats(unittest.TestCase):
         self.assertGreater(repeats, 150)
 
 
+class Chains(unittest.TestCase):
+    """Request 3 of document 02: how many names an alias chain crosses."""
+
+    def outcomes(self, source):
+        return answers.outcomes(mkbook.book(source))
+
+    def test_alias(self):
+        """From the type that is a name, by hand."""
+        for source, right in {
+            "type a = nat;": {"a": '1 "a"'},
+            "type a = b; type b = nat;": {"a": '2 "b"', "b": '1 "b"'},
+            "type b = nat; type a = b;": {"a": '2 "b"', "b": '1 "b"'},
+            "type b = a; type a = nat;": {"a": '1 "a"', "b": '2 "a"'},
+            "type a = c; type b = c; type c = d; type d = func () -> ();": {"a": '3 "d"', "b": '3 "d"', "c": '2 "d"', "d": '1 "d"'},
+            "type a = opt b; type b = a; type c = record { c };": {"a": '1 "a"', "b": '2 "a"', "c": '1 "c"'},
+            "type a = s; type s = service { m : () -> () }; service : (a) -> a": {"a": '2 "s"', "s": '1 "s"'},
+            'file "m" main type a = b; file "i" type type b = c; file "j" service type c = nat; service : {}':
+                {"a": '3 "c"', "b": '2 "c"', "c": '1 "c"'},
+            'file "m" main type a = nat; file "i" init type b = a; type c = c; args (b)': {"a": '1 "a"'},
+            'type "" = "\\22"; type "\\22" = nat;': {"": '2 "\\22"', "\\22": '1 "\\22"'},
+        }.items():
+            found = self.outcomes(source)
+            for question, outcome in found.items():
+                word, *name = question.split(" ", 1)
+                if word == "alias":
+                    name = name[0].strip('"')
+                    self.assertEqual(outcome, f"given {right[name]}" if name in right else f'refused 3 "{name}"', (source, name))
+            self.assertEqual((found["alias-outside"], found["alias-highest"]), ("refused 3 1024", "refused 3 65535"), source)
+
+    def test_refused(self):
+        """What the check refuses, 1, 24 and 18 come before 3, whatever is asked."""
+        for source, outcome in {
+            "type a = b;": 'refused 3 "b"', "type a = a;": 'refused 7 "a"', "type b = a; type a = a; type a = b;": 'refused 2 "a"',
+            "type a = b; type b = nat; service : b": "refused 10 -", "type a = b; type b = class () -> b;": "refused 4 -",
+            "type a = b; type b = record { x : z; x : z };": 'refused 18 "x"',
+            'file "m" main type a = nat; file "i" service': 'refused 12 "i"',
+        }.items():
+            found = self.outcomes(source)
+            self.assertEqual({found[question] for question in found if question.startswith("alias")}, {outcome}, source)
+            self.assertEqual(found["lookups"], outcome, source)
+        book = answers.Book(mkbook.book("type a = b; type b = nat;"))
+        self.assertEqual([asked(answers.alias, book, number) for number in (0, 1, 2, 3, 1023, 65535)],
+                         [(3, 0), (2, 2), (1, 2), (3, 3), (3, 1023), (3, 65535)])
+
+    def test_chains(self):
+        """Every end from a body, by hand; of all files' definitions together."""
+        for source, right in {
+            "": "given 0",
+            "type a = nat;": "given 1 ends.0",
+            "type a = b; type b = c; type c = opt a;": "given 3 ends.2 ends.1 ends.0",
+            "type a = b;": 'given 1 unbound.0 "b"',
+            "type a = b; type b = z; type c = a;": 'given 3 unbound.1 "z" unbound.0 "z" unbound.2 "z"',
+            "type a = a;": "given 1 circle.1",
+            "type a = b; type b = a; type c = b; type d = nat;": "given 4 circle.4 circle.4 circle.4 ends.0",
+            "type a = c; type c = class () -> a;": "given 2 ends.1 ends.0",
+            'file "m" main type a = c; file "i" init type b = a; type c = nat; args ()': "given 3 ends.1 ends.2 ends.0",
+            'file "m" main type a = b; type b = nat; file "i" init type a = b; args ()': 'refused 2 "a"',
+            "type b = a; type a = b; type a = nat; type b = nat;": 'refused 2 "a"',
+            "type a = record { x : nat; x : nat }; type a = a;": 'refused 18 "x"',
+            'file "m" main type a = a; file "i" service': "given 1 circle.1",
+            "type a = nat; truncate 1": "refused 1 -",
+        }.items():
+            self.assertEqual(self.outcomes(source)["chains"], right, source)
+        self.assertEqual(answers.outcomes(mkbook.book("type a = a;"), (1, 1, 1))["chains"], OVER)
+
+    def test_lookups(self):
+        """Functions and services at the ends, and main's actor below its class."""
+        for source, right in {
+            "": "given 0", "service : {}": "given 0 actor.0", "service : () -> {}": "given 0 actor.0",
+            "type f = g; type g = func () -> (); type t = s; type s = service { m : f }; service : () -> t": "given 4 f.1 f.0 s.1 s.0 actor.2",
+            "type a = b; type b = c; type c = variant { x };": "given 3 -.2 -.1 -.0",
+            'file "m" main type a = service {}; service : a file "i" service type b = service {}; type c = b; service : c':
+                "given 3 s.0 s.0 s.1 actor.1",
+            'file "m" main file "i" service type b = service {}; service : b': "given 1 s.0",
+            'file "m" main file "i" type type b = service {}; service : b': "given 1 s.0",
+            'file "m" main type a = nat; file "i" init type b = a; args (b)': "given 1 -.0",
+        }.items():
+            self.assertEqual(self.outcomes(source)["lookups"], right, source)
+
+    def test_steps(self):
+        """Of the stored books that pass: as many steps as are told, and no fewer, lead from a name to what is no name; there are never more than
+        definitions. A body's chain is one name shorter, and the lookups tell the same."""
+        longest = tried = 0
+        for data in [*CHECK_BOOKS.values(), *LIST_BOOKS.values()]:
+            book = None if layout.faults(data) else answers.Book(data)
+            if book is None or isinstance(asked(answers.check, book)[0], int):
+                continue
+            env, _ = answers.check(book)
+            looked, actor = answers.lookups(book)
+            main = book.definitions_of(answers.MAIN, answers.TYPE_IMPORT, answers.SERVICE_IMPORT)
+            self.assertEqual(len(looked), len(main))
+            for row, (kind, below) in zip(main, looked):
+                count, last = answers.alias(book, row.name)
+                self.assertLessEqual(count, len(env))
+                self.assertEqual(below, count - 1)
+                name = row.name
+                for _ in range(count - 1):
+                    self.assertEqual(env[name].kind, answers.NAME)
+                    name = env[name].value
+                self.assertEqual(name, last)
+                self.assertNotEqual(env[last].kind, answers.NAME)
+                self.assertEqual(kind, {answers.FUNC: "f", answers.SERVICE: "s"}.get(env[last].kind, "-"))
+                longest, tried = max(longest, count), tried + 1
+            top = book.files[0].type and answers.below_class(book.files[0].type)
+            if top is None or top.kind != answers.NAME:
+                self.assertEqual(actor, top and ("s", 0))
+            else:
+                self.assertEqual(actor, ("s", answers.alias(book, top.value)[0]))
+        self.assertEqual(longest, 512)
+        self.assertGreater(tried, 5000)
+
+
 class LimitsSources(unittest.TestCase):
 
     def test_stated(self):
@@ -777,6 +901,14 @@ class ListSources(unittest.TestCase):
                 {'uses-short "a"': "needs 3 refused 16 -", "list-short": "needs 1 refused 16 -"},
             '// marks-back: none\n// marks-outside: refused 3 1024\n': {"marks-back": "given 0", "marks-outside": "refused 3 1024"},
             '// project-every: refused 15 ""\n': {"project-every": 'refused 15 ""'},
+            '// alias "a": 2 "b"\n// alias "b": refused 3 "b"\n': {'alias "a"': 'given 2 "b"', 'alias "b"': 'refused 3 "b"'},
+            '// alias-outside: refused 3 1024\n// alias-highest: refused 3 65535\n':
+                {"alias-outside": "refused 3 1024", "alias-highest": "refused 3 65535"},
+            '// chains: ends.1 circle.2 unbound.0 "b"\n// lookups: f.1 s.0 -.2 actor.3\n':
+                {"chains": 'given 3 ends.1 circle.2 unbound.0 "b"', "lookups": "given 3 f.1 s.0 -.2 actor.3"},
+            '// chains: nest 2 { | unbound.# "b" } {}\n// lookups: actor.0\n':
+                {"chains": 'given 2 unbound.1 "b" unbound.0 "b"', "lookups": "given 0 actor.0"},
+            '// chains: none\n// lookups: none\n': {"chains": "given 0", "lookups": "given 0"},
         }.items():
             self.assertEqual(mkbatch.stated(head + lines), found, lines)
         for text in (head, head + "// uses-short: needs 3\n", head + "// check-short: needs 3\n",
@@ -792,13 +924,16 @@ class ListSources(unittest.TestCase):
             "layout whole 2 2 0 1\n", 'name given 4 "" "m" "" ""\n',
             "check passed\n", "init-check passed\n", "list given 0\n", "marks given 0\n", "marks-back given 0\n",
             "marks-outside refused 3 1024\n", "marks-highest refused 3 65535\n", "init given 0\n", "draft given 0\n", "empty given 0\n",
-            'uses "" given 0\n', 'project "" refused 15 ""\n', 'twice "" refused 15 ""\n',
-            'uses "m" given 0\n', 'project "m" given 1 0\n', 'twice "m" refused 15 "m"\n',
-            "uses-outside given 0\n", "project-outside refused 15 1024\n", "project-highest refused 15 65535\n", "project-none given 0\n", "project-all given 1 0\n",
+            "chains given 0\n", "lookups given 0 actor.0\n",
+            'uses "" given 0\n', 'alias "" refused 3 ""\n', 'project "" refused 15 ""\n', 'twice "" refused 15 ""\n',
+            'uses "m" given 0\n', 'alias "m" refused 3 "m"\n', 'project "m" given 1 0\n', 'twice "m" refused 15 "m"\n',
+            "uses-outside given 0\n", "alias-outside refused 3 1024\n", "alias-highest refused 3 65535\n",
+            "project-outside refused 15 1024\n", "project-highest refused 15 65535\n", "project-none given 0\n", "project-all given 1 0\n",
             "project-all-short needs 1 refused 16 -\n", 'project-every refused 15 ""\n')))
         self.assertEqual(replay.lines("a", answers.outcomes(b"")), [
             "a layout refused 1 -\n", 'a name given 2 "" ""\n',
-            *(f"a {word} refused 1 -\n" for word in "check init-check list marks marks-back marks-outside marks-highest init draft empty".split())])
+            *(f"a {word} refused 1 -\n"
+              for word in "check init-check list marks marks-back marks-outside marks-highest init draft empty chains lookups".split())])
 
     def test_tally(self):
         """By hand: P10's lines, those of a broken book, and P10's when a limit is passed, and a service of P10's method
@@ -806,17 +941,18 @@ class ListSources(unittest.TestCase):
         lines = list(replay.printed([("a", answers.outcomes(LIST_BOOKS["p10"])), ("b", answers.outcomes(b"")),
                                      ("c", answers.outcomes(LIST_BOOKS["p10"], (2, 1, 0))),
                                      ("d", answers.outcomes(CHECK_BOOKS["order-hash-alone"]))]))
-        refused = {1: 11, 3: 2, 15: 6, 16: 1, 18: 22, 24: 22}
+        refused = {1: 13, 3: 6, 15: 6, 16: 1, 18: 28, 24: 28}
         given = {"layout": 3, "name": 4, "check": 1, "init-check": 1, "project": 2}
-        words = "layout name check init-check list marks init draft empty uses project".split()
-        self.assertEqual(lines[-31:], [
+        words = "layout name check init-check list marks init draft empty chains lookups uses alias project".split()
+        self.assertEqual(lines[-34:], [
             *(f"tally refused {number} {refused.get(number, 0)}\n" for number in (*range(1, 19), 24)),
             *(f"tally given {word} {given.get(word, 0)}\n" for word in words),
             "tally incomplete\n"])
-        self.assertFalse(lines[-32].startswith("tally "))
+        self.assertFalse(lines[-35].startswith("tally "))
         tally = answers.Tally()
         for question, word in (("marks", "marks"), ("marks-back", "marks"), ("uses-outside", "uses"), ('uses "a"', "uses"),
-                               ('twice "-"', "project"), ("project-all", "project"), ("init", "init"), ("name", "name")):
+                               ('twice "-"', "project"), ("project-all", "project"), ("init", "init"), ("name", "name"),
+                               ('alias "a"', "alias"), ("alias-highest", "alias"), ("chains", "chains"), ("lookups", "lookups")):
             before = tally.given[word]
             tally.add(question, "given 1 x")
             tally.add(question, "given 0")
@@ -851,7 +987,7 @@ class Replay(unittest.TestCase):
     def test_tally(self):
         """Every refusal and every answer with entries is in the list."""
         tally = [line for line in self.lines.splitlines() if line.startswith("tally ")]
-        self.assertEqual(len(tally), 19 + 11 + 1)
+        self.assertEqual(len(tally), 19 + 14 + 1)
         self.assertEqual(tally[-1], "tally complete")
         for line in tally[:-1]:
             self.assertGreater(int(line.split()[-1]), 0, line)
@@ -871,6 +1007,8 @@ class Replay(unittest.TestCase):
             "list": {17, *check, *given}, "marks": {*check, *given}, "marks-back": {*check, *given},
             "marks-outside": check, "marks-highest": check,
             "init": {11, *check, *given}, "draft": {1, 2, 3, 17, 18, 24, *given}, "empty": {*check, *given},
+            "chains": {1, 2, 18, 24, *given}, "lookups": {*check, *given},
+            "alias": {"given", *check} - {1}, "alias-outside": check - {1}, "alias-highest": check - {1},
             "uses": {16, 17, *check, *given} - {1}, "project": {15, 17, "given", *check} - {1}, "twice": {15, 17, *check} - {1},
             "uses-outside": {17, "none", *check} - {1}, "project-outside": {15, 17, *check} - {1}, "project-highest": {15, 17, *check} - {1},
             "project-none": {17, "none", *check} - {1},
@@ -917,7 +1055,7 @@ class Replay(unittest.TestCase):
             if not name.startswith("limits/"):
                 self.assertEqual(limits, FULL, name)
         self.assertLess(len(self.records), 5_000_000)  # a book of 4,096 nodes has 49,000
-        self.assertLess(len(self.lines), 5_000_000)
+        self.assertLess(len(self.lines), 7_000_000)
 
     def test_layouts_and_checks(self):
         """Every book of tests/layout and of tests/check is there, with what its source says of the layout or of the two checks, and with
@@ -989,8 +1127,8 @@ class Replay(unittest.TestCase):
             return found, {which: sum(words.values()) for which, words in told.items()}
 
         self.assertEqual(joined(rust), (right, {
-            "the Rust's": 35, "the oracle's own, 16": 6, "the oracle's own, 3 for a number outside": 2,
-            "the oracle's own, its reader of books": 2, "the oracle's own, layout broken": 12}))
+            "the Rust's": 46, "the oracle's own, 16": 6, "the oracle's own, 3 for a number outside": 2,
+            "the oracle's own, its reader of books": 2, "the oracle's own, layout broken": 14}))
         silent = [line if not line.startswith("a list ") else "a list unanswered ring\n" for line in rust if " list-short" not in line]
         self.assertEqual(joined(silent)[0], right)
         self.assertEqual(joined(silent)[1]["unanswered ring"], 2)
@@ -1008,7 +1146,7 @@ class Replay(unittest.TestCase):
         self.assertIn('a draft refused 18 "x"\n', right)
         self.assertIn("b draft refused 18 -\n", right)
         self.assertEqual({which: sum(words.values()) for which, words in told.items()}, {
-            "the oracle's own, its reader of books": 4, "the oracle's own, 18": 25 + 22})
+            "the oracle's own, its reader of books": 4, "the oracle's own, 18": 32 + 28})
 
     def test_joined_limits(self):
         """Each book of a batch is asked under its own limits, and 24 is no line of the Rust's."""
@@ -1016,13 +1154,13 @@ class Replay(unittest.TestCase):
         right = list(replay.printed(replay.answered(data)))
         self.assertIn("7-10-3 list given 2 \"pair\" \"tree\"\n", right)
         self.assertIn("6-10-3 list refused 24 -\n", right)
-        self.assertIn("tally refused 24 37\n", right)
+        self.assertIn("tally refused 24 48\n", right)
         told = collections.defaultdict(collections.Counter)
         found = list(replay.printed(replay.joined(data, "".join(line for line in right if not line.startswith("tally ")), told)))
         self.assertEqual(found, right)
         self.assertEqual({which: sum(words.values()) for which, words in told.items()}, {
-            "the Rust's": 70, "the oracle's own, 16": 12, "the oracle's own, 3 for a number outside": 4,
-            "the oracle's own, its reader of books": 6, "the oracle's own, 24": 37})
+            "the Rust's": 92, "the oracle's own, 16": 12, "the oracle's own, 3 for a number outside": 4,
+            "the oracle's own, its reader of books": 6, "the oracle's own, 24": 48})
 
 
 class Batch(unittest.TestCase):
