@@ -1,9 +1,10 @@
 // The questions, and what a book is asked. A new one is a variant with its arms, a place in the tally with its word, and the line that asks it:
-// no other file of the program knows it.
+// no other file of the program knows it. An alias chain is no list, and is asked on its own.
 ghost use mathlib.Core.Path.{_≡_};
 ghost use lib.ListN.{length};
 use book::Reading;
 use format::Limits;
+use refusals::AliasAnswer;
 use refusals::Answer;
 use refusals::Refusal;
 
@@ -52,9 +53,15 @@ impl Question {
 
     const EMPTINESS: usize = 33;
 
-    const USES: usize = 34;
+    pub const CHAINS: usize = 34;
 
-    const PROJECTION: usize = 35;
+    pub const LOOKUPS: usize = 35;
+
+    const USES: usize = 36;
+
+    const ALIAS: usize = 37;
+
+    const PROJECTION: usize = 38;
 
     pub(crate) fn place(self) -> usize {
         match self {
@@ -113,10 +120,10 @@ pub(crate) fn print_number(question: Question, place: usize, number: u16, book: 
 }
 
 // A count for each place of the tally.
-pub(crate) fn no_counts() -> [u32; 36]
-    ensures { λ r. ⌜ 36 ≡ length r ⌝ }
+pub(crate) fn no_counts() -> [u32; 39]
+    ensures { λ r. ⌜ 39 ≡ length r ⌝ }
 {
-    [0; 36]
+    [0; 39]
 }
 
 // Whether anything is counted at a place of the tally: 19 to 23 are no refusals yet.
@@ -136,7 +143,10 @@ pub(crate) fn print_counted(place: usize) {
         Question::INIT_LIST => crate::lines::write(b"tally given init"),
         Question::DRAFT_LIST => crate::lines::write(b"tally given draft"),
         Question::EMPTINESS => crate::lines::write(b"tally given empty"),
+        Question::CHAINS => crate::lines::write(b"tally given chains"),
+        Question::LOOKUPS => crate::lines::write(b"tally given lookups"),
         Question::USES => crate::lines::write(b"tally given uses"),
+        Question::ALIAS => crate::lines::write(b"tally given alias"),
         Question::PROJECTION => crate::lines::write(b"tally given project"),
         _ => crate::lines::counts(b"tally refused ", place),
     }
@@ -151,6 +161,7 @@ pub(crate) fn replay(source: &[u8], book: &[u8], limits: Limits, tally: &mut [u3
     ask_checks(source, book, limits, tally);
     let listed = ask_list(source, book, limits, tally);
     ask_others(source, book, limits, tally);
+    crate::inner::ask_inner(source, book, limits, tally);
     ask_of_names(source, book, limits, names, listed, tally);
 }
 
@@ -362,6 +373,24 @@ fn ask_outside(source: &[u8], book: &[u8], limits: Limits, tally: &mut [u32]) {
         &outside,
         tally,
     );
+    ask_alias(
+        source,
+        b"alias-outside",
+        false,
+        book,
+        limits,
+        Asked::OUTSIDE,
+        tally,
+    );
+    ask_alias(
+        source,
+        b"alias-highest",
+        false,
+        book,
+        limits,
+        Asked::HIGHEST,
+        tally,
+    );
     crate::asking::ask(
         source,
         b"project-outside",
@@ -454,6 +483,31 @@ fn ask_of_each(
     end
 }
 
+// The alias chain from a number, by this word: the names that it crosses and the last of them.
+fn ask_alias(
+    source: &[u8],
+    word: &[u8],
+    of_name: bool,
+    book: &[u8],
+    limits: Limits,
+    number: u16,
+    tally: &mut [u32],
+) {
+    crate::lines::asks(source, word, b"");
+    if of_name {
+        crate::lines::about(book::name(book, number));
+    }
+    match questions::alias(book, limits, number) {
+        AliasAnswer::Refused(why) => crate::asking::refuse(why, book, tally),
+        AliasAnswer::Given(found) => {
+            crate::lines::counts(b"given ", found.names as usize);
+            crate::lines::name(book::name(book, found.last));
+            crate::lines::write(b"\n");
+            crate::tally::count_given(Question::ALIAS, found.names as usize, tally);
+        }
+    }
+}
+
 // The questions about a name. Answers whether it has a method.
 fn ask_of(source: &[u8], book: &[u8], limits: Limits, number: u16, tally: &mut [u32]) -> bool {
     let once = [number];
@@ -468,6 +522,7 @@ fn ask_of(source: &[u8], book: &[u8], limits: Limits, number: u16, tally: &mut [
         &once,
         tally,
     );
+    ask_alias(source, b"alias", true, book, limits, number, tally);
     let taken = crate::asking::ask(
         source,
         b"project",
