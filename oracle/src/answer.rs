@@ -319,6 +319,28 @@ impl Checked {
     }
 }
 
+/// Where a chain of aliases ends.
+enum End<'a> {
+    Unbound(&'a str),
+    Circle,
+    Ends(&'a Type),
+}
+
+/// The names that a chain crosses, and its end. `rec_find_type` and `trace_type` count none, so `find_type` is asked name by name: a chain that
+/// has crossed as many names as there are definitions and meets one more never ends.
+fn chain<'a>(env: &'a TypeEnv, mut t: &'a Type) -> (Vec<&'a str>, End<'a>) {
+    let mut crossed = Vec::new();
+    while let TypeInner::Var(name) = t.as_ref() {
+        t = match env.find_type(name) {
+            Err(_) => return (crossed, End::Unbound(name)),
+            Ok(_) if crossed.len() == env.0.len() => return (crossed, End::Circle),
+            Ok(body) => body,
+        };
+        crossed.push(name.as_str());
+    }
+    (crossed, End::Ends(t))
+}
+
 /// A type and its methods numbered, so that a use tells which of two methods of one name it is of.
 fn numbered(t: &Type) -> Type {
     let types = |list: &[Type]| list.iter().map(numbered).collect();
@@ -397,6 +419,66 @@ impl Texts<'_> {
         let methods = checked.env.as_service(actor).map_err(|e| self.row(e))?;
         let place = |t: &Type| methods.iter().position(|(_, own)| Rc::ptr_eq(&own.0, &t.0)).expect("a method");
         Ok(taken.iter().map(|(_, t)| place(t).to_string()).collect())
+    }
+
+    /// The names crossed from a type that is a name, and the last of them. `rec_find_type` has to come to the same type.
+    fn alias(&self, checked: &Checked, name: &str) -> Found<String> {
+        if checked.env.find_type(name).is_err() {
+            return Err(Fail::Refused(3, Some(self.number(name))));
+        }
+        let start: Type = TypeInner::Var(name.into()).into();
+        let (crossed, end) = chain(&checked.env, &start);
+        let found = checked.env.rec_find_type(name).map_err(|e| self.row(e))?;
+        match (crossed.last(), end) {
+            (Some(last), End::Ends(end)) if Rc::ptr_eq(&found.0, &end.0) => {
+                Ok(format!("given {} {}", crossed.len(), named(self.book, self.number(last))))
+            }
+            _ => Err(Fail::Unanswered("ends-differ".into())),
+        }
+    }
+
+    /// The chain from each definition's body, with the definitions of all files as one environment, unchecked.
+    fn chains(&self) -> Found<String> {
+        let rows = &self.book.definitions;
+        let mut env = TypeEnv::new();
+        for row in rows {
+            if env.0.insert(self.names[row.name].clone(), self.typ(&row.tree)).is_some() {
+                return Err(Fail::Refused(2, Some(row.name)));
+            }
+        }
+        let said = |name: usize| {
+            let (crossed, end) = chain(&env, &env.0[&self.names[name]]);
+            match end {
+                End::Ends(_) => format!(" ends.{}", crossed.len()),
+                End::Circle => format!(" circle.{}", crossed.len()),
+                End::Unbound(name) => format!(" unbound.{} {}", crossed.len(), named(self.book, self.number(name))),
+            }
+        };
+        Ok(format!("given {}{}", rows.len(), rows.iter().map(|row| said(row.name)).collect::<String>()))
+    }
+
+    /// What `as_func` and `as_service` find from the body of each definition but the init file's, and from main's actor below its class, with
+    /// the names crossed.
+    fn lookups(&self, checked: &Checked) -> Found<String> {
+        let env = &checked.env;
+        let rows: Vec<_> = self.book.definitions.iter().filter(|row| self.book.is_of(row, false)).collect();
+        let mut text = format!("given {}", rows.len());
+        for row in rows {
+            let body = env.find_type(&self.names[row.name]).map_err(|e| self.row(e))?;
+            let found = match (env.as_func(body).is_ok(), env.as_service(body).is_ok()) {
+                (true, _) => "f",
+                (_, true) => "s",
+                _ => "-",
+            };
+            text += &format!(" {found}.{}", chain(env, body).0.len());
+        }
+        if let Some(tree) = &self.book.files[0].tree {
+            let actor = self.typ(tree);
+            let below = if let TypeInner::Class(_, service) = actor.as_ref() { service } else { &actor };
+            let found = if env.as_service(&actor).is_ok() { "actor" } else { "actor-" };
+            text += &format!(" {found}.{}", chain(env, below).0.len());
+        }
+        Ok(text)
     }
 
     fn emptiness(&self, checked: &Checked) -> Found<Vec<String>> {
@@ -502,6 +584,7 @@ fn own_call(word: &str, checked: Checked) -> Option<()> {
         }
         "empty" => env.replace_empty().ok(),
         "uses" => chase_def_use(&env, actor.as_ref()?).ok().map(drop),
+        "alias" => env.0.keys().try_for_each(|name| env.rec_find_type(name).map(drop)).ok(),
         "project" => {
             let names = env.as_service(actor.as_ref()?).ok()?.iter().map(|method| method.0.clone()).collect();
             project_methods(&env, &actor, names).ok().map(drop)
@@ -529,7 +612,7 @@ const DRAFT: &str = "draft";
 
 /// The questions that the Rust is asked, in the order of their lines, and whether each is asked again, with one place fewer than the entries
 /// that were given.
-const QUESTIONS: [(&str, Of, bool); 19] = [
+const QUESTIONS: [(&str, Of, bool); 24] = [
     ("check", Of::Book, false),
     ("init-check", Of::Book, false),
     ("list", Of::Book, true),
@@ -540,10 +623,15 @@ const QUESTIONS: [(&str, Of, bool); 19] = [
     ("init", Of::Book, true),
     (DRAFT, Of::Book, true),
     ("empty", Of::Book, true),
+    ("chains", Of::Book, false),
+    ("lookups", Of::Book, false),
     ("uses", Of::Name, true),
+    ("alias", Of::Name, false),
     ("project", Of::Name, false),
     ("twice", Of::Name, false),
     ("uses-outside", Of::Whole, false),
+    ("alias-outside", Of::Whole, false),
+    ("alias-highest", Of::Whole, false),
     ("project-outside", Of::Whole, false),
     ("project-highest", Of::Whole, false),
     ("project-none", Of::Whole, false),
@@ -616,13 +704,31 @@ fn lines_of_rust(book: &Book) -> Vec<Line> {
     }
 }
 
-/// Says the outcome of a question, and of the same with too short a list: by construction 16 and the entries given.
-fn say(book: &Book, lines: &mut Vec<Line>, word: &str, name: Option<usize>, outcome: Found<Vec<String>>) {
-    let of = name.map_or(String::new(), |name| format!(" {}", named(book, name)));
-    lines.push((format!("{word}{of}"), given(book, &outcome)));
-    let entries = outcome.map_or(0, |entries| entries.len());
-    if entries > 0 && QUESTIONS.iter().any(|question| question.0 == word && question.2) {
-        lines.push((format!("{word}-short{of}"), format!("needs {entries} refused 16 -")));
+/// The lines of a book, as they are said.
+struct Saying<'a> {
+    book: &'a Book,
+    lines: Vec<Line>,
+}
+
+impl Saying<'_> {
+    fn of(&self, name: Option<usize>) -> String {
+        name.map_or(String::new(), |name| format!(" {}", named(self.book, name)))
+    }
+
+    /// Says the outcome of a question, and of the same with too short a list: by construction 16 and the entries given.
+    fn say(&mut self, word: &str, name: Option<usize>, outcome: Found<Vec<String>>) {
+        let of = self.of(name);
+        self.lines.push((format!("{word}{of}"), given(self.book, &outcome)));
+        let entries = outcome.map_or(0, |entries| entries.len());
+        if entries > 0 && QUESTIONS.iter().any(|question| question.0 == word && question.2) {
+            self.lines.push((format!("{word}-short{of}"), format!("needs {entries} refused 16 -")));
+        }
+    }
+
+    /// The same of one that is answered with no list, in its own words.
+    fn tell(&mut self, word: &str, name: Option<usize>, outcome: Found<String>) {
+        let of = self.of(name);
+        self.lines.push((format!("{word}{of}"), outcome.unwrap_or_else(|fail| failed(self.book, &fail))));
     }
 }
 
@@ -634,35 +740,37 @@ fn lines_of(texts: &Texts) -> Vec<Line> {
         Ok(checked) => texts.init_check(&checked.env),
         Err(fail) => (Err(fail.clone()), None),
     };
-    let mut lines = vec![
+    let lines = vec![
         ("check".into(), verdict(book, &found, &[&unvalidated])),
         ("init-check".into(), verdict(book, &init, &[&unvalidated, &init_unvalidated])),
     ];
-    let mut say = |word, name, outcome| say(book, &mut lines, word, name, outcome);
+    let mut saying = Saying { book, lines };
 
     let listed = guarded(STEPS, || {
         let checked = known.clone()?;
         chase_actor(&checked.env, checked.actor()?).map_err(|e| texts.row(e))
     });
     let [outside, highest] = [OUTSIDE, HIGHEST].map(|number| texts.outside(number));
-    say("list", None, listed.clone().map(|found| texts.entries(&found)));
+    saying.say("list", None, listed.clone().map(|found| texts.entries(&found)));
     let list = match &listed {
         Ok(list) => Ok(list.clone()),
         Err(Fail::Refused(..)) => Ok(vec![]),
         Err(fail) => Err(fail.clone()),
     };
     let marks = |list: Found<Vec<&str>>| guarded(STEPS, || texts.marks(known.clone()?, &list?));
-    say("marks", None, marks(list.clone()));
-    say("marks-back", None, marks(list.clone().map(|list| list.into_iter().rev().collect())));
-    say("marks-outside", None, marks(list.clone().map(|list| [&list[..], &[&outside]].concat())));
-    say("marks-highest", None, marks(list.map(|list| [&list[..], &[&highest]].concat())));
+    saying.say("marks", None, marks(list.clone()));
+    saying.say("marks-back", None, marks(list.clone().map(|list| list.into_iter().rev().collect())));
+    saying.say("marks-outside", None, marks(list.clone().map(|list| [&list[..], &[&outside]].concat())));
+    saying.say("marks-highest", None, marks(list.map(|list| [&list[..], &[&highest]].concat())));
     let init_list = guarded(STEPS, || {
         let (env, args) = init.as_ref().map_err(|fail| fail.clone())?;
         Ok(texts.entries(&chase_types(env, args).map_err(|e| texts.row(e))?))
     });
-    say("init", None, init_list);
-    say(DRAFT, None, guarded(STEPS, || texts.draft()));
-    say("empty", None, guarded(STEPS, || texts.emptiness(known.clone()?)));
+    saying.say("init", None, init_list);
+    saying.say(DRAFT, None, guarded(STEPS, || texts.draft()));
+    saying.say("empty", None, guarded(STEPS, || texts.emptiness(known.clone()?)));
+    saying.tell("chains", None, guarded(STEPS, || texts.chains()));
+    saying.tell("lookups", None, guarded(STEPS, || texts.lookups(known.clone()?)));
 
     let uses = guarded(STEPS, || texts.uses(known.clone()?));
     let uses_of = |name: &str| {
@@ -673,27 +781,31 @@ fn lines_of(texts: &Texts) -> Vec<Line> {
             Ok(row)
         }
     };
+    let alias = |name: &str| guarded(STEPS, || texts.alias(known.clone()?, name));
     let project = |asked: Vec<String>| guarded(STEPS, || texts.project(known.clone()?, asked));
     let mut projected = Ok(vec![]);
     for number in asked_names(texts.names.len(), listed.as_ref().is_ok_and(|list| !list.is_empty())) {
         let name = &texts.names[number];
-        say("uses", Some(number), uses_of(name));
+        saying.say("uses", Some(number), uses_of(name));
+        saying.tell("alias", Some(number), alias(name));
         let once = project(vec![name.clone()]);
         match (&once, &mut projected) {
             (Ok(_), Ok(names)) => names.push(name.clone()),
             (Err(Fail::Unanswered(why)), Ok(_)) => projected = Err(Fail::Unanswered(why.clone())),
             _ => (),
         }
-        say("project", Some(number), once);
-        say("twice", Some(number), project(vec![name.clone(); 2]));
+        saying.say("project", Some(number), once);
+        saying.say("twice", Some(number), project(vec![name.clone(); 2]));
     }
-    say("uses-outside", None, uses_of(&outside));
-    say("project-outside", None, project(vec![outside.clone()]));
-    say("project-highest", None, project(vec![highest.clone()]));
-    say("project-none", None, project(vec![]));
-    say("project-all", None, projected.and_then(|names| project(names.into_iter().rev().collect())));
-    say("project-every", None, project(texts.names.iter().rev().cloned().collect()));
-    lines
+    saying.say("uses-outside", None, uses_of(&outside));
+    saying.tell("alias-outside", None, alias(&outside));
+    saying.tell("alias-highest", None, alias(&highest));
+    saying.say("project-outside", None, project(vec![outside.clone()]));
+    saying.say("project-highest", None, project(vec![highest.clone()]));
+    saying.say("project-none", None, project(vec![]));
+    saying.say("project-all", None, projected.and_then(|names| project(names.into_iter().rev().collect())));
+    saying.say("project-every", None, project(texts.names.iter().rev().cloned().collect()));
+    saying.lines
 }
 
 /// The lines of each book of a batch.

@@ -1,8 +1,9 @@
 //! What the reader's exported functions say to every question of a book, in the words of answer_batch.
 //!
 //! Each question is asked with a lent list that is long enough, just long enough, one entry too short and empty. Every time the numbers
-//! beyond the result, or all after a refusal, have to be as they were, and those before and after the lent list too. All this is asked under
-//! the limits of the book's record; each function is then asked under up to five limits and the largest, which have to agree.
+//! beyond the result, or all after a refusal, have to be as they were, and those before and after the lent list too. An alias chain is asked
+//! without one. All this is asked under the limits of the book's record; each function is then asked under up to five limits and the largest,
+//! which have to agree. The lines `chains` and `lookups` are of functions that are not exported: they have nothing here.
 
 use crate::answer::asked_names;
 use crate::book::{quoted, Book, Limits};
@@ -162,6 +163,24 @@ impl Said<'_> {
         self.lines.insert(word.into(), line);
     }
 
+    fn alias(&mut self, question: String, number: usize) -> Answer {
+        let answer = self.alias_under(self.limits, number);
+        let line = match answer {
+            Answer::Given(found) => {
+                let (count, last) = ours::crossed(found);
+                format!("given {count} {}", self.name(last))
+            }
+            Answer::Refused(number, low) => self.refused(number, low),
+        };
+        self.lines.insert(question, line);
+        answer
+    }
+
+    fn alias_under(&mut self, limits: Limits, number: usize) -> Answer {
+        self.calls += 1;
+        ours::alias(self.bytes, limits, number as u16)
+    }
+
     /// Numbers outside the book's table other than 1,024, which the lines have; marks and projection have 65,535 as well.
     fn outside(&self) -> Vec<u16> {
         let names = self.book.map_or(0, |book| book.names.len());
@@ -207,6 +226,7 @@ impl Said<'_> {
             let (name, every_length) = (number as u16, number < EVERY_LENGTH || number + 1 == names);
             let of = format!(" {}", self.name(number));
             self.say("uses", &of, Question::Uses(name), every_length);
+            self.alias(format!("alias{of}"), number);
             let (answer, _) = self.say("project", &of, Question::Project(&[name]), every_length);
             if matches!(answer, Answer::Given(_)) {
                 offered.insert(0, name);
@@ -216,6 +236,17 @@ impl Said<'_> {
         let (answer, _) = self.say("uses-outside", "", Question::Uses(NAMES as u16), true);
         for number in self.outside() {
             self.hold("uses-outside", Question::Uses(number), answer);
+        }
+        self.alias("alias-highest".into(), NO_NAME);
+        let answer = self.alias("alias-outside".into(), NAMES);
+        for number in self.outside() {
+            let right = match answer {
+                Answer::Refused(3, NAMES) => Answer::Refused(3, number as usize),
+                _ => answer,
+            };
+            if self.alias_under(self.limits, number as usize) != right {
+                self.make_wrong("alias-outside", " but otherwise for another number");
+            }
         }
         self.say("project-highest", "", Question::Project(&[NO_NAME as u16]), true);
         let (answer, _) = self.say("project-outside", "", Question::Project(&[NAMES as u16]), true);
@@ -238,6 +269,11 @@ impl Said<'_> {
     fn of_broken(&mut self) {
         for question in [Question::Uses(0), Question::Uses(NAMES as u16), Question::Project(&[0]), Question::Project(&[])] {
             self.hold("list", question, Answer::Refused(1, NO_NAME));
+        }
+        for number in [0, NAMES, NO_NAME] {
+            if self.alias_under(self.limits, number) != Answer::Refused(1, NO_NAME) {
+                self.make_wrong("list", " but not 1 for an alias chain");
+            }
         }
     }
 
@@ -287,6 +323,13 @@ impl Said<'_> {
                     self.make_wrong(word, &format!(" but another list under limits {limits:?}"));
                 }
                 self.hold_under(*limits, word, answer, largest);
+            }
+        }
+        for number in [0, names.len() / 2, names.len(), NO_NAME] {
+            let largest = self.alias_under(LARGEST, number);
+            for limits in &others {
+                let answer = self.alias_under(*limits, number);
+                self.hold_under(*limits, "list", answer, largest);
             }
         }
     }

@@ -81,15 +81,16 @@ impl Stack {
 /// Those that are asked with something, by their words; the others are in tables of ours.rs.
 const MARKS: &str = "marks";
 const USES: &str = "uses";
+const ALIAS: &str = "alias";
 const PROJECT: &str = "project";
 
 /// The words of all questions.
 fn words() -> impl Iterator<Item = &'static str> {
     let verdicts = ours::VERDICTS.iter().map(|question| question.0);
-    verdicts.chain(ours::OF_BOOK.iter().map(|question| question.0)).chain([MARKS, USES, PROJECT])
+    verdicts.chain(ours::OF_BOOK.iter().map(|question| question.0)).chain([MARKS, USES, ALIAS, PROJECT])
 }
 
-/// The names that uses and projection are asked of: so many, the last one, and a number outside the table.
+/// The names that uses, alias chains and projection are asked of: so many, the last one, and a number outside the table.
 const ASKED: usize = 32;
 
 /// Asks ours, so that nothing but an exported function runs on the stack. Marks are asked over the list, projection also of all methods.
@@ -112,6 +113,11 @@ fn ask_ours(stack: &Stack, word: &str, bytes: &[u8], names: usize, out: &mut [u1
             ask(Question::Marks(&list[..count]));
         }
         USES => each.for_each(|name| ask(Question::Uses(name))),
+        ALIAS => each.for_each(|name| {
+            stack.call(&mut || {
+                black_box(ours::alias(bytes, FULL, name));
+            })
+        }),
         PROJECT => {
             ask(Question::Project(&offered(bytes)));
             each.for_each(|name| ask(Question::Project(&[name])));

@@ -18,6 +18,7 @@ extern "C" {
         asked: *const u16, count: usize, out: *mut u16, places: usize,
     ) -> u32;
     fn ludzepin_uses(book: *const u8, bytes: usize, names: u32, nodes: u32, definitions: u32, name: u16, out: *mut u16, numbers: usize) -> u64;
+    fn ludzepin_alias(book: *const u8, bytes: usize, names: u32, nodes: u32, definitions: u32, name: u16) -> u64;
 }
 
 /// The most that a book has.
@@ -75,6 +76,16 @@ pub fn list(book: &[u8], limits: Limits, out: &mut [u16]) -> Answer {
 /// Three numbers for an entry.
 pub fn uses(book: &[u8], limits: Limits, name: u16, out: &mut [u16]) -> Answer {
     Question::Uses(name).ask(book, limits, out)
+}
+
+/// What is given is one number, which `crossed` takes apart.
+pub fn alias(book: &[u8], [names, nodes, definitions]: Limits, name: u16) -> Answer {
+    of_whole(unsafe { ludzepin_alias(book.as_ptr(), book.len(), names, nodes, definitions, name) })
+}
+
+/// The names that an alias chain crosses, and the last of them.
+pub fn crossed(given: usize) -> (usize, usize) {
+    (given >> 16, given & 0xffff)
 }
 
 /// A question with a lent list.
