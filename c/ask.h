@@ -13,7 +13,7 @@ struct asked {
     uint32_t limits[3]; /* of names, nodes and definitions */
     const uint16_t *list; /* so many names, for marks */
     size_t count;
-    uint16_t name, method; /* for uses, and for a projection to it alone */
+    uint16_t name, method; /* for uses and alias, and for a projection to it alone */
     uint16_t *out;
     size_t places;
 };
@@ -29,23 +29,27 @@ static uint64_t ask_init_list(const struct asked *a) { return ludzepin_init_list
 static uint64_t ask_draft_list(const struct asked *a) { return ludzepin_draft_list(BOOK(a), a->out, a->places); }
 static uint64_t ask_emptiness(const struct asked *a) { return ludzepin_emptiness(BOOK(a), a->out, a->places); }
 static uint64_t ask_uses(const struct asked *a) { return ludzepin_uses(BOOK(a), a->name, a->out, a->places); }
+static uint64_t ask_alias(const struct asked *a) { return ludzepin_alias(BOOK(a), a->name); }
 static uint64_t ask_project(const struct asked *a) { return ludzepin_project(BOOK(a), &a->method, 1, a->out, a->places); }
 
-/* `numbers` are those of an entry: 0 where the answer is a verdict, 3 where it is one of 64 bits. */
+/* What a question is answered with: a verdict, names or positions in the lent list, uses in it, an alias chain. The last two have 64 bits. */
+enum answered { VERDICT, ENTRIES, ENTRIES_OF_USES, ALIAS_CHAIN };
+
 static const struct question {
     const char *word;
     uint64_t (*ask)(const struct asked *);
-    uint32_t numbers;
+    enum answered with;
 } QUESTIONS[] = {
-    {"check", ask_check, 0},
-    {"init-check", ask_init_check, 0},
-    {"list", ask_list, 1},
-    {"marks", ask_marks, 1},
-    {"init", ask_init_list, 1},
-    {"draft", ask_draft_list, 1},
-    {"empty", ask_emptiness, 1},
-    {"uses", ask_uses, 3},
-    {"project", ask_project, 1},
+    {"check", ask_check, VERDICT},
+    {"init-check", ask_init_check, VERDICT},
+    {"list", ask_list, ENTRIES},
+    {"marks", ask_marks, ENTRIES},
+    {"init", ask_init_list, ENTRIES},
+    {"draft", ask_draft_list, ENTRIES},
+    {"empty", ask_emptiness, ENTRIES},
+    {"uses", ask_uses, ENTRIES_OF_USES},
+    {"alias", ask_alias, ALIAS_CHAIN},
+    {"project", ask_project, ENTRIES},
 };
 enum { QUESTION_COUNT = sizeof QUESTIONS / sizeof *QUESTIONS };
 

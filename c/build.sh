@@ -75,6 +75,30 @@ ask tests/list/p11-empty.did 1 1 4096
 ask tests/list/class-arguments.did 2 5 4096
 ask tests/list/p03.did 2 1 4096
 ask tests/layout/length-0.did 0 0 4096
+# Alias chains: of two names and of 512, to the name of number 0 and of 1,023; 3 for a name without definition and for numbers outside.
+ask tests/list/alias-1.did 1 1 4096
+ask tests/list/alias-2.did 1 1 0
+ask tests/list/alias-2.did 2 1 0
+ask tests/list/alias-2.did 0 1 0
+ask tests/list/alias-2.did 3 1 0
+ask tests/list/alias-2.did 1024 1 0
+ask tests/list/alias-2.did 65535 1 0
+ask tests/list/alias-last-empty.did 1 0 0
+ask tests/list/alias-last-empty.did 2 0 0
+ask tests/list/large-alias-names.did 0 0 0
+ask tests/list/large-alias-names.did 1023 0 0
+ask tests/list/large-chain.did 511 512 4096
+ask tests/list/large-chain.did 0 512 4096
+ask tests/list/large-chain.did 512 512 4096
+ask tests/list/large-alias-descending.did 512 0 4096
+ask tests/list/alias-class.did 2 1 4096
+ask tests/list/alias-imports.did 2 1 4096
+ask tests/list/alias-init.did 0 0 0
+ask tests/list/alias-init.did 2 0 0
+ask tests/list/alias-unbound.did 1 1 4096
+ask tests/list/alias-circle-tail.did 1 1 4096
+ask tests/list/alias-check-first.did 65535 1 4096
+ask tests/list/alias-repeat.did 65535 1 4096
 # The second reading stops at 4,097 uses.
 right=$(python3 tools/answers.py bench/uses-most.did 1 3 4096)
 try questions bench/uses-most.did 0 "${right/needs 4097/needs 3143680}" 1 3 4096
@@ -93,6 +117,7 @@ within() {
 within tests/list/p01.did 7 10 3
 within tests/list/init-own.did 7 12 4
 within tests/list/p03.did 3 2 2
+within tests/list/alias-2.did 3 2 2
 within tests/layout/limit-all.did 1024 4096 512
 # Limits above the figures count as these, however large they are.
 ask tests/list/p01.did 6 4 4096 1025 4097 513

@@ -5,9 +5,9 @@
  * functions keep nothing between calls, allocate nothing and call only memcpy and memset. They need stack: 1 MiB is enough for
  * each of them on every book (docs/FIGURES.md has the figures), which is more than some systems give to a thread by default.
  *
- * crates/codes/specs/Coded.antt defines the answers and, once more, the arithmetic of the six functions at the end of this file;
- * crates/exports/src/lib.rt promises of each answer that this arithmetic gives back its refusal, name and entries. No proof reads this
- * file: nothing compares the two texts but c/build.sh, which tries them. */
+ * crates/codes/specs/Coded.antt defines the answers and, once more, the arithmetic of the eight functions at the end of this file;
+ * crates/exports/src/lib.rt promises of each answer that this arithmetic gives back its refusal, name and entries, or what is given for them. No
+ * proof reads this file: nothing compares the two texts but c/build.sh, which tries them. */
 #ifndef LUDZEPIN_H
 #define LUDZEPIN_H
 
@@ -85,21 +85,29 @@ uint32_t ludzepin_project(const uint8_t *book, size_t bytes, uint32_t names, uin
 uint64_t ludzepin_uses(const uint8_t *book, size_t bytes, uint32_t names, uint32_t nodes, uint32_t definitions,
                        uint16_t name, uint16_t *out, size_t numbers);
 
+/* The number of names that the alias chain from a name crosses, that name counted, and the last of them, whose definition is no name; 1 and the
+ * name itself where its own is none. Or a refusal (those of the check; 3, the name has no definition). No actor is needed. */
+uint64_t ludzepin_alias(const uint8_t *book, size_t bytes, uint32_t names, uint32_t nodes, uint32_t definitions, uint16_t name);
+
 /* The refusal in an answer, 0 if it is none. */
 static inline uint32_t ludzepin_refusal(uint32_t answer) { return answer >> 16; }
 
 /* The name number of a refusal other than LUDZEPIN_SHORT: a place in the book's table of names, or LUDZEPIN_NO_NAME. But LUDZEPIN_ABSENT, and
- * LUDZEPIN_UNBOUND of ludzepin_marks, name the asked or listed number, whatever it is: where that is 65,535, the refusal tells that it is a
- * name, for both of these always name. */
+ * LUDZEPIN_UNBOUND of ludzepin_marks and ludzepin_alias, name the asked or listed number, whatever it is: where that is 65,535, the refusal tells
+ * that it is a name, for both of these always name. */
 static inline uint32_t ludzepin_name(uint32_t answer) { return answer & 65535; }
 
 /* The entries: those given if it is no refusal, those needed if it is LUDZEPIN_SHORT. */
 static inline uint32_t ludzepin_entries(uint32_t answer) { return answer & 65535; }
 
-/* The same of an answer of ludzepin_uses. */
+/* The same of an answer of ludzepin_uses; refusal and name of one of ludzepin_alias too. */
 static inline uint32_t ludzepin_uses_refusal(uint64_t answer) { return (uint32_t)(answer >> 32); }
 static inline uint32_t ludzepin_uses_name(uint64_t answer) { return (uint32_t)answer; }
 static inline uint32_t ludzepin_uses_entries(uint64_t answer) { return (uint32_t)answer; }
+
+/* The names crossed and the last of them in an answer of ludzepin_alias that is no refusal. */
+static inline uint32_t ludzepin_alias_names(uint64_t answer) { return (uint32_t)answer >> 16; }
+static inline uint32_t ludzepin_alias_last(uint64_t answer) { return (uint32_t)answer & 65535; }
 
 #ifdef __cplusplus
 }
