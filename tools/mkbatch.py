@@ -18,7 +18,7 @@ outcomes, and these must agree:
     // limits: WHAT IT SHOWS                     other limits (tests/limits): each line after it has three and states what is right under them
 A stated outcome of a question is
     // QUESTION: ENTRY ..        QUESTION is as in tools/answers.py, with a TEXT where it is about a name
-    // QUESTION: none            an ENTRY is a TEXT, a number or METHOD.KIND.INDEX, with repeat and nest as in a source
+    // QUESTION: none            an ENTRY is a TEXT, a number, METHOD.KIND.INDEX or one of chains or lookups, with repeat and nest as in a source
     // QUESTION: refused NUMBER TEXT, or for TEXT - or a number outside the table
     // QUESTION: passes          of check and init-check
     // QUESTION: whole N N N N   of layout: names, nodes, definitions, files

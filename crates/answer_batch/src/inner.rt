@@ -96,7 +96,7 @@ fn print_end(book: &[u8], end: End, crossed: usize) {
 fn ask_lookups(source: &[u8], book: &[u8], limits: Limits, tally: &mut [u32]) {
     crate::lines::asks(source, b"lookups", b"");
     let mut roots = book::tables::blank();
-    let mut ends = book::tables::blank();
+    let mut ends = environment::no_ends();
     let found = passed::pass(book, limits, &mut roots, &mut ends);
     let v = found.verdict;
     let p = found.passed;
@@ -107,7 +107,7 @@ fn ask_lookups(source: &[u8], book: &[u8], limits: Limits, tally: &mut [u32]) {
 }
 
 // What is looked up from the body of each definition but the init file's, in order, and then from main's actor.
-fn say_lookups(book: &[u8], p: Passed, roots: &[u16], ends: &[u16], tally: &mut [u32])
+fn say_lookups(book: &[u8], p: Passed, roots: &[u16], ends: &[u32], tally: &mut [u32])
     requires { ⌜ PassedBook (now book) (now roots) (now ends) p ⌝ }
 {
     crate::lines::counts(b"given ", p.main);
@@ -117,7 +117,7 @@ fn say_lookups(book: &[u8], p: Passed, roots: &[u16], ends: &[u16], tally: &mut 
     crate::tally::count_given(Question::LOOKUPS, p.main, tally);
 }
 
-fn print_lookups(book: &[u8], p: Passed, roots: &[u16], ends: &[u16])
+fn print_lookups(book: &[u8], p: Passed, roots: &[u16], ends: &[u32])
     requires { ⌜ PassedBook (now book) (now roots) (now ends) p ⌝ }
 {
     let mut d = 0;
@@ -127,7 +127,7 @@ fn print_lookups(book: &[u8], p: Passed, roots: &[u16], ends: &[u16])
     }
 }
 
-fn print_lookup(book: &[u8], p: Passed, roots: &[u16], ends: &[u16], d: usize)
+fn print_lookup(book: &[u8], p: Passed, roots: &[u16], ends: &[u32], d: usize)
     requires { ⌜ PassedBook (now book) (now roots) (now ends) p × (d < p .main) ⌝ }
 {
     let c = p.contents;
@@ -156,7 +156,7 @@ fn print_found(function: Lookup, service: Lookup) {
 }
 
 // The service below main's class, or main's actor itself; nothing where main has no actor. With service imports too it is main's own tree.
-fn print_actor(book: &[u8], p: Passed, roots: &[u16], ends: &[u16])
+fn print_actor(book: &[u8], p: Passed, roots: &[u16], ends: &[u32])
     requires { ⌜ PassedBook (now book) (now roots) (now ends) p ⌝ }
 {
     let i = p.interface;
