@@ -6,8 +6,8 @@
  * each of them on every book (docs/FIGURES.md has the figures), which is more than some systems give to a thread by default.
  *
  * crates/codes/specs/Coded.antt defines the answers and, once more, the arithmetic of the eight functions at the end of this file;
- * crates/exports/src/lib.rt promises of each answer that this arithmetic gives back its refusal, name and entries, or what is given for them. No
- * proof reads this file: nothing compares the two texts but c/build.sh, which tries them. */
+ * crates/exports/src/lib.rt promises of each answer that this arithmetic gives back its refusal, name and entries, of an alias chain the names
+ * crossed and the last. No proof reads this file: nothing compares the two texts but c/build.sh, which tries them. */
 #ifndef LUDZEPIN_H
 #define LUDZEPIN_H
 
