@@ -3,17 +3,18 @@
 ghost use mathlib.Core.Path.{_≡_};
 ghost use Prim.Native.Nat.{_/_};
 ghost use lib.ListN.{length};
-ghost use Rattle.format.specs.Admission.{_under_};
+ghost use Rattle.format.specs.Admission.{_under_, onBytes};
 ghost use Rattle.judgement.specs.Check.{checkBytes, initCheckBytes};
 ghost use Rattle.listing.specs.List.{list};
 ghost use Rattle.listing.specs.InitList.{initList};
 ghost use Rattle.listing.specs.DraftList.{draftList};
 ghost use Rattle.listing.specs.Marks.{marksOver};
 ghost use Rattle.listing.specs.Uses.{uses};
+ghost use Rattle.listing.specs.Alias.{alias};
 ghost use Rattle.listing.specs.Project.{project};
 ghost use Rattle.listing.specs.Empty.{emptiness};
-ghost use Rattle.refusals.specs.Handed.{answerOf, leftIn, usesLeft};
-ghost use Rattle.codes.specs.Coded.{coded, codedAnswer, codedUses, ReadVerdict, ReadAnswer, ReadUses};
+ghost use Rattle.refusals.specs.Handed.{answerOf, leftIn, usesLeft, aliasAnswer};
+ghost use Rattle.codes.specs.Coded.{coded, codedAnswer, codedUses, codedAlias, ReadVerdict, ReadAnswer, ReadUses, ReadAlias};
 ghost use Rattle.exports.specs.Places.{limitsOf, inPlaces};
 use format::Limits;
 
@@ -221,4 +222,24 @@ pub extern "C" fn ludzepin_uses(
     };
     let used = questions::uses(book, limits, name, out);
     codes::uses_code(used)
+}
+
+// How many names the alias chain of a name crosses, and the last of these.
+#[no_mangle]
+pub extern "C" fn ludzepin_alias(
+    book: &[u8],
+    names: u32,
+    nodes: u32,
+    definitions: u32,
+    name: u16,
+) -> u64
+    ensures answer { λ r. ⌜ r ≡ codedAlias (aliasAnswer (onBytes (λ b. alias b name) (now (book .entry) under limitsOf names nodes definitions))) ⌝ }
+    ensures read { λ r. ⌜ ReadAlias (aliasAnswer (onBytes (λ b. alias b name) (now (book .entry) under limitsOf names nodes definitions))) r ⌝ }
+{
+    let limits = Limits {
+        names,
+        nodes,
+        definitions,
+    };
+    codes::alias_code(questions::alias(book, limits, name))
 }

@@ -14,9 +14,11 @@ use Rattle.refusals.specs.declared.Refusal.the-variants.{NoActor}
 use Rattle.refusals.specs.declared.Verdict.the-variants.{Refused}
 use Rattle.refusals.specs.declared.Answer.{Answer}
 use Rattle.refusals.specs.declared.Answer.the-variants.{Refused as RefusedAnswer}
+use Rattle.refusals.specs.declared.Crossed.{Crossed}
+use Rattle.refusals.specs.declared.AliasAnswer.the-variants.{Refused as RefusedAlias}
 use Rattle.refusals.specs.Verdict.{andThen, isPassed}
 use Rattle.refusals.specs.Outcome.{Outcome, refused, given, after, asked, judged, fit}
-use Rattle.refusals.specs.Handed.{Use, answerOf, leftIn, HandedAs, usesLeft, UsesAs}
+use Rattle.refusals.specs.Handed.{Use, answerOf, leftIn, HandedAs, usesLeft, UsesAs, aliasAnswer}
 use Rattle.refusals.proofs.Verdicts.{refused-passed}
 use Rattle.format.specs.Book.{Book}
 use Rattle.format.specs.Admission.{Source, admitted, onBytes}
@@ -113,6 +115,10 @@ uses-refused old e = record { answer = rw e; left = rw e }
 
 pub uses-as : {o p : Outcome (List Use)} {old new : List ℕ} {r : Answer} → o ≡ p → UsesAs p old new r → UsesAs o old new r
 uses-as {old = old} {new = new} {r = r} e x = subst (λ q. UsesAs q old new r) (sym e) x
+
+pub alias-refused : {o : Outcome Crossed} {r : Refusal} → o ≡ refused r → RefusedAlias r ≡ aliasAnswer o
+unfolding aliasAnswer
+alias-refused e = rw e
 
 -- ---- The init check, which is no question but starts in the same way
 module _ {bs : Source} {roots ends′ : List ℕ} where

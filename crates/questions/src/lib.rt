@@ -1,8 +1,8 @@
-// The questions of document 01 on a book of bytes, under the limits of a terminal model. An entry point is admission, the check (for init
+// The questions of documents 01 and 02 on a book of bytes, under the limits of a terminal model. An entry point is admission, the check (for init
 // arguments the init check) and the question on the book that passed, which has a module of its own; an accepted question gives the number of
 // its entries, which stand at the front of the lent list, and a refusal leaves the list as it was.
 ghost use mathlib.Core.Path.{_≡_};
-ghost use Rattle.refusals.specs.Handed.{HandedAs, UsesAs};
+ghost use Rattle.refusals.specs.Handed.{HandedAs, UsesAs, aliasAnswer};
 ghost use Rattle.format.specs.Admission.{_under_, onBytes};
 ghost use Rattle.judgement.specs.Check.{checkBytes, initCheckBytes};
 ghost use Rattle.listing.specs.List.{list};
@@ -10,10 +10,12 @@ ghost use Rattle.listing.specs.InitList.{initList};
 ghost use Rattle.listing.specs.DraftList.{draftList};
 ghost use Rattle.listing.specs.Marks.{marksOver};
 ghost use Rattle.listing.specs.Uses.{uses};
+ghost use Rattle.listing.specs.Alias.{alias};
 ghost use Rattle.listing.specs.Project.{project};
 ghost use Rattle.listing.specs.Empty.{emptiness};
 use admission::Admission;
 use format::Limits;
+use refusals::AliasAnswer;
 use refusals::Answer;
 use refusals::Verdict;
 
@@ -114,6 +116,22 @@ pub fn uses(book: &[u8], limits: Limits, name: u16, out: &mut [u16]) -> Answer
     match v {
         Verdict::Refused(why) => Answer::Refused(why),
         Verdict::Passed => passed::uses::uses_passed(book, p, &roots, &ends, name, out),
+    }
+}
+
+// How many names the alias chain of a name crosses, itself among them, and the last of these, whose definition is no name: the check's refusals,
+// and 3 for a name that has no definition. No actor is needed.
+pub fn alias(book: &[u8], limits: Limits, name: u16) -> AliasAnswer
+    ensures { λ r. ⌜ r ≡ aliasAnswer (onBytes (λ b. alias b name) (now (book .entry) under limits)) ⌝ }
+{
+    let mut roots = book::tables::blank();
+    let mut ends = environment::no_ends();
+    let found = passed::pass(book, limits, &mut roots, &mut ends);
+    let v = found.verdict;
+    let p = found.passed;
+    match v {
+        Verdict::Refused(why) => AliasAnswer::Refused(why),
+        Verdict::Passed => passed::alias::alias_passed(book, p, &roots, &ends, name),
     }
 }
 

@@ -10,8 +10,8 @@ use Rattle.questions.proofs.init_check.Tie as tie
 blank-requires : tie.Need-blank-requires
 blank-requires c κs = search needs
 
-blank-requires-2 : tie.Need-blank-requires-2
-blank-requires-2 c κs = search needs
+no-ends-requires : tie.Need-no-ends-requires
+no-ends-requires c κs = search needs
 
 slice-aggregate-pass : tie.Need-slice-aggregate-pass
 slice-aggregate-pass c = search needs
@@ -28,8 +28,8 @@ passed-requires c κs = search needs
 returns : tie.Need-returns
 returns c = init-stops (c .before .before .before .before .pass .ensures) (sym (c .before .passed .ensures) ∙ not-true _ (c .if1 .taken))
 
-blank-requires-3 : tie.Need-blank-requires-3
-blank-requires-3 c κs = search needs
+blank-requires-2 : tie.Need-blank-requires-2
+blank-requires-2 c κs = search needs
 
 slice-aggregate-check-init-args : tie.Need-slice-aggregate-check-init-args
 slice-aggregate-check-init-args c = search needs
@@ -38,7 +38,7 @@ slice-aggregate-check-init-args-2 : tie.Need-slice-aggregate-check-init-args-2
 slice-aggregate-check-init-args-2 c = search needs
 
 check-init-args-requires : tie.Need-check-init-args-requires
-check-init-args-requires c κs = ((_, c .before .before .before .before .before .before .before .before .pass .ensures .passed (is-passed _ (sym (c .before .before .before .before .before .passed .ensures) ∙ not-false _ (c .before .before .before .before .if1 .left))) .book), c .before .before .blank3 .ensures)
+check-init-args-requires c κs = ((_, c .before .before .before .before .before .before .before .before .pass .ensures .passed (is-passed _ (sym (c .before .before .before .before .before .passed .ensures) ∙ not-false _ (c .before .before .before .before .if1 .left))) .book), c .before .before .blank2 .ensures)
 
 returns-2 : tie.Need-returns-2
 returns-2 c =
@@ -50,13 +50,13 @@ init-check-spec =
     tie.close
     (tie.spec
     blank-requires
-    blank-requires-2
+    no-ends-requires
     slice-aggregate-pass
     slice-aggregate-pass-2
     pass-requires
     passed-requires
     returns
-    blank-requires-3
+    blank-requires-2
     slice-aggregate-check-init-args
     slice-aggregate-check-init-args-2
     check-init-args-requires

@@ -10,8 +10,8 @@ use Rattle.questions.proofs.init_list.Tie as tie
 blank-requires : tie.Need-blank-requires
 blank-requires c κs = search needs
 
-blank-requires-2 : tie.Need-blank-requires-2
-blank-requires-2 c κs = search needs
+no-ends-requires : tie.Need-no-ends-requires
+no-ends-requires c κs = search needs
 
 slice-aggregate-pass : tie.Need-slice-aggregate-pass
 slice-aggregate-pass c = search needs
@@ -53,7 +53,7 @@ init-list-spec =
     tie.close
     (tie.spec
     blank-requires
-    blank-requires-2
+    no-ends-requires
     slice-aggregate-pass
     slice-aggregate-pass-2
     pass-requires
