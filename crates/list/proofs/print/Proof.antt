@@ -10,8 +10,8 @@ use Rattle.list.proofs.print.Tie as tie
 blank-requires : tie.Need-blank-requires
 blank-requires c κs = search needs
 
-blank-requires-2 : tie.Need-blank-requires-2
-blank-requires-2 c κs = search needs
+no-ends-requires : tie.Need-no-ends-requires
+no-ends-requires c κs = search needs
 
 full-requires : tie.Need-full-requires
 full-requires c κs = search needs
@@ -68,7 +68,7 @@ print-spec =
     tie.close
     (tie.spec
     blank-requires
-    blank-requires-2
+    no-ends-requires
     full-requires
     slice-aggregate-pass
     slice-aggregate-pass-2
