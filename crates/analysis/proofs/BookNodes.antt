@@ -19,12 +19,12 @@ use Rattle.format.specs.Whole.{Within, WholeAt, WholeIn, treeAt}
 use Rattle.format.proofs.References.{varsOf}
 use Rattle.format.proofs.Rows.{kids-whole, node-within}
 use Rattle.format.proofs.Stored.{tree-whole}
-use Rattle.book.specs.Tables.{blankTable}
+use Rattle.book.specs.Tables.{blankTable, zeroTable}
 use Rattle.book.proofs.Blank.{blank-length, blank-at}
 use Rattle.environment.specs.Trees.{Trees, AllTrees}
 use Rattle.syntax.specs.Interfaces.{methodsIn}
 use Rattle.syntax.proofs.Stored.{tree-kids}
-use Rattle.environment.proofs.Trees.{node-trees, node-some, blank-ends}
+use Rattle.environment.proofs.Trees.{node-trees, node-some, no-ends}
 use Rattle.listing.proofs.Leaves.{Leafy, fits-leafy}
 use Rattle.analysis.specs.Book.{Rooted, Readable}
 
@@ -43,11 +43,11 @@ module _ {ns roots : List ℕ} (b : Rooted ns roots) {n : ℕ} (h : n < b .count
   here-within = node-within here-whole
 
   -- the tree of a book needs no table of alias ends: one that has nothing stands for it
-  pub here-trees : Trees ns roots blankTable n (n + rowAt ns n .size)
-  here-trees = node-trees (b .all) (b .bound) (blank-ends (b .count) blankTable refl) h
+  pub here-trees : Trees ns roots zeroTable n (n + rowAt ns n .size)
+  here-trees = node-trees (b .all) (b .bound) (no-ends (b .count) zeroTable refl) h
 
   pub here-some : n < n + rowAt ns n .size
-  here-some = node-some (b .all) (b .bound) (blank-ends (b .count) blankTable refl) h
+  here-some = node-some (b .all) (b .bound) (no-ends (b .count) zeroTable refl) h
 
   pub here-leafy : Leafy (treeAt ns n)
   here-leafy = let t = here-trees in fits-leafy (t .walk .names) (t .place) (treeAt ns n) (t .fits)

@@ -8,7 +8,7 @@
 use mathlib.Core.Path.{_≡_, refl, sym, ap, subst, _∙_}
 use mathlib.Core.Bool.{false}
 use mathlib.Core.List.{List}
-use Prim.Native.Nat.{ℕ, _+_, _%_, _≤_, _<_}
+use Prim.Native.Nat.{ℕ, _+_, _≤_, _<_}
 use native.Mathlib.Decide.{ℕ-discrete}
 use native.Mathlib.Omega.{arith}
 use borrow.Author.Tests.{ne-eqb}
@@ -23,7 +23,7 @@ use Rattle.judgement.specs.Environment.{findType}
 use Rattle.judgement.specs.Aliases.{End, circle, ends, chain, aliasEnd, aliasLength, nameType}
 use Rattle.judgement.proofs.Lengths.{crossed-same, crossed-most}
 use Rattle.judgement.proofs.Lengths as chains
-use Rattle.environment.specs.Tables.{nameEnd, endIn, crossedIn, EndAt, ChainAt, Chains, Ended, endIs, endNode, endCrossed, ReachedAs}
+use Rattle.environment.specs.Tables.{nameEnd, endOf, endIn, crossedIn, EndAt, ChainAt, Chains, Ended, endIs, endNode, endCrossed, ReachedAs}
 use Rattle.environment.proofs.EndKinds.{is-other, is-none, is-end}
 use Rattle.environment.proofs.Links.{head-var, head-other}
 use Rattle.environment.proofs.Names.{is-named, to-name}
@@ -112,7 +112,7 @@ module _ {ns ends′ : List ℕ} {node : ℕ} (s : Ended ns ends′ node) where
 
 -- a name whose chain the table has is on no circle
 pub name-ended : {ns : List ℕ} (ds : List Definition) (n e : ℕ) → ChainAt ns ds n e → aliasEnd ds (nameType n) ≡ circle → ⊥
-name-ended {ns} ds n e c z = subst (EndAt ns (e % 65536)) (sym (to-name ds (nameType n) n (is-named n)) ∙ z) (c .end)
+name-ended {ns} ds n e c z = subst (EndAt ns (endOf e)) (sym (to-name ds (nameType n) n (is-named n)) ∙ z) (c .end)
 
 -- the kind at the end
 module _ (kind : ℕ) (ns ends′ : List ℕ) (node e : ℕ) (is : e ≡ endNode ns ends′ node) where

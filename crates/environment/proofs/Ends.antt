@@ -2,7 +2,7 @@
 use mathlib.Core.Path.{_≡_, refl, sym, ap, subst, _∙_}
 use mathlib.Core.Bool.{false, not}
 use mathlib.Core.List.{List}
-use Prim.Native.Nat.{ℕ, suc, _+_, _-_, _%_, _≤_, _<_}
+use Prim.Native.Nat.{ℕ, suc, _+_, _-_, _≤_, _<_}
 use native.Mathlib.Nat.{sub-zero}
 use native.Mathlib.Numerals.{add-one}
 use native.Mathlib.Decide.{ℕ-discrete, decLt}
@@ -17,11 +17,11 @@ use Rattle.refusals.specs.Verdict.{andThen, unless}
 use Rattle.judgement.specs.Environment.{Found, missing, body, findType}
 use Rattle.judgement.specs.Aliases.{End, unbound, circle, ends}
 use Rattle.judgement.specs.Check.{eachName, isCircle, circleVerdict}
-use Rattle.book.specs.Tables.{blankTable}
-use Rattle.environment.specs.Tables.{Binds, nameEnd, endIn, EndAt, EndKnown, FollowedAs, Unfinished, endBefore, Unbegun, NotedAs, AliasEndsAs}
+use Rattle.book.specs.Tables.{zeroTable}
+use Rattle.environment.specs.Tables.{Binds, nameEnd, endOf, endIn, EndAt, EndKnown, FollowedAs, Unfinished, endBefore, Unbegun, NotedAs, AliasEndsAs}
 use Rattle.environment.proofs.Links.{getD-within}
 use Rattle.environment.proofs.Names.{none-known}
-use Rattle.book.proofs.Blank.{blank-length, blank-at}
+use Rattle.book.proofs.Blank.{zero-length, zero-at}
 
 -- ---- the verdict on a name, by the end of its chain
 by-end : (ds : List Definition) (n : ℕ) (f : Found) → circleVerdict ds n f ≡ unless (not (isCircle (nameEnd ds n f))) (refusal.Refusal.Circle n)
@@ -42,11 +42,11 @@ unfolding eachName
 each-cons f n names h = let z : names - n ≡ suc (names - (n + 1)) = omega arith in rw (z, add-one n)
 
 -- ---- the table before any chain is followed
-pub begun-none : (root : ℕ) → root ≡ 65535 → 65535 ≡ endBefore root
+pub begun-none : (root : ℕ) → root ≡ 65535 → 0 ≡ endBefore root
 unfolding endBefore
 begun-none root e = rw e
 
-pub begun-open : (root : ℕ) → (root ≡ 65535 → ⊥) → 65534 ≡ endBefore root
+pub begun-open : (root : ℕ) → (root ≡ 65535 → ⊥) → 1 ≡ endBefore root
 unfolding endBefore
 begun-open root h = rw (ne-eqb root 65535 h)
 
@@ -54,12 +54,12 @@ pub record Begun (roots : List ℕ) (names : ℕ) (ends′ : List ℕ) (n : ℕ)
   pub passed : n ≤ names
   pub table : Unbegun roots n ends′
 
-pub begun-start : (roots : List ℕ) (names : ℕ) (ends′ : List ℕ) → ends′ ≡ blankTable → Begun roots names ends′ 0
+pub begun-start : (roots : List ℕ) (names : ℕ) (ends′ : List ℕ) → ends′ ≡ zeroTable → Begun roots names ends′ 0
 begun-start roots names ends′ e =
     record {
       passed = omega arith;
       table =
-          record { long = ap length e ∙ blank-length; before = λ m h. absurd (omega arith); beyond = λ m h. ap (λ (l : List ℕ). getD l m 65535) e ∙ blank-at m };
+          record { long = ap length e ∙ zero-length; before = λ m h. absurd (omega arith); beyond = λ m h. ap (λ (l : List ℕ). getD l m 0) e ∙ zero-at m };
     }
 
 module _ {roots : List ℕ} {names : ℕ} (long : length roots ≡ 1024) (few : names ≤ 1024) {ends′ : List ℕ} {n : ℕ} (s : Begun roots names ends′ n) where
@@ -74,16 +74,16 @@ module _ {roots : List ℕ} {names : ℕ} (long : length roots ≡ 1024) (few : 
             record {
               long = simp length-set (s .table .long);
               before = λ m j. before′ m j (ℕ-discrete m n);
-              beyond = λ m j. getD-set-other ends′ n m e 65535 (λ z. let f : ⊥ = omega arith in f) ∙ s .table .beyond m (omega arith);
+              beyond = λ m j. getD-set-other ends′ n m e 0 (λ z. let f : ⊥ = omega arith in f) ∙ s .table .beyond m (omega arith);
             };
       }
     where
-      here : getD (set ends′ n e) n 65535 ≡ endBefore (getD roots n 65535)
-      here = getD-set-same ends′ n e 65535 (omega (arith, s .table .long)) ∙ i ∙ ap endBefore (getD-within roots n 0 65535 (omega arith))
+      here : getD (set ends′ n e) n 0 ≡ endBefore (getD roots n 65535)
+      here = getD-set-same ends′ n e 0 (omega (arith, s .table .long)) ∙ i ∙ ap endBefore (getD-within roots n 0 65535 (omega arith))
 
-      before′ : (m : ℕ) → m < n + 1 → Dec (m ≡ n) → getD (set ends′ n e) m 65535 ≡ endBefore (getD roots m 65535)
+      before′ : (m : ℕ) → m < n + 1 → Dec (m ≡ n) → getD (set ends′ n e) m 0 ≡ endBefore (getD roots m 65535)
       before′ m j (yes z) = rw z here
-      before′ m j (no z) = getD-set-other ends′ n m e 65535 z ∙ s .table .before m (omega arith)
+      before′ m j (no z) = getD-set-other ends′ n m e 0 z ∙ s .table .before m (omega arith)
 
 -- ---- the loop
 abbrev verdicts : List Definition → ℕ → Verdict
@@ -94,7 +94,7 @@ pub record EndsLeft (ns roots : List ℕ) (names count definitions : ℕ) (ends�
   pub table : Unfinished ns roots names count ends′
   pub rest : (ds : List Definition) → Binds ns roots ds → length ds ≡ definitions →
       eachName (λ m. circleVerdict ds m (findType ds m)) n (names - n) ≡ eachName (λ m. circleVerdict ds m (findType ds m)) 0 names
-  pub done : (m : ℕ) → m < n → getD ends′ m 65535 ≡ 65534 → ⊥
+  pub done : (m : ℕ) → m < n → getD ends′ m 0 ≡ 1 → ⊥
 
 pub ends-start : (ns roots : List ℕ) (names count definitions : ℕ) (ends′ : List ℕ) → Unbegun roots names ends′ → EndsLeft ns roots names count definitions ends′ 0
 ends-start ns roots names count definitions ends′ u =
@@ -103,7 +103,7 @@ ends-start ns roots names count definitions ends′ u =
       table =
           record {
             long = u .long;
-            bound = λ n h q e. let z : _≡_ {A = ℕ} 65535 65534 = begun-none (getD roots n 65535) e ∙ sym (u .before n h) ∙ q in omega arith;
+            bound = λ n h q e. let z : _≡_ {A = ℕ} 0 1 = begun-none (getD roots n 65535) e ∙ sym (u .before n h) ∙ q in omega arith;
             known = λ n h q. known′ n h q (ℕ-discrete (getD roots n 65535) 65535);
             beyond = u .beyond;
           };
@@ -111,7 +111,7 @@ ends-start ns roots names count definitions ends′ u =
       done = λ m h. absurd (omega arith);
     }
   where
-    known′ : (n : ℕ) → n < names → (getD ends′ n 65535 ≡ 65534 → ⊥) → Dec (getD roots n 65535 ≡ 65535) → EndKnown ns roots count n (getD ends′ n 65535)
+    known′ : (n : ℕ) → n < names → (getD ends′ n 0 ≡ 1 → ⊥) → Dec (getD roots n 65535 ≡ 65535) → EndKnown ns roots count n (getD ends′ n 0)
     known′ n h q (yes e) = subst (EndKnown ns roots count n) (begun-none (getD roots n 65535) e ∙ sym (u .before n h)) (none-known e)
     known′ n h q (no e) = absurd (q (u .before n h ∙ sym (begun-open (getD roots n 65535) e)))
 
@@ -130,10 +130,10 @@ module _ {ns roots : List ℕ} {names count definitions : ℕ} (few : names ≤ 
     where
       node′ : (m : ℕ) → (endIn ends′ m ≡ 65535 → ⊥) → Dec (m < names) → endIn ends′ m < count
       node′ m q (yes i) = s .table .known m i (s .done m (omega arith)) .node q
-      node′ m q (no i) = absurd (q (ap (λ (e : ℕ). e % 65536) (s .table .beyond m (omega arith))))
+      node′ m q (no i) = absurd (q (ap endOf (s .table .beyond m (omega arith))))
 
   module _ (h : n < names) (e : ℕ) (x : FollowedAs ns roots count definitions n e) where
-    pub ends-circle : e ≡ 65534 → {after : List ℕ} → after ≡ blankTable → AliasEndsAs ns roots names count definitions after n
+    pub ends-circle : e ≡ 1 → {after : List ℕ} → after ≡ zeroTable → AliasEndsAs ns roots names count definitions after n
     unfolding isCircle
     ends-circle c z =
         let never : n ≡ 65535 → ⊥ = λ e. let f : ⊥ = omega arith in f in
@@ -145,17 +145,17 @@ module _ {ns roots : List ℕ} {names count definitions : ℕ} (few : names ≤ 
           left = λ e. z;
         }
 
-    pub ends-on : (e ≡ 65534 → ⊥) → (after : List ℕ) → NotedAs ns roots names count n ends′ after → EndsLeft ns roots names count definitions after (n + 1)
+    pub ends-on : (e ≡ 1 → ⊥) → (after : List ℕ) → NotedAs ns roots names count n ends′ after → EndsLeft ns roots names count definitions after (n + 1)
     ends-on c after w =
         record {
           passed = omega arith;
           table = w .table;
           rest = λ ds b l.
-              sym (each-cons (verdicts ds) n names h ∙ rw (by-end ds n (findType ds n), ended-passes ns (e % 65536) (nameEnd ds n (findType ds n)) (x .known c .is ds b .end)))
+              sym (each-cons (verdicts ds) n names h ∙ rw (by-end ds n (findType ds n), ended-passes ns (endOf e) (nameEnd ds n (findType ds n)) (x .known c .is ds b .end)))
               ∙ s .rest ds b l;
           done = λ m i. done′ m i (ℕ-discrete m n);
         }
       where
-        done′ : (m : ℕ) → m < n + 1 → Dec (m ≡ n) → getD after m 65535 ≡ 65534 → ⊥
-        done′ m i (yes z) q = w .known (ap (λ (a : ℕ). getD after a 65535) (sym z) ∙ q)
+        done′ : (m : ℕ) → m < n + 1 → Dec (m ≡ n) → getD after m 0 ≡ 1 → ⊥
+        done′ m i (yes z) q = w .known (ap (λ (a : ℕ). getD after a 0) (sym z) ∙ q)
         done′ m i (no z) q = let o = s .done m (omega arith) in o (sym (w .kept m o) ∙ q)

@@ -26,7 +26,7 @@ use Rattle.judgement.specs.Aliases.{End, unbound, circle, ends, link, chainFrom
 use Rattle.judgement.proofs.Lookup.{find-missing}
 use Rattle.judgement.proofs.Chains.{crosses, outcome, run-end}
 use Rattle.judgement.proofs.Lengths.{crossed-other, crossed-missing, crossed-on, crossed-same, crossed-most}
-use Rattle.environment.specs.Tables.{Nodes, Roots, Binds, nameEnd, EndAt, ChainAt, EndKnown, FollowedAs, Unfinished, NotedAs}
+use Rattle.environment.specs.Tables.{Nodes, Roots, Binds, nameEnd, endOf, EndAt, ChainAt, EndKnown, FollowedAs, Unfinished, NotedAs}
 use Rattle.environment.proofs.Links.{lastOf, chain-other, chain-unbound, chain-circle, chain-on, head-var, head-other, found-none, found-some, getD-within, in-table}
 
 pub is-named : (n : ℕ) → head (nameType n) ≡ named n
@@ -119,30 +119,30 @@ follow-start ns roots names definitions n h =
 
 -- an end that is known is no circle
 known-ends : {ns : List ℕ} {ds : List Definition} {n e : ℕ} → ChainAt ns ds n e → nameEnd ds n (findType ds n) ≡ circle → ⊥
-known-ends {ns} {e = e} q c = subst (EndAt ns (e % 65536)) c (q .end)
+known-ends {ns} {e = e} q c = subst (EndAt ns (endOf e)) c (q .end)
 
 -- of a name so many names before one whose entry is known, or after
 module _ {ns roots : List ℕ} {count n m e d : ℕ} (same : (ds : List Definition) → Binds ns roots ds → nameEnd ds m (findType ds m) ≡ nameEnd ds n (findType ds n)) where
-  known-same : EndKnown ns roots count m e → d % 65536 ≡ e % 65536 → ((ds : List Definition) → Binds ns roots ds → ChainAt ns ds m e → d / 65536 ≡ aliasLength ds (nameType n)) →
+  known-same : EndKnown ns roots count m e → endOf d ≡ endOf e → ((ds : List Definition) → Binds ns roots ds → ChainAt ns ds m e → d / 65536 ≡ aliasLength ds (nameType n)) →
       EndKnown ns roots count n d
   known-same q low high =
       record {
         node = λ h. rw low (q .node (λ z. h (low ∙ z)));
-        is = λ ds b. record { end = rw low (subst (EndAt ns (e % 65536)) (same ds b) (q .is ds b .end)); crossed = high ds b (q .is ds b) };
+        is = λ ds b. record { end = rw low (subst (EndAt ns (endOf e)) (same ds b) (q .is ds b .end)); crossed = high ds b (q .is ds b) };
       }
 
 -- the marker is no end
-known-no-marker : {ns roots : List ℕ} {count n e : ℕ} → count ≤ 4096 → EndKnown ns roots count n e → e ≡ 65534 → ⊥
+known-no-marker : {ns roots : List ℕ} {count n e : ℕ} → count ≤ 4096 → EndKnown ns roots count n e → e ≡ 1 → ⊥
 known-no-marker few q e = let z = q .node (λ i. let f : ⊥ = omega arith in f) in omega arith
 
 -- a name without definition
-pub none-known : {ns roots : List ℕ} {count n : ℕ} → getD roots n 65535 ≡ 65535 → EndKnown ns roots count n 65535
+pub none-known : {ns roots : List ℕ} {count n : ℕ} → getD roots n 65535 ≡ 65535 → EndKnown ns roots count n 0
 none-known {ns} {roots} {n = n} e =
     record {
       node = λ h. absurd (h refl);
       is = λ ds b.
           let f = b n ∙ found-none ns (getD roots n 65535) e in
-          record { end = subst (EndAt ns 65535) (sym (name-missing ds n f)) refl; crossed = sym (unnamed ds n f) };
+          record { end = subst (EndAt ns (endOf 0)) (sym (name-missing ds n f)) refl; crossed = sym (unnamed ds n f) };
     }
 
 -- what is read of the tables
@@ -150,12 +150,8 @@ module _ {ns : List ℕ} {names count : ℕ} (x : Nodes ns names count) {m : ℕ
   pub name-small : m < 1024
   name-small = omega (arith, x .fewNames)
 
-  module _ {roots ends′ : List ℕ} (u : Unfinished ns roots names count ends′) where
-    in-ends : getD ends′ m 0 ≡ getD ends′ m 65535
-    in-ends = getD-within ends′ m 0 65535 (omega (arith, name-small, u .long))
-
-    pub open-bound : getD ends′ m 0 ≡ 65534 → getD roots m 65535 ≡ 65535 → ⊥
-    open-bound h = u .bound m inside (sym in-ends ∙ h)
+  pub open-bound : {roots ends′ : List ℕ} → Unfinished ns roots names count ends′ → getD ends′ m 0 ≡ 1 → getD roots m 65535 ≡ 65535 → ⊥
+  open-bound u h = u .bound m inside h
 
 -- the definition of a name
 module _ {ns roots : List ℕ} {names count : ℕ} (x : Nodes ns names count) (y : Roots roots count) {m : ℕ} (inside : m < names)
@@ -173,10 +169,10 @@ module _ {ns roots : List ℕ} {names count : ℕ} (x : Nodes ns names count) (y
   root-body ds b = b m ∙ found-some ns (getD roots m 65535) some ∙ ap (λ (i : ℕ). body (treeAt ns i)) (sym in-roots)
 
   module _ (r : Row) (is : r ≡ rowAt ns (getD roots m 0)) where
-    type-known : (r .kind ≡ 18 → ⊥) → EndKnown ns roots count m (getD roots m 0 + 65536)
+    type-known : (r .kind ≡ 18 → ⊥) → EndKnown ns roots count m (65535 - getD roots m 0 + 65536)
     type-known k =
         let t = treeAt ns (getD roots m 0) in
-        let low : (getD roots m 0 + 65536) % 65536 ≡ getD roots m 0 = omega (arith, root-inside, x .fewNodes) in
+        let low : endOf (65535 - getD roots m 0 + 65536) ≡ getD roots m 0 = omega (arith, root-inside, x .fewNodes) in
         record {
           node = λ h. rw low root-inside;
           is = λ ds b.
@@ -218,20 +214,19 @@ module _ {ns roots : List ℕ} {names count definitions n m k far : ℕ} (x : No
     pub far-small : far ≤ 67108864
     far-small = omega (arith, l .far-is)
 
-    pub known-small : (ds : List Definition) → Binds ns roots ds → length ds ≡ definitions → (getD ends′ m 0 ≡ 65534 → ⊥) → getD ends′ m 0 < 67174400
+    pub known-small : (ds : List Definition) → Binds ns roots ds → length ds ≡ definitions → (getD ends′ m 0 ≡ 1 → ⊥) → getD ends′ m 0 < 67174400
     known-small ds b s h =
-        let i = in-ends x (l .inside) u in
-        let c = u .known m (l .inside) (λ z. h (i ∙ z)) .is ds b in
-        omega (arith, i, c .crossed, crossed-most ds (nameType m))
+        let c = u .known m (l .inside) h .is ds b in
+        omega (arith, c .crossed, crossed-most ds (nameType m))
 
-  pub follow-known : (getD ends′ m 0 ≡ 65534 → ⊥) → FollowedAs ns roots count definitions n (getD ends′ m 0 + far)
-  follow-known h = let i = in-ends x (l .inside) u in back (rw i (u .known m (l .inside) (λ z. h (i ∙ z))))
+  pub follow-known : (getD ends′ m 0 ≡ 1 → ⊥) → FollowedAs ns roots count definitions n (getD ends′ m 0 + far)
+  follow-known h = back (u .known m (l .inside) h)
 
-  module _ (h : getD ends′ m 0 ≡ 65534) where
+  module _ (h : getD ends′ m 0 ≡ 1) where
     some′ : getD roots m 65535 ≡ 65535 → ⊥
     some′ = open-bound x (l .inside) u h
 
-    pub follow-never : k ≡ 0 → FollowedAs ns roots count definitions n 65534
+    pub follow-never : k ≡ 0 → FollowedAs ns roots count definitions n 1
     follow-never z =
         record {
           never = λ e ds b s.
@@ -241,9 +236,9 @@ module _ {ns roots : List ℕ} {names count definitions n m k far : ℕ} (x : No
         }
 
     module _ (r : Row) (is : r ≡ rowAt ns (getD roots m 0)) where
-      pub follow-ends : (r .kind ≡ 18 → ⊥) → FollowedAs ns roots count definitions n (getD roots m 0 + (far + 65536))
+      pub follow-ends : (r .kind ≡ 18 → ⊥) → FollowedAs ns roots count definitions n (65535 - getD roots m 0 + (far + 65536))
       follow-ends i =
-          let e : getD roots m 0 + 65536 + far ≡ getD roots m 0 + (far + 65536) = omega arith in
+          let e : 65535 - getD roots m 0 + 65536 + far ≡ 65535 - getD roots m 0 + (far + 65536) = omega arith in
           subst (FollowedAs ns roots count definitions n) e (back (type-known x y (l .inside) some′ r is i))
 
       pub follow-on : r .kind ≡ 18 → (k ≡ 0 → ⊥) → Follows ns roots names definitions n (r .value) (k - 1) (far + 65536)
@@ -266,20 +261,20 @@ module _ {ns roots : List ℕ} {names count definitions n m k far : ℕ} (x : No
 -- ---- writing down: how many ends are not known yet
 unfoldable pub toFind : List ℕ → ℕ
 toFind [] = 0
-toFind (x ∷ xs) = cond (eqb x 65534) 1 0 + toFind xs
+toFind (x ∷ xs) = cond (eqb x 1) 1 0 + toFind xs
 
-to-find-less : (l : List ℕ) (n e : ℕ) → n < length l → getD l n 65535 ≡ 65534 → (e ≡ 65534 → ⊥) → toFind (set l n e) < toFind l
+to-find-less : (l : List ℕ) (n e : ℕ) → n < length l → getD l n 0 ≡ 1 → (e ≡ 1 → ⊥) → toFind (set l n e) < toFind l
 unfolding toFind
 to-find-less [] n e l i h = absurd (omega arith)
-to-find-less (x ∷ xs) zero e l i h = rw (i, ne-eqb e 65534 h) (omega arith)
+to-find-less (x ∷ xs) zero e l i h = rw (i, ne-eqb e 1 h) (omega arith)
 to-find-less (x ∷ xs) (suc n) e l i h = omega (arith, to-find-less xs n e (omega arith) i h)
 
 pub record Notes (ns roots : List ℕ) (names count n e : ℕ) (before now′ : List ℕ) (m : ℕ) : Type 0 where
   pub inside : m < names
   pub is : EndKnown ns roots count m e
   pub table : Unfinished ns roots names count now′
-  pub kept : (j : ℕ) → (getD before j 65535 ≡ 65534 → ⊥) → getD now′ j 65535 ≡ getD before j 65535
-  pub waits : getD now′ n 65535 ≡ 65534 → n ≡ m
+  pub kept : (j : ℕ) → (getD before j 0 ≡ 1 → ⊥) → getD now′ j 0 ≡ getD before j 0
+  pub waits : getD now′ n 0 ≡ 1 → n ≡ m
 
 pub note-start : {ns roots : List ℕ} {names count n e : ℕ} {before : List ℕ} → n < names → EndKnown ns roots count n e → Unfinished ns roots names count before →
     Notes ns roots names count n e before before n
@@ -289,15 +284,12 @@ module _ {ns roots : List ℕ} {names count n e m : ℕ} {before now′ : List �
   pub note-inside : m < length now′
   note-inside = omega (arith, name-small x (l .inside), l .table .long)
 
-  in-now : getD now′ m 0 ≡ getD now′ m 65535
-  in-now = in-ends x (l .inside) (l .table)
+  pub note-end : (getD now′ m 0 ≡ 1 → ⊥) → NotedAs ns roots names count n before now′
+  note-end h = record { table = l .table; kept = l .kept; known = λ i. h (ap (λ (j : ℕ). getD now′ j 0) (sym (l .waits i)) ∙ i) }
 
-  pub note-end : (getD now′ m 0 ≡ 65534 → ⊥) → NotedAs ns roots names count n before now′
-  note-end h = record { table = l .table; kept = l .kept; known = λ i. h (in-now ∙ ap (λ (j : ℕ). getD now′ j 65535) (sym (l .waits i)) ∙ i) }
-
-  module _ (h : getD now′ m 0 ≡ 65534) where
+  module _ (h : getD now′ m 0 ≡ 1) where
     pub note-less : toFind (set now′ m e) < toFind now′
-    note-less = to-find-less now′ m e note-inside (sym in-now ∙ h) (known-no-marker (x .fewNodes) (l .is))
+    note-less = to-find-less now′ m e note-inside h (known-no-marker (x .fewNodes) (l .is))
 
     pub note-set : NotedAs ns roots names count n before (set now′ m e)
     note-set =
@@ -307,26 +299,26 @@ module _ {ns roots : List ℕ} {names count n e m : ℕ} {before now′ : List �
                 long = simp length-set (l .table .long);
                 bound = λ j i q. bound′ j i q (ℕ-discrete j m);
                 known = λ j i q. known′ j i q (ℕ-discrete j m);
-                beyond = λ j i. getD-set-other now′ m j e 65535 (λ z. let f : ⊥ = omega (arith, l .inside) in f) ∙ l .table .beyond j i;
+                beyond = λ j i. getD-set-other now′ m j e 0 (λ z. let f : ⊥ = omega (arith, l .inside) in f) ∙ l .table .beyond j i;
               };
-          kept = λ j i. getD-set-other now′ m j e 65535 (λ z. i (sym (l .kept j i) ∙ ap (λ (a : ℕ). getD now′ a 65535) z ∙ sym in-now ∙ h)) ∙ l .kept j i;
+          kept = λ j i. getD-set-other now′ m j e 0 (λ z. i (sym (l .kept j i) ∙ ap (λ (a : ℕ). getD now′ a 0) z ∙ h)) ∙ l .kept j i;
           known = λ i. new i (ℕ-discrete n m);
         }
       where
-        here : getD (set now′ m e) m 65535 ≡ e
-        here = getD-set-same now′ m e 65535 note-inside
+        here : getD (set now′ m e) m 0 ≡ e
+        here = getD-set-same now′ m e 0 note-inside
 
-        bound′ : (j : ℕ) → j < names → getD (set now′ m e) j 65535 ≡ 65534 → Dec (j ≡ m) → getD roots j 65535 ≡ 65535 → ⊥
-        bound′ j i q (yes z) = absurd (known-no-marker (x .fewNodes) (l .is) (sym here ∙ ap (λ (a : ℕ). getD (set now′ m e) a 65535) (sym z) ∙ q))
-        bound′ j i q (no z) = l .table .bound j i (sym (getD-set-other now′ m j e 65535 z) ∙ q)
+        bound′ : (j : ℕ) → j < names → getD (set now′ m e) j 0 ≡ 1 → Dec (j ≡ m) → getD roots j 65535 ≡ 65535 → ⊥
+        bound′ j i q (yes z) = absurd (known-no-marker (x .fewNodes) (l .is) (sym here ∙ ap (λ (a : ℕ). getD (set now′ m e) a 0) (sym z) ∙ q))
+        bound′ j i q (no z) = l .table .bound j i (sym (getD-set-other now′ m j e 0 z) ∙ q)
 
-        known′ : (j : ℕ) → j < names → (getD (set now′ m e) j 65535 ≡ 65534 → ⊥) → Dec (j ≡ m) → EndKnown ns roots count j (getD (set now′ m e) j 65535)
+        known′ : (j : ℕ) → j < names → (getD (set now′ m e) j 0 ≡ 1 → ⊥) → Dec (j ≡ m) → EndKnown ns roots count j (getD (set now′ m e) j 0)
         known′ j i q (yes z) = rw (z, here) (l .is)
-        known′ j i q (no z) = let o = getD-set-other now′ m j e 65535 z in rw o (l .table .known j i (λ a. q (o ∙ a)))
+        known′ j i q (no z) = let o = getD-set-other now′ m j e 0 z in rw o (l .table .known j i (λ a. q (o ∙ a)))
 
-        new : getD (set now′ m e) n 65535 ≡ 65534 → Dec (n ≡ m) → ⊥
-        new i (yes z) = known-no-marker (x .fewNodes) (l .is) (sym here ∙ ap (λ (a : ℕ). getD (set now′ m e) a 65535) (sym z) ∙ i)
-        new i (no z) = z (l .waits (sym (getD-set-other now′ m n e 65535 z) ∙ i))
+        new : getD (set now′ m e) n 0 ≡ 1 → Dec (n ≡ m) → ⊥
+        new i (yes z) = known-no-marker (x .fewNodes) (l .is) (sym here ∙ ap (λ (a : ℕ). getD (set now′ m e) a 0) (sym z) ∙ i)
+        new i (no z) = z (l .waits (sym (getD-set-other now′ m n e 0 z) ∙ i))
 
     -- the next name crosses one name less
     module _ (r : Row) (is : r ≡ rowAt ns (getD roots m 0)) (k : r .kind ≡ 18) where

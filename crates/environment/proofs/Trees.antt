@@ -5,7 +5,7 @@
 use mathlib.Core.Path.{_≡_, refl, sym, ap, subst, _∙_}
 use mathlib.Core.Bool.{true, _&&_}
 use mathlib.Core.List.{List}
-use Prim.Native.Nat.{ℕ, zero, suc, _+_, _%_, _≤_, _<_}
+use Prim.Native.Nat.{ℕ, zero, suc, _+_, _≤_, _<_}
 use native.Mathlib.Decide.{decLt}
 use native.Mathlib.Omega.{arith}
 use lib.Dec.{T, leb→le}
@@ -22,9 +22,9 @@ use Rattle.format.proofs.Logic.{both, both₃, join₃}
 use Rattle.format.proofs.Trees.{breadth-count}
 use Rattle.format.proofs.Rows.{Opened, opens, kids-whole, node-within, siblings-opens, count-siblings}
 use Rattle.format.proofs.Stored.{tree-whole, tree-opens}
-use Rattle.book.specs.Tables.{blankTable}
-use Rattle.book.proofs.Blank.{blank-length, blank-at}
-use Rattle.environment.specs.Tables.{Roots, EndNodes, Ended}
+use Rattle.book.specs.Tables.{blankTable, zeroTable}
+use Rattle.book.proofs.Blank.{blank-length, blank-at, zero-length, zero-at}
+use Rattle.environment.specs.Tables.{Roots, endOf, EndNodes, Ended}
 use Rattle.environment.specs.Trees.{Trees, Methods, AllTrees, Top}
 
 -- ---- trees of a book, opened
@@ -180,12 +180,12 @@ module _ {ns roots ends′ : List ℕ} {n : ℕ} (t : Trees ns roots ends′ n (
 pub blank-nodes : (count : ℕ) (table : List ℕ) → table ≡ blankTable → Roots table count
 blank-nodes count table e = rw e (record { long = blank-length; node = λ n h. absurd (h (blank-at n)) })
 
-pub blank-ends : (count : ℕ) (table : List ℕ) → table ≡ blankTable → EndNodes table count
-blank-ends count table e = rw e (record { long = blank-length; node = λ n h. absurd (h (ap (λ (i : ℕ). i % 65536) (blank-at n))) })
+pub no-ends : (count : ℕ) (table : List ℕ) → table ≡ zeroTable → EndNodes table count
+no-ends count table e = rw e (record { long = zero-length; node = λ n h. absurd (h (ap endOf (zero-at n))) })
 
 -- where no table is asked for
 pub top : {ns : List ℕ} {names count : ℕ} → AllTrees ns names count → {n : ℕ} → n < count → Top ns n
 top {count = count} a h =
     let z = blank-nodes count blankTable refl in
-    let e = blank-ends count blankTable refl in
+    let e = no-ends count zeroTable refl in
     node-top (node-trees a z e h) (node-some a z e h)

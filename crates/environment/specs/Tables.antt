@@ -12,7 +12,7 @@ use Rattle.format.specs.Whole.{Within, WholeIn, RowFits, treeAt, definitionAt}
 use Rattle.judgement.specs.Environment.{Found, missing, body, findType}
 use Rattle.judgement.specs.Aliases.{End, unbound, circle, ends, aliasEnd, aliasLength, nameType}
 use Rattle.judgement.specs.Check.{member, eachName, circleVerdict}
-use Rattle.book.specs.Tables.{blankTable}
+use Rattle.book.specs.Tables.{blankTable, zeroTable}
 use Rattle.refusals.specs.declared.Refusal as refusal
 use Rattle.refusals.specs.declared.Verdict.the-variants.{Passed, Refused}
 use Rattle.environment.specs.declared.End as code
@@ -87,12 +87,16 @@ unfoldable pub nameEnd : List Definition → ℕ → Found → End
 nameEnd ds n missing = unbound n
 nameEnd ds n (body t) = aliasEnd ds t
 
--- ---- A table of alias ends: for each name the number of names that its chain crosses, times 65,536, and the node where it ends, 65,535 for none
+-- ---- A table of alias ends: for each name the number of names that its chain crosses, times 65,536, and 65,535 less the node where it ends, which
+-- is 65,535 for none
+abbrev pub endOf : ℕ → ℕ
+endOf e = 65535 - e % 65536
+
 abbrev pub endIn : List ℕ → ℕ → ℕ
-endIn ends′ n = getD ends′ n 65535 % 65536
+endIn ends′ n = endOf (getD ends′ n 0)
 
 abbrev pub crossedIn : List ℕ → ℕ → ℕ
-crossedIn ends′ n = getD ends′ n 65535 / 65536
+crossedIn ends′ n = getD ends′ n 0 / 65536
 
 pub record EndNodes (ends′ : List ℕ) (count : ℕ) : Type 0 where
   pub long : length ends′ ≡ 1024
@@ -106,44 +110,44 @@ EndAt ns e (ends t) = (e ≡ 65535 → ⊥) × (t ≡ treeAt ns e)
 
 -- What such a table has for a name: where the chain of its definition ends, and the length of that of the type that is the name.
 pub record ChainAt (ns : List ℕ) (ds : List Definition) (n e : ℕ) : Type 0 where
-  pub end : EndAt ns (e % 65536) (nameEnd ds n (findType ds n))
+  pub end : EndAt ns (endOf e) (nameEnd ds n (findType ds n))
   pub crossed : e / 65536 ≡ aliasLength ds (nameType n)
 
 abbrev pub Chains : List ℕ → List ℕ → ℕ → List Definition → Type 0
-Chains ns ends′ names ds = (n : ℕ) → n < names → ChainAt ns ds n (getD ends′ n 65535)
+Chains ns ends′ names ds = (n : ℕ) → n < names → ChainAt ns ds n (getD ends′ n 0)
 
 -- The same of a name whose chain ends, whatever the definitions are that the table of roots was made of.
 pub record EndKnown (ns roots : List ℕ) (count n e : ℕ) : Type 0 where
-  pub node : (e % 65536 ≡ 65535 → ⊥) → e % 65536 < count
+  pub node : (endOf e ≡ 65535 → ⊥) → endOf e < count
   pub is : (ds : List Definition) → Binds ns roots ds → ChainAt ns ds n e
 
--- What the table is to have for a name; 65,534 if its chain never ends.
+-- What the table is to have for a name; 1 if its chain never ends.
 pub record FollowedAs (ns roots : List ℕ) (count definitions n e : ℕ) : Type 0 where
-  pub never : e ≡ 65534 → (ds : List Definition) → Binds ns roots ds → length ds ≡ definitions → nameEnd ds n (findType ds n) ≡ circle
-  pub known : (e ≡ 65534 → ⊥) → EndKnown ns roots count n e
+  pub never : e ≡ 1 → (ds : List Definition) → Binds ns roots ds → length ds ≡ definitions → nameEnd ds n (findType ds n) ≡ circle
+  pub known : (e ≡ 1 → ⊥) → EndKnown ns roots count n e
 
--- A table of alias ends that is being made: 65,534 for a name with a definition whose end is not known yet.
+-- A table of alias ends that is being made: 1 for a name with a definition whose end is not known yet.
 pub record Unfinished (ns roots : List ℕ) (names count : ℕ) (ends′ : List ℕ) : Type 0 where
   pub long : length ends′ ≡ 1024
-  pub bound : (n : ℕ) → n < names → getD ends′ n 65535 ≡ 65534 → getD roots n 65535 ≡ 65535 → ⊥
-  pub known : (n : ℕ) → n < names → (getD ends′ n 65535 ≡ 65534 → ⊥) → EndKnown ns roots count n (getD ends′ n 65535)
-  pub beyond : (n : ℕ) → names ≤ n → getD ends′ n 65535 ≡ 65535
+  pub bound : (n : ℕ) → n < names → getD ends′ n 0 ≡ 1 → getD roots n 65535 ≡ 65535 → ⊥
+  pub known : (n : ℕ) → n < names → (getD ends′ n 0 ≡ 1 → ⊥) → EndKnown ns roots count n (getD ends′ n 0)
+  pub beyond : (n : ℕ) → names ≤ n → getD ends′ n 0 ≡ 0
 
 -- What the table has for a name of this root before any chain is followed: a name without definition is unbound.
 unfoldable pub endBefore : ℕ → ℕ
-endBefore root = cond (eqb root 65535) 65535 65534
+endBefore root = cond (eqb root 65535) 0 1
 
 -- The table before any chain is followed.
 pub record Unbegun (roots : List ℕ) (names : ℕ) (ends′ : List ℕ) : Type 0 where
   pub long : length ends′ ≡ 1024
-  pub before : (n : ℕ) → n < names → getD ends′ n 65535 ≡ endBefore (getD roots n 65535)
-  pub beyond : (n : ℕ) → names ≤ n → getD ends′ n 65535 ≡ 65535
+  pub before : (n : ℕ) → n < names → getD ends′ n 0 ≡ endBefore (getD roots n 65535)
+  pub beyond : (n : ℕ) → names ≤ n → getD ends′ n 0 ≡ 0
 
 -- The end of name n is known, and what was known is as it was.
 pub record NotedAs (ns roots : List ℕ) (names count n : ℕ) (before after : List ℕ) : Type 0 where
   pub table : Unfinished ns roots names count after
-  pub kept : (m : ℕ) → (getD before m 65535 ≡ 65534 → ⊥) → getD after m 65535 ≡ getD before m 65535
-  pub known : getD after n 65535 ≡ 65534 → ⊥
+  pub kept : (m : ℕ) → (getD before m 0 ≡ 1 → ⊥) → getD after m 0 ≡ getD before m 0
+  pub known : getD after n 0 ≡ 1 → ⊥
 
 -- The lowest name whose chain never ends, as the check refuses it; and, where there is none, all ends; where there is one, nothing.
 pub record AliasEndsAs (ns roots : List ℕ) (names count definitions : ℕ) (ends′ : List ℕ) (circle′ : ℕ) : Type 0 where
@@ -151,8 +155,8 @@ pub record AliasEndsAs (ns roots : List ℕ) (names count definitions : ℕ) (en
   pub lowest : (ds : List Definition) → Binds ns roots ds → length ds ≡ definitions →
       eachName (λ n. circleVerdict ds n (findType ds n)) 0 names ≡ cond (eqb circle′ 65535) Passed (Refused (refusal.Refusal.Circle circle′))
   pub all : circle′ ≡ 65535 → (ds : List Definition) → Binds ns roots ds → length ds ≡ definitions → Chains ns ends′ names ds
-  pub beyond : circle′ ≡ 65535 → (n : ℕ) → names ≤ n → getD ends′ n 65535 ≡ 65535
-  pub left : (circle′ ≡ 65535 → ⊥) → ends′ ≡ blankTable
+  pub beyond : circle′ ≡ 65535 → (n : ℕ) → names ≤ n → getD ends′ n 0 ≡ 0
+  pub left : (circle′ ≡ 65535 → ⊥) → ends′ ≡ zeroTable
 
 -- A node of a book, with a table of alias ends.
 pub record Ended (ns ends′ : List ℕ) (node : ℕ) : Type 0 where

@@ -8,7 +8,7 @@ ghost use lib.ListN.{length};
 ghost use Rattle.format.specs.Book.{Definition};
 ghost use Rattle.format.specs.Whole.{treeAt};
 ghost use Rattle.judgement.specs.Aliases.{chainFrom};
-ghost use Rattle.book.specs.Tables.{blankTable};
+ghost use Rattle.book.specs.Tables.{blankTable, zeroTable};
 ghost use Rattle.environment.specs.Tables.{Nodes, Entries, Roots, Binds, Tabled, asEnd, InRange, DefinesAs, crossedIn, Ended, EndKnown, FollowedAs, Unfinished, endBefore, Unbegun, NotedAs, AliasEndsAs, ReachedAs, LookupAs};
 
 pub mod merge;
@@ -31,7 +31,8 @@ impl Table {
 // For each of the 1,024 names how many names its alias chain crosses, itself among them, and the node where that ends, as one number.
 pub type EndByName = [u32; Limits::NAMES];
 
-// What a table of alias ends has for a name: CROSSED for each name crossed and the node, or one of the others.
+// What a table of alias ends has for a name: CROSSED for each name crossed, and how far the node is below NONE; or one of the others. So a table
+// that has nothing is 0 throughout, which is made fastest.
 pub struct EndTable {
     pub entry: u32,
 }
@@ -40,15 +41,15 @@ impl EndTable {
     const CROSSED: u32 = 65536;
 
     // No node: of a name without definition, which crosses none.
-    const NONE: u32 = 65535;
+    const NONE: u32 = 0;
 
-    // An end that is not known yet, in a table that is being made; and that of a chain that never ends.
-    const OPEN: u32 = 65534;
+    // An end that is not known yet, in a table that is being made; and that of a chain that never ends. No node is so close to NONE.
+    const OPEN: u32 = 1;
 }
 
 // A table of alias ends that has nothing.
 pub fn no_ends() -> EndByName
-    ensures { λ r. ⌜ r ≡ blankTable ⌝ }
+    ensures { λ r. ⌜ r ≡ zeroTable ⌝ }
 {
     [EndTable::NONE; Limits::NAMES]
 }
@@ -68,7 +69,7 @@ pub fn clear(table: &mut [u16])
 // The same of a table of alias ends.
 pub fn clear_ends(table: &mut [u32])
     requires { ⌜ length (now table) ≡ 1024 ⌝ }
-    ensures { λ r. ⌜ now (table .exit) ≡ blankTable ⌝ }
+    ensures { λ r. ⌜ now (table .exit) ≡ zeroTable ⌝ }
 {
     let mut n = 0;
     while n < Limits::NAMES {
@@ -175,7 +176,7 @@ fn end_before(root: u16) -> u32
 
 // Opens the ends of all names that have a definition, in a table that has nothing.
 fn open_ends(roots: &[u16], names: usize, ends: &mut [u32])
-    requires { ⌜ (length (now roots) ≡ 1024) × (names ≤ 1024) × (now ends ≡ blankTable) ⌝ }
+    requires { ⌜ (length (now roots) ≡ 1024) × (names ≤ 1024) × (now ends ≡ zeroTable) ⌝ }
     ensures { λ r. ⌜ Unbegun (now (roots .entry)) names (now (ends .exit)) ⌝ }
 {
     let mut n = 0;
@@ -215,7 +216,7 @@ fn follow(
         let root = roots[m];
         let t = Node::at(rows, root as usize);
         if t.kind != Kind::VAR {
-            return root as u32 + crossed;
+            return (Table::NONE - root) as u32 + crossed;
         }
         m = t.value as usize;
     }
@@ -259,7 +260,7 @@ pub fn find_ends(
     definitions: usize,
     ends: &mut [u32],
 ) -> u16
-    requires { ⌜ Nodes (now rows) names nodes × Roots (now roots) nodes × (now ends ≡ blankTable) × ((ds : List Definition) × Tabled (now rows) (now roots) definitions ds) × (definitions ≤ 1024) ⌝ }
+    requires { ⌜ Nodes (now rows) names nodes × Roots (now roots) nodes × (now ends ≡ zeroTable) × ((ds : List Definition) × Tabled (now rows) (now roots) definitions ds) × (definitions ≤ 1024) ⌝ }
     ensures { λ r. ⌜ AliasEndsAs (now (rows .entry)) (now (roots .entry)) names nodes definitions (now (ends .exit)) r ⌝ }
 {
     open_ends(roots, names, ends);
@@ -296,7 +297,7 @@ pub fn end_of(rows: &[u8], ends: &[u32], node: usize) -> Reached
     }
     let e = ends[t.value as usize];
     Reached {
-        node: (e % EndTable::CROSSED) as u16,
+        node: Table::NONE - (e % EndTable::CROSSED) as u16,
         crossed: (e / EndTable::CROSSED) as u16,
     }
 }

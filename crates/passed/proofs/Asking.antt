@@ -24,7 +24,7 @@ use Rattle.format.specs.Book.{Book}
 use Rattle.format.specs.Admission.{Source, admitted, onBytes}
 use Rattle.format.proofs.Admission.{asked-is}
 use Rattle.book.specs.declared.kinds.Contents.{Contents}
-use Rattle.book.specs.Tables.{blankTable}
+use Rattle.book.specs.Tables.{blankTable, zeroTable}
 use Rattle.book.specs.Reading.{Admitted}
 use Rattle.admission.specs.declared.Admission.the-variants.{Refused as NotAdmitted, Admitted as IsAdmitted}
 use Rattle.admission.specs.Admitting.{admissionOf}
@@ -44,7 +44,7 @@ use Rattle.passed.specs.Stages.{noContents, contentsIn, BookPassed, Pass
 -- ---- What `pass` finds
 module _ (bs : Source) (roots ends′ : List ℕ) where
   pub pass-refused : {why : Refusal} {c : Contents} {r : Found} → NotAdmitted why ≡ admissionOf (admitted bs) → c ≡ noContents → r ≡ foundNone c (Refused why) →
-      roots ≡ blankTable → ends′ ≡ blankTable → PassAs bs roots ends′ r
+      roots ≡ blankTable → ends′ ≡ zeroTable → PassAs bs roots ends′ r
   unfolding checkBytes judged
   pass-refused {why} e n f x y =
       rw (f)

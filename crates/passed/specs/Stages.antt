@@ -10,7 +10,7 @@ use Rattle.format.specs.Book.{Book}
 use Rattle.format.specs.Admission.{Source, admitted}
 use Rattle.book.specs.declared.kinds.Contents.{Contents}
 use Rattle.book.specs.Reading.{contentsOf}
-use Rattle.book.specs.Tables.{blankTable}
+use Rattle.book.specs.Tables.{blankTable, zeroTable}
 use Rattle.judgement.specs.Check.{checkBytes}
 use Rattle.typing.specs.declared.prog.Passed.{Passed}
 use Rattle.typing.specs.declared.prog.Found.{Found}
@@ -37,4 +37,4 @@ pub record PassAs (bs : Source) (roots ends′ : List ℕ) (r : Found) : Type 0 
   pub passed : r .verdict ≡ passes → BookPassed bs roots ends′ (r .passed)
   pub refused : isPassed (r .verdict) ≡ false → r ≡ foundNone (contentsIn (admitted bs)) (r .verdict)
   pub roots-left : isPassed (r .verdict) ≡ false → roots ≡ blankTable
-  pub ends-left : isPassed (r .verdict) ≡ false → ends′ ≡ blankTable
+  pub ends-left : isPassed (r .verdict) ≡ false → ends′ ≡ zeroTable

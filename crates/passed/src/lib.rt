@@ -2,7 +2,7 @@
 // each; the draft list's is on an admitted book. Who asks several questions of one book, as the program list does, lets it pass once.
 ghost use mathlib.Core.Path.{_≡_};
 ghost use Rattle.format.specs.Admission.{_under_};
-ghost use Rattle.book.specs.Tables.{blankTable};
+ghost use Rattle.book.specs.Tables.{blankTable, zeroTable};
 ghost use Rattle.passed.specs.Stages.{PassAs, noContents};
 
 pub mod alias;
@@ -38,7 +38,7 @@ fn no_contents() -> Contents
 
 // Admits a book and checks it, into tables that have nothing, and have nothing again where it is refused.
 pub fn pass(book: &[u8], limits: Limits, roots: &mut [u16], ends: &mut [u32]) -> Found
-    requires { ⌜ (now roots ≡ blankTable) × (now ends ≡ blankTable) ⌝ }
+    requires { ⌜ (now roots ≡ blankTable) × (now ends ≡ zeroTable) ⌝ }
     ensures { λ r. ⌜ PassAs (now (book .entry) under limits) (now (roots .exit)) (now (ends .exit)) r ⌝ }
 {
     match admission::admit(book, limits) {

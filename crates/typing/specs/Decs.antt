@@ -15,7 +15,7 @@ use Rattle.refusals.specs.declared.Verdict.the-variants.{Passed}
 use Rattle.refusals.specs.Verdict.{isPassed}
 use Rattle.judgement.specs.Environment.{findType}
 use Rattle.judgement.specs.Check.{bodiesVerdict, eachName, circleVerdict, decsVerdict}
-use Rattle.book.specs.Tables.{blankTable}
+use Rattle.book.specs.Tables.{blankTable, zeroTable}
 use Rattle.environment.specs.Tables.{Nodes, Entries, Roots, EndNodes, Binds, Chains, DefinesAs, AliasEndsAs, definitionsIn}
 use Rattle.typing.specs.Walk.{Env}
 
@@ -38,8 +38,8 @@ pub record EnteredAs (es ns : List ℕ) (names count from to : ℕ) (v : Verdict
   pub verdict : v ≡ decsVerdict names (definitionsIn ns es from to)
   pub checked : v ≡ Passed → Checked ns roots ends′ count (definitionsIn ns es from to)
   pub chains : v ≡ Passed → Chains ns ends′ names (definitionsIn ns es from to)
-  pub beyond : v ≡ Passed → (n : ℕ) → names ≤ n → getD ends′ n 65535 ≡ 65535
-  pub left : isPassed v ≡ false → ends′ ≡ blankTable
+  pub beyond : v ≡ Passed → (n : ℕ) → names ≤ n → getD ends′ n 0 ≡ 0
+  pub left : isPassed v ≡ false → ends′ ≡ zeroTable
 
 -- The same, and where they are refused, the table of roots has nothing either, as it was lent.
 pub record DecsAs (es ns : List ℕ) (names count from to : ℕ) (v : Verdict) (roots ends′ : List ℕ) : Type 0 where
@@ -62,4 +62,4 @@ pub record Walked (es ns : List ℕ) (names count from to : ℕ) (roots : List �
 pub record CycleAs (ns roots : List ℕ) (names count definitions : ℕ) (ends′ : List ℕ) (v : Verdict) : Type 0 where
   pub verdict : (ds : List Definition) → Binds ns roots ds → length ds ≡ definitions → v ≡ eachName (λ n. circleVerdict ds n (findType ds n)) 0 names
   pub ends : isPassed v ≡ true → AliasEndsAs ns roots names count definitions ends′ 65535
-  pub left : isPassed v ≡ false → ends′ ≡ blankTable
+  pub left : isPassed v ≡ false → ends′ ≡ zeroTable

@@ -19,7 +19,7 @@ use Rattle.typing.specs.declared.prog.Passed.{Passed}
 use Rattle.typing.specs.declared.prog.Found.{Found}
 use Rattle.environment.specs.Trees.{AllTrees}
 use Rattle.book.specs.Reading.{Admitted}
-use Rattle.book.specs.Tables.{blankTable}
+use Rattle.book.specs.Tables.{blankTable, zeroTable}
 use Rattle.typing.specs.Decs.{Checked, DecsAs}
 use Rattle.syntax.specs.Files.{initAt, SplitAs}
 use Rattle.syntax.specs.Interfaces.{interfaceTree, InterfaceNodes, noInterface, InterfaceAs}
@@ -39,7 +39,7 @@ pub record PassedAs {bs : List ℕ} {c : Contents} (a : Admitted bs c) (roots en
   pub counted : length (mainDefinitions (a .book)) ≡ p .main
   pub checked : Checked (nodesPart bs) roots ends′ (count (trees (a .book))) (mainDefinitions (a .book))
   pub chains : Chains (nodesPart bs) ends′ (length (a .book .names)) (mainDefinitions (a .book))
-  pub beyond : (n : ℕ) → length (a .book .names) ≤ n → getD ends′ n 65535 ≡ 65535
+  pub beyond : (n : ℕ) → length (a .book .names) ≤ n → getD ends′ n 0 ≡ 0
   pub all : AllTrees (nodesPart bs) (length (a .book .names)) (count (trees (a .book)))
   pub tree : interfaceTree (nodesPart bs) (p .interface) ≡ resolveActor (a .book)
   pub nodes : InterfaceNodes (nodesPart bs) (count (trees (a .book))) (p .interface)
@@ -60,7 +60,7 @@ pub record ActorFoundAs {bs : List ℕ} {c : Contents} (a : Admitted bs c) (root
 pub record FoundAs {bs : List ℕ} {c : Contents} (a : Admitted bs c) (roots ends′ : List ℕ) (r : Found) : Type 0 where
   pub found : ActorFoundAs a roots ends′ r
   pub roots-left : isPassed (r .verdict) ≡ false → roots ≡ blankTable
-  pub ends-left : isPassed (r .verdict) ≡ false → ends′ ≡ blankTable
+  pub ends-left : isPassed (r .verdict) ≡ false → ends′ ≡ zeroTable
 
 -- A passed book, as a question takes it.
 pub record PassedBook (bs roots ends′ : List ℕ) (p : Passed) : Type 0 where

@@ -5,7 +5,7 @@ ghost use Prim.Native.Nat.{_≤_};
 ghost use Rattle.format.specs.Book.{Definition};
 ghost use Rattle.format.specs.Layout.{nodesPart, definitionsPart};
 ghost use Rattle.book.specs.Reading.{Admitted};
-ghost use Rattle.book.specs.Tables.{blankTable};
+ghost use Rattle.book.specs.Tables.{blankTable, zeroTable};
 ghost use Rattle.environment.specs.Tables.{Nodes, Roots, Tabled};
 ghost use Rattle.typing.specs.Decs.{EnteredAs, DecsAs, Entered, Walked, CycleAs};
 use book::kinds::Contents;
@@ -22,7 +22,7 @@ fn check_cycle(
     definitions: usize,
     ends: &mut [u32],
 ) -> Verdict
-    requires { ⌜ Nodes (now rows) names nodes × Roots (now roots) nodes × (now ends ≡ blankTable) × ((ds : List Definition) × Tabled (now rows) (now roots) definitions ds) × (definitions ≤ 1024) ⌝ }
+    requires { ⌜ Nodes (now rows) names nodes × Roots (now roots) nodes × (now ends ≡ zeroTable) × ((ds : List Definition) × Tabled (now rows) (now roots) definitions ds) × (definitions ≤ 1024) ⌝ }
     ensures { λ r. ⌜ CycleAs (now (rows .entry)) (now (roots .entry)) names nodes definitions (now (ends .exit)) r ⌝ }
 {
     let circle = environment::find_ends(rows, roots, names, nodes, definitions, ends);
@@ -41,7 +41,7 @@ fn check_ends(
     roots: &[u16],
     ends: &mut [u32],
 ) -> Verdict
-    requires { ⌜ Admitted (now book) c × Walked (definitionsPart (now book)) (nodesPart (now book)) (c .names) (c .nodes) from to (now roots) × (now ends ≡ blankTable) ⌝ }
+    requires { ⌜ Admitted (now book) c × Walked (definitionsPart (now book)) (nodesPart (now book)) (c .names) (c .nodes) from to (now roots) × (now ends ≡ zeroTable) ⌝ }
     ensures { λ r. ⌜ EnteredAs (definitionsPart (now (book .entry))) (nodesPart (now (book .entry))) (c .names) (c .nodes) from to r (now (roots .entry)) (now (ends .exit)) ⌝ }
 {
     let rows = c.nodes(book);
@@ -65,7 +65,7 @@ fn check_entered(
     roots: &[u16],
     ends: &mut [u32],
 ) -> Verdict
-    requires { ⌜ Admitted (now book) c × Entered (definitionsPart (now book)) (nodesPart (now book)) (c .names) (c .nodes) from to (now roots) × (now ends ≡ blankTable) ⌝ }
+    requires { ⌜ Admitted (now book) c × Entered (definitionsPart (now book)) (nodesPart (now book)) (c .names) (c .nodes) from to (now roots) × (now ends ≡ zeroTable) ⌝ }
     ensures { λ r. ⌜ EnteredAs (definitionsPart (now (book .entry))) (nodesPart (now (book .entry))) (c .names) (c .nodes) from to r (now (roots .entry)) (now (ends .exit)) ⌝ }
 {
     let rows = c.nodes(book);
@@ -86,7 +86,7 @@ pub(crate) fn check_decs(
     roots: &mut [u16],
     ends: &mut [u32],
 ) -> Verdict
-    requires { ⌜ Admitted (now book) c × (from ≤ to) × (to ≤ c .definitions) × (now roots ≡ blankTable) × (now ends ≡ blankTable) ⌝ }
+    requires { ⌜ Admitted (now book) c × (from ≤ to) × (to ≤ c .definitions) × (now roots ≡ blankTable) × (now ends ≡ zeroTable) ⌝ }
     ensures { λ r. ⌜ DecsAs (definitionsPart (now (book .entry))) (nodesPart (now (book .entry))) (c .names) (c .nodes) from to r (now (roots .exit)) (now (ends .exit)) ⌝ }
 {
     let twice = environment::enter(c.definitions(book), c.names, c.nodes, from, to, roots);

@@ -2,7 +2,7 @@
 // hands on is a passed book: its contents, how many definitions are not the init file's, the interface of its actor, and two lent tables.
 ghost use mathlib.Core.Path.{_≡_};
 ghost use Rattle.book.specs.Reading.{Admitted};
-ghost use Rattle.book.specs.Tables.{blankTable};
+ghost use Rattle.book.specs.Tables.{blankTable, zeroTable};
 ghost use Rattle.syntax.specs.Files.{FilesPassed};
 ghost use Rattle.typing.specs.Passing.{DecsPassed, foundNone, ActorFoundAs, FoundAs};
 use book::kinds::Contents;
@@ -74,7 +74,7 @@ fn check_resolved(
 // The definitions that are not the init file's, of a book whose imports passed; and its actor. A refusal leaves both tables with nothing, as
 // they were lent.
 fn check_files(book: &[u8], c: Contents, files: Files, roots: &mut [u16], ends: &mut [u32]) -> Found
-    requires { ⌜ ((a : Admitted (now book) c) × FilesPassed a files × (now roots ≡ blankTable) × (now ends ≡ blankTable)) ⌝ }
+    requires { ⌜ ((a : Admitted (now book) c) × FilesPassed a files × (now roots ≡ blankTable) × (now ends ≡ zeroTable)) ⌝ }
     ensures { λ r. ⌜ ((a : Admitted (now (book .entry)) c) → FilesPassed a files → FoundAs a (now (roots .exit)) (now (ends .exit)) r) ⌝ }
 {
     let main = syntax::files::main_definitions(c.definitions(book), c.definitions, files.init);
@@ -94,7 +94,7 @@ fn check_files(book: &[u8], c: Contents, files: Files, roots: &mut [u16], ends: 
 
 // The check of an admitted book, into tables that have nothing: refusals 2 to 10 and 12 to 14, the first in the order of the check.
 pub fn check_prog(book: &[u8], c: Contents, roots: &mut [u16], ends: &mut [u32]) -> Found
-    requires { ⌜ Admitted (now book) c × (now roots ≡ blankTable) × (now ends ≡ blankTable) ⌝ }
+    requires { ⌜ Admitted (now book) c × (now roots ≡ blankTable) × (now ends ≡ zeroTable) ⌝ }
     ensures { λ r. ⌜ ((a : Admitted (now (book .entry)) c) → FoundAs a (now (roots .exit)) (now (ends .exit)) r) ⌝ }
 {
     let files = syntax::files::read_files(book, c);

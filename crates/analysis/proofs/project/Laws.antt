@@ -27,7 +27,7 @@ use Rattle.refusals.specs.declared.Refusal.the-variants.{Absent, Short}
 use Rattle.judgement.specs.Aliases.{aliasEnd, methodsAt}
 use Rattle.judgement.specs.Actor.{belowClass}
 use Rattle.judgement.specs.Check.{member}
-use Rattle.book.specs.Tables.{blankTable}
+use Rattle.book.specs.Tables.{blankTable, zeroTable}
 use Rattle.environment.specs.Trees.{Methods, AllTrees}
 use Rattle.syntax.specs.Interfaces.{methodsIn, InterfaceAs}
 use Rattle.environment.proofs.Trees.{opened, ends-inside, one-at-least, row-within, method-label, rest-methods, kids-methods}
@@ -280,7 +280,7 @@ module _ {ns services : List ℕ} {count places : ℕ} {v : Underway} {k : ℕ} 
       pub service-methods : (roots ends′ : List ℕ) × Methods ns roots ends′ (node + 1) (node + r .size)
       service-methods =
           let b = untabled (y .all) in
-          (blankTable, blankTable, subst (λ (z : Row). Methods ns blankTable blankTable (node + 1) (node + z .size)) (sym is) (kids-methods (here-trees b service-inside) (here-some b service-inside) (y .service k h .1)))
+          (blankTable, zeroTable, subst (λ (z : Row). Methods ns blankTable zeroTable (node + 1) (node + z .size)) (sym is) (kids-methods (here-trees b service-inside) (here-some b service-inside) (y .service k h .1)))
 
       pub service-room : AskedBy (v .left) → places ≤ length (v .out) → Room places (node + r .size - (node + 1)) w
       service-room a q = record {

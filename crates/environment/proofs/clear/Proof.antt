@@ -1,18 +1,19 @@
 -- `clear` meets its contract. Assumes nothing.
 use Prim.Native.Nat.{_-_}
 use native.Mathlib.Omega.{arith}
+use Rattle.book.specs.Tables.{blankTable}
 use Rattle.environment.proofs.BlankTable.{ClearLeft, clear-start, clear-end, clear-on}
 use Rattle.environment.proofs.clear.Statement.{statement}
 use Rattle.environment.proofs.clear.Tie as tie
 
 abbrev Inv-loop : tie.InvT-loop
-Inv-loop table₀ n₀ table n = ClearLeft table n
+Inv-loop table₀ n₀ table n = ClearLeft 65535 table n
 
 abbrev μ-loop : tie.MeasureT-loop
 μ-loop table₀ n₀ table n = 1024 - n
 
 loop-holds : tie.Need-loop-holds Inv-loop μ-loop
-loop-holds c = clear-start _ (c .pre)
+loop-holds c = clear-start 65535 _ (c .pre)
 
 mul-table : tie.Need-mul-table Inv-loop μ-loop
 mul-table c = omega (arith, c .loop-test .taken)
@@ -33,6 +34,7 @@ same-length : tie.Need-same-length Inv-loop μ-loop
 same-length c = omega (arith, c .before .loop .inv .long, c .before .before .pre)
 
 returns : tie.Need-returns Inv-loop μ-loop
+unfolding blankTable
 returns c = clear-end (c .before .loop .inv) (c .loop-test .left)
 
 pub clear-spec : {M : Type 1} → statement M

@@ -1,8 +1,5 @@
 -- `end_of` meets its contract. Assumes nothing.
-use mathlib.Core.Path.{ap, _∙_}
-use Prim.Native.Nat.{ℕ, _/_, _%_}
 use native.Mathlib.Omega.{arith}
-use Rattle.environment.proofs.Links.{getD-within}
 use Rattle.environment.proofs.ChainEnds.{end-other, end-named, crossed-other, crossed-named, served-within, served-small, served-named, reached}
 use borrow.Author.Needs.{needs}
 use Rattle.environment.proofs.end_of.Statement.{statement}
@@ -29,16 +26,17 @@ shared-slice-read-e c = served-named (c .before .before .before .before .before 
 cast-t12 : tie.Need-cast-t12
 cast-t12 c = search needs
 
-cast-t14 : tie.Need-cast-t14
-cast-t14 c = omega (arith, c .shared-slice-known3 .given (c .before .before .before .before .at .result .value))
+sub-t13 : tie.Need-sub-t13
+sub-t13 c = omega arith
+
+cast-t15 : tie.Need-cast-t15
+cast-t15 c = omega (arith, c .shared-slice-known3 .given (c .before .before .before .before .at .result .value))
 
 returns-2 : tie.Need-returns-2
 returns-2 c =
-    let a = c .before .before .before .before .before .before .before .args in
-    let w = getD-within (a .ends .now) _ 0 65535 (served-named (c .before .before .before .before .before .before .before .pre) _ (c .before .before .before .before .at .ensures) (c .before .before .if1 .left)) in
     reached
-    (ap (λ (e : ℕ). e % 65536) w ∙ end-named _ _ _ _ (c .before .before .before .before .at .ensures) (c .before .before .if1 .left))
-    (ap (λ (e : ℕ). e / 65536) w ∙ crossed-named _ _ _ _ (c .before .before .before .before .at .ensures) (c .before .before .if1 .left))
+    (end-named _ _ _ _ (c .before .before .before .before .at .ensures) (c .before .before .if1 .left))
+    (crossed-named _ _ _ _ (c .before .before .before .before .at .ensures) (c .before .before .if1 .left))
 
 pub end-of-spec : {M : Type 1} → statement M
 end-of-spec =
@@ -51,5 +49,6 @@ end-of-spec =
     mul-e
     shared-slice-read-e
     cast-t12
-    cast-t14
+    sub-t13
+    cast-t15
     returns-2)

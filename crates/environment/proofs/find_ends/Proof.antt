@@ -3,7 +3,7 @@ use Prim.Native.Nat.{_-_}
 use mathlib.Core.Path.{sym, ap, _∙_}
 use native.Mathlib.Omega.{arith}
 use lib.ListN.{length}
-use Rattle.book.proofs.Blank.{blank-length}
+use Rattle.book.proofs.Blank.{zero-length}
 use Rattle.environment.proofs.Ends.{EndsLeft, ends-start, ends-end, ends-circle, ends-on}
 use Rattle.environment.proofs.find_ends.Statement.{statement}
 use Rattle.environment.proofs.find_ends.Tie as tie
@@ -58,7 +58,7 @@ loop-again : tie.Need-loop-again Inv-loop μ-loop
 loop-again c = ends-on ((entry-after-in-loop (c .before .before .before .before .before .before .before)) .pre .0 .fewNames) (c .before .before .before .before .before .before .before .before .loop .inv) (c .before .before .before .before .before .before .before .loop-test .taken) _ (c .before .before .before .before .before .follow .ensures) (c .before .before .before .before .if1 .left) _ (c .before .before .note .ensures)
 
 same-length-2 : tie.Need-same-length-2 Inv-loop μ-loop
-same-length-2 c = c .before .loop .inv .table .long ∙ sym (ap length (c .before .before .before .before .before .before .before .before .before .pre .2) ∙ blank-length)
+same-length-2 c = c .before .loop .inv .table .long ∙ sym (ap length (c .before .before .before .before .before .before .before .before .before .pre .2) ∙ zero-length)
 
 returns-2 : tie.Need-returns-2 Inv-loop μ-loop
 returns-2 c = ends-end (c .before .before .before .before .before .before .before .before .before .pre .0 .fewNames) (c .before .loop .inv) (c .loop-test .left)

@@ -53,6 +53,9 @@ cast-at c = omega (arith, c .shared-slice-known5 .given (c .before .before .befo
 at-requires : tie.Need-at-requires Inv-loop μ-loop
 at-requires c κs = root-within (c .before .before .before .before .before .before .before .before .pre .0) (c .before .before .before .before .before .before .before .before .pre .1) (c .before .before .before .before .loop .inv .inside) (open-bound (c .before .before .before .before .before .before .before .before .pre .0) (c .before .before .before .before .loop .inv .inside) (c .before .before .before .before .before .before .before .before .pre .2) (c .before .before .if1 .left))
 
+sub-result : tie.Need-sub-result Inv-loop μ-loop
+sub-result c = omega (arith, c .before .before .before .shared-slice-known5 .given (c .before .before .before .before .before .before .before .loop .m))
+
 cast-result : tie.Need-cast-result Inv-loop μ-loop
 cast-result c = omega (arith, c .before .before .before .shared-slice-known5 .given (c .before .before .before .before .before .before .before .loop .m))
 
@@ -92,6 +95,7 @@ follow-spec =
     shared-slice-read-root
     cast-at
     at-requires
+    sub-result
     cast-result
     add-result-2
     returns-3

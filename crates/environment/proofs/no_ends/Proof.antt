@@ -1,11 +1,11 @@
 -- `no_ends` meets its contract. Assumes nothing.
 use mathlib.Core.Path.{refl}
-use Rattle.book.specs.Tables.{blankTable}
+use Rattle.book.specs.Tables.{zeroTable}
 use Rattle.environment.proofs.no_ends.Statement.{statement}
 use Rattle.environment.proofs.no_ends.Tie as tie
 
 returns : tie.Need-returns
-unfolding blankTable
+unfolding zeroTable
 returns c = refl
 
 pub no-ends-spec : {M : Type 1} → statement M

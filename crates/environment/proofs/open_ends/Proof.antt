@@ -3,7 +3,7 @@ use Prim.Native.Nat.{_-_}
 use mathlib.Core.Path.{sym, ap, _∙_}
 use native.Mathlib.Omega.{arith}
 use lib.ListN.{length}
-use Rattle.book.proofs.Blank.{blank-length}
+use Rattle.book.proofs.Blank.{zero-length}
 use Rattle.environment.proofs.Ends.{Begun, begun-start, begun-end, begun-on}
 use Rattle.environment.proofs.open_ends.Statement.{statement}
 use Rattle.environment.proofs.open_ends.Tie as tie
@@ -42,7 +42,7 @@ loop-again : tie.Need-loop-again Inv-loop μ-loop
 loop-again c = begun-on (c .before .before .before .before .before .before .pre .0) (c .before .before .before .before .before .before .pre .1) (c .before .before .before .loop .inv) (c .before .before .loop-test .taken) _ (c .end-before .ensures)
 
 same-length : tie.Need-same-length Inv-loop μ-loop
-same-length c = c .before .loop .inv .table .long ∙ sym (ap length (c .before .before .before .before .pre .2) ∙ blank-length)
+same-length c = c .before .loop .inv .table .long ∙ sym (ap length (c .before .before .before .before .pre .2) ∙ zero-length)
 
 returns : tie.Need-returns Inv-loop μ-loop
 returns c = begun-end (c .before .before .before .before .pre .0) (c .before .before .before .before .pre .1) (c .before .loop .inv) (c .loop-test .left)

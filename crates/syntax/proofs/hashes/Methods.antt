@@ -29,7 +29,7 @@ use Rattle.judgement.proofs.Lookup.{member-says}
 use Rattle.book.specs.Tables.{blankTable, zeroTable, HashesAgree}
 use Rattle.book.proofs.Blank.{zero-length}
 use Rattle.environment.specs.Trees.{Methods, AllTrees}
-use Rattle.environment.proofs.Trees.{opened, method-label, kids-methods, rest-methods, blank-nodes, blank-ends, node-trees, node-some}
+use Rattle.environment.proofs.Trees.{opened, method-label, kids-methods, rest-methods, blank-nodes, no-ends, node-trees, node-some}
 use Rattle.syntax.specs.declared.interface.Interface.{Interface}
 use Rattle.syntax.specs.Interfaces.{IsService, methodsIn, InterfaceNodes}
 use Rattle.syntax.specs.Hashed.{ServicesIn}
@@ -44,10 +44,10 @@ module _ {ns : List ℕ} {names nodes : ℕ} (a : AllTrees ns names nodes) where
   pub service-ends : (n : ℕ) → IsService ns nodes n → n + rowAt ns n .size ≤ nodes
   service-ends n s = a .nodes .tree n (s .0) .ends
 
-  pub service-methods : (n : ℕ) → IsService ns nodes n → Methods ns blankTable blankTable (n + 1) (n + rowAt ns n .size)
+  pub service-methods : (n : ℕ) → IsService ns nodes n → Methods ns blankTable zeroTable (n + 1) (n + rowAt ns n .size)
   service-methods n s =
       let z = blank-nodes nodes blankTable refl in
-      let e = blank-ends nodes blankTable refl in
+      let e = no-ends nodes zeroTable refl in
       kids-methods (node-trees a z e (s .0)) (node-some a z e (s .0)) (s .1)
 
   service-kids : (n : ℕ) → IsService ns nodes n → kidsOf (treeAt ns n) ≡ siblings ns (n + 1) (n + rowAt ns n .size)
@@ -151,7 +151,7 @@ module _ {hs : List ℕ} (size : length hs ≡ 1024) {all left : Forest Node} {l
 
 -- ---- The methods of a service, from node i on, and then other methods
 pub record ServiceLeft (ns hs : List ℕ) (all next : Forest Node) (list last link : List ℕ) (k i until : ℕ) : Type 0 where
-  pub methods : Methods ns blankTable blankTable i until
+  pub methods : Methods ns blankTable zeroTable i until
   pub left : HashesLeft hs all (beside (siblings ns i until) next) list last link k
 
 -- ---- The loop over services

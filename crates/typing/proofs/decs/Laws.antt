@@ -18,7 +18,7 @@ use Rattle.judgement.specs.Environment.{findType}
 use Rattle.judgement.specs.Check.{onceVerdict, bodiesVerdict, eachName, circleVerdict, bodiesFit, decsVerdict}
 use Rattle.book.specs.declared.kinds.Contents.{Contents}
 use Rattle.book.specs.Reading.{Admitted}
-use Rattle.book.specs.Tables.{blankTable}
+use Rattle.book.specs.Tables.{blankTable, zeroTable}
 use Rattle.book.proofs.Opened.{names-count, definitions-count}
 use Rattle.environment.specs.Tables.{Roots, Binds, Tabled, EndNodes, DefinesAs, AliasEndsAs, definitionsIn}
 use Rattle.environment.proofs.Definitions.{defined-length, defined-binds, defined-once}
@@ -42,7 +42,7 @@ bodies-of {bs} a l h =
 
 -- a refusal, wherever it comes from
 refuse : {es ns : List ℕ} {names count from to : ℕ} {v : Verdict} → v ≡ decsVerdict names (definitionsIn ns es from to) → isPassed v ≡ false →
-    {roots ends′ : List ℕ} → ends′ ≡ blankTable → EnteredAs es ns names count from to v roots ends′
+    {roots ends′ : List ℕ} → ends′ ≡ zeroTable → EnteredAs es ns names count from to v roots ends′
 refuse {v = v} is f z = record { verdict = is; checked = λ e. never e; chains = λ e. never e; beyond = λ e. never e; left = λ g. z }
   where
     never : {A : Type 0} → v ≡ Passed → A
@@ -55,7 +55,7 @@ module _ {es ns : List ℕ} {names count from to : ℕ} (x : Bodies es ns names 
   once-is : onceVerdict [] ds ≡ cond (eqb twice 65535) Passed (Refused (refusal.Refusal.Twice twice))
   once-is = defined-once ns (x .entries) d (x .nodes .fewNames)
 
-  pub decs-twice : {ends′ : List ℕ} → ends′ ≡ blankTable → (twice ≡ 65535 → ⊥) → DecsAs es ns names count from to (Refused (refusal.Refusal.Twice twice)) roots ends′
+  pub decs-twice : {ends′ : List ℕ} → ends′ ≡ zeroTable → (twice ≡ 65535 → ⊥) → DecsAs es ns names count from to (Refused (refusal.Refusal.Twice twice)) roots ends′
   unfolding decsVerdict
   decs-twice z h = record { entered = refuse (sym (rw once-is (rw (ne-eqb twice 65535 h) refl))) refl z; left = λ f. d .left h }
 
@@ -87,7 +87,7 @@ module _ {es ns : List ℕ} {names count from to : ℕ} {roots : List ℕ} (e : 
   env-pre ends′ = record { binds = binds; func = λ e. absurd (true≢false e) }
 
   module _ {v : Verdict} (q : v ≡ bodiesVerdict (definitionsIn ns es from to) (definitionsIn ns es from to)) where
-    pub decs-body : {ends′ : List ℕ} → ends′ ≡ blankTable → isPassed v ≡ false → EnteredAs es ns names count from to v roots ends′
+    pub decs-body : {ends′ : List ℕ} → ends′ ≡ zeroTable → isPassed v ≡ false → EnteredAs es ns names count from to v roots ends′
     unfolding decsVerdict
     decs-body z f = refuse (sym (rw once-passed (rw (← q) (and-stops v _ f)))) f z
 
@@ -142,7 +142,7 @@ module _ {es ns : List ℕ} {names count from to : ℕ} {roots : List ℕ} (w : 
       unfolding decsVerdict
       said t e = rw (once-passed n, w .walked, lowest) (and-on v _ p ∙ ap (λ (z : Bool). unless z refusal.Refusal.NoFunction) (sym fit-is ∙ e))
 
-      pub decs-unfit : b ≡ false → {after : List ℕ} → after ≡ blankTable → EnteredAs es ns names count from to (Refused refusal.Refusal.NoFunction) roots after
+      pub decs-unfit : b ≡ false → {after : List ℕ} → after ≡ zeroTable → EnteredAs es ns names count from to (Refused refusal.Refusal.NoFunction) roots after
       decs-unfit e z = refuse (sym (said false e)) refl z
 
       pub decs-passed : b ≡ true → EnteredAs es ns names count from to Passed roots ends′

@@ -22,7 +22,7 @@ use Rattle.refusals.specs.Verdict.{isPassed, andThen}
 use Rattle.refusals.proofs.Verdicts.{passed-is, both-pass, and-on, and-stops, unless-passed}
 use Rattle.book.specs.declared.kinds.Contents.{Contents}
 use Rattle.book.specs.Reading.{Admitted}
-use Rattle.book.specs.Tables.{blankTable}
+use Rattle.book.specs.Tables.{blankTable, zeroTable}
 use Rattle.book.proofs.Opened.{names-count, nodes-count, definitions-count, files-count}
 use Rattle.judgement.specs.Environment.{mainDefinitions, kidsOf}
 use Rattle.judgement.specs.Aliases.{asService}
@@ -78,7 +78,7 @@ module _ {bs : List ℕ} {c : Contents} (a : Admitted bs c) where
     pub found-passed : isPassed (r .verdict) ≡ true → FoundAs a roots ends′ r
     found-passed p = record { found = x; roots-left = λ f. absurd (false≢true (sym f ∙ p)); ends-left = λ f. absurd (false≢true (sym f ∙ p)) }
 
-    pub found-cleared : isPassed (r .verdict) ≡ false → {roots″ ends″ : List ℕ} → roots″ ≡ blankTable → ends″ ≡ blankTable → FoundAs a roots″ ends″ r
+    pub found-cleared : isPassed (r .verdict) ≡ false → {roots″ ends″ : List ℕ} → roots″ ≡ blankTable → ends″ ≡ zeroTable → FoundAs a roots″ ends″ r
     found-cleared f y z =
         record {
           found = record { verdict = x .verdict; passed = λ q. absurd (false≢true (sym f ∙ ap isPassed q)); refused = x .refused };
@@ -87,12 +87,12 @@ module _ {bs : List ℕ} {c : Contents} (a : Admitted bs c) where
         }
 
   -- a refusal before anything is in the tables
-  stop-blank : {v : Verdict} → v ≡ check (a .book) → isPassed v ≡ false → {roots ends′ : List ℕ} → roots ≡ blankTable → ends′ ≡ blankTable → {z : Found} → z ≡ foundNone c v → FoundAs a roots ends′ z
+  stop-blank : {v : Verdict} → v ≡ check (a .book) → isPassed v ≡ false → {roots ends′ : List ℕ} → roots ≡ blankTable → ends′ ≡ zeroTable → {z : Found} → z ≡ foundNone c v → FoundAs a roots ends′ z
   stop-blank is f x y e = record { found = stop is f e; roots-left = λ g. x; ends-left = λ g. y }
 
   -- ---- 12
   module _ {r : Files} (x : FilesAs a r) where
-    pub imports-refused : isPassed (r .imports .verdict) ≡ false → {roots ends′ : List ℕ} → roots ≡ blankTable → ends′ ≡ blankTable →
+    pub imports-refused : isPassed (r .imports .verdict) ≡ false → {roots ends′ : List ℕ} → roots ≡ blankTable → ends′ ≡ zeroTable →
         {z : Found} → z ≡ foundNone c (r .imports .verdict) → FoundAs a roots ends′ z
     unfolding check
     imports-refused f = stop-blank (sym (rw (← x .verdict) (and-stops (r .imports .verdict) _ f))) f

@@ -1,7 +1,7 @@
 -- `check_entered` meets its contract. Assumes nothing.
 use mathlib.Core.Path.{sym, _∙_}
 use borrow.Author.Tests.{not-true, not-false}
-use Rattle.environment.proofs.Trees.{blank-ends}
+use Rattle.environment.proofs.Trees.{no-ends}
 use Rattle.typing.proofs.decs.Laws.{bodies-here, env-pre, decs-body, walked}
 use borrow.Author.Needs.{needs}
 use Rattle.typing.proofs.decs.check_entered.Statement.{statement}
@@ -18,7 +18,7 @@ definitions-requires : tie.Need-definitions-requires
 definitions-requires c κs = c .before .before .before .before .pre .0
 
 check-defs-requires : tie.Need-check-defs-requires
-check-defs-requires c κs = let p = c .before .before .before .before .before .before .pre in rw (c .before .definitions .ensures, c .before .before .nodes .ensures) (bodies-here (p .1) (blank-ends _ _ (p .2)), (_, env-pre (p .1) _))
+check-defs-requires c κs = let p = c .before .before .before .before .before .before .pre in rw (c .before .definitions .ensures, c .before .before .nodes .ensures) (bodies-here (p .1) (no-ends _ _ (p .2)), (_, env-pre (p .1) _))
 
 passed-requires : tie.Need-passed-requires
 passed-requires c κs = search needs
