@@ -391,6 +391,12 @@ fn ask_outside(source: &[u8], book: &[u8], limits: Limits, tally: &mut [u32]) {
         Asked::HIGHEST,
         tally,
     );
+    project_outside(source, book, limits, tally);
+}
+
+// The methods projected for numbers that are no name's, and for none.
+fn project_outside(source: &[u8], book: &[u8], limits: Limits, tally: &mut [u32]) {
+    let outside = [Asked::OUTSIDE];
     crate::asking::ask(
         source,
         b"project-outside",

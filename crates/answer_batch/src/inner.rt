@@ -77,7 +77,9 @@ fn print_chain(book: &[u8], c: Contents, roots: &[u16], d: usize)
         c.definitions,
         e.root as usize,
     );
-    print_end(book, found.end, found.crossed);
+    let end = found.end;
+    let crossed = found.crossed;
+    print_end(book, end, crossed);
 }
 
 fn print_end(book: &[u8], end: End, crossed: usize) {

@@ -18,7 +18,7 @@ use book::read::Entry;
 use book::read::Node;
 use format::Limits;
 
-// What a table has for a name: a node, or one of these.
+// What a table of roots has for a name: a node, or NONE.
 pub struct Table {
     pub entry: u16,
 }

@@ -30,13 +30,7 @@ fn last_crossed(rows: &[u8], roots: &[u16], n: u16, crossed: u16) -> u16
 }
 
 // Of a book that passed.
-pub fn alias_passed(
-    book: &[u8],
-    p: Passed,
-    roots: &[u16],
-    ends: &[u32],
-    name: u16,
-) -> AliasAnswer
+pub fn alias_passed(book: &[u8], p: Passed, roots: &[u16], ends: &[u32], name: u16) -> AliasAnswer
     requires { ⌜ PassedBook (now book) (now roots) (now ends) p ⌝ }
     ensures { λ r. ⌜ ((b : PassedBook (now (book .entry)) (now (roots .entry)) (now (ends .entry)) p) → r ≡ aliasAnswer (alias (b .admitted .book) name)) ⌝ }
 {

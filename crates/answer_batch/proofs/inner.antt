@@ -1,0 +1,2 @@
+-- What the lines of inner functions cite.
+mod Laws
