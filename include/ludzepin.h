@@ -85,8 +85,8 @@ uint32_t ludzepin_project(const uint8_t *book, size_t bytes, uint32_t names, uin
 uint64_t ludzepin_uses(const uint8_t *book, size_t bytes, uint32_t names, uint32_t nodes, uint32_t definitions,
                        uint16_t name, uint16_t *out, size_t numbers);
 
-/* The number of names that the alias chain from a name crosses, that name counted, and the last of them, whose definition is no name; 1 and the
- * name itself where its own is none. Or a refusal (those of the check; 3, the name has no definition). No actor is needed. */
+/* The number of names that the alias chain from a name crosses, that name counted, and the last of them, whose definition is no name: 1 and the
+ * name itself where that is so of its own. Or a refusal (those of the check; 3, the name has no definition). No actor is needed. */
 uint64_t ludzepin_alias(const uint8_t *book, size_t bytes, uint32_t names, uint32_t nodes, uint32_t definitions, uint16_t name);
 
 /* The refusal in an answer, 0 if it is none. */

@@ -194,7 +194,7 @@ def chain(env, tree):
 
 
 def alias_end(env, tree):
-    """The type that a chain of names ends in, None where it runs into a circle."""
+    """The type that a chain of names, all of them defined, ends in, None where it runs into a circle."""
     return chain(env, tree)[1]
 
 

@@ -71,6 +71,8 @@ def whose(question, theirs):
         return "the oracle's own, 16"
     if word in ("marks-outside", "marks-highest") and theirs["marks"].startswith("given"):
         return "the oracle's own, 3 for a number outside"
+    if word in ("alias", *answers.INNER) and outcome.startswith("given"):
+        return "the oracle's own, the names crossed"
     return "the Rust's"
 
 

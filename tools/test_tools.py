@@ -1127,7 +1127,7 @@ class Replay(unittest.TestCase):
             return found, {which: sum(words.values()) for which, words in told.items()}
 
         self.assertEqual(joined(rust), (right, {
-            "the Rust's": 46, "the oracle's own, 16": 6, "the oracle's own, 3 for a number outside": 2,
+            "the Rust's": 41, "the oracle's own, the names crossed": 5, "the oracle's own, 16": 6, "the oracle's own, 3 for a number outside": 2,
             "the oracle's own, its reader of books": 2, "the oracle's own, layout broken": 14}))
         silent = [line if not line.startswith("a list ") else "a list unanswered ring\n" for line in rust if " list-short" not in line]
         self.assertEqual(joined(silent)[0], right)
@@ -1159,7 +1159,7 @@ class Replay(unittest.TestCase):
         found = list(replay.printed(replay.joined(data, "".join(line for line in right if not line.startswith("tally ")), told)))
         self.assertEqual(found, right)
         self.assertEqual({which: sum(words.values()) for which, words in told.items()}, {
-            "the Rust's": 92, "the oracle's own, 16": 12, "the oracle's own, 3 for a number outside": 4,
+            "the Rust's": 82, "the oracle's own, the names crossed": 10, "the oracle's own, 16": 12, "the oracle's own, 3 for a number outside": 4,
             "the oracle's own, its reader of books": 6, "the oracle's own, 24": 48})
 
 

@@ -181,7 +181,7 @@ impl Said<'_> {
         ours::alias(self.bytes, limits, number as u16)
     }
 
-    /// Numbers outside the book's table other than 1,024, which the lines have; marks and projection have 65,535 as well.
+    /// Numbers outside the book's table other than 1,024, which the lines have; marks, alias chains and projection have 65,535 as well.
     fn outside(&self) -> Vec<u16> {
         let names = self.book.map_or(0, |book| book.names.len());
         [names, NO_NAME].into_iter().filter(|number| *number != NAMES).map(|number| number as u16).collect()

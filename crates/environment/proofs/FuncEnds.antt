@@ -20,7 +20,7 @@ use Rattle.format.proofs.Stored.{tree-opens}
 use Rattle.judgement.specs.Environment.{findType, other, head, isFuncKind, isServKind}
 use Rattle.judgement.specs.Aliases.{End, unbound, circle, ends, chain, aliasEnd, rootPasses, asFunc, asService}
 use Rattle.environment.specs.Tables.{Nodes, Binds, nameEnd, endIn, EndNodes, EndAt, Chains, AliasEndsAs, Ended, endIs}
-use Rattle.environment.proofs.Links.{lastOf, chain-other, head-var, head-other}
+use Rattle.environment.proofs.Links.{lastEnd, chain-other, head-var, head-other}
 use Rattle.environment.proofs.Names.{to-name}
 use Rattle.environment.proofs.EndKinds.{is-other, is-none, is-end}
 
@@ -28,7 +28,7 @@ use Rattle.environment.proofs.EndKinds.{is-other, is-none, is-end}
 module _ (ds : List Definition) where
   pub stays : (t : Forest Node) → head t ≡ other → aliasEnd ds t ≡ ends t
   unfolding aliasEnd chain
-  stays t h = ap lastOf (chain-other ds t (length ds) h)
+  stays t h = ap lastEnd (chain-other ds t (length ds) h)
 
 -- of a node
 module _ {ns : List ℕ} {names count : ℕ} (x : Nodes ns names count) (ds : List Definition) {n : ℕ} (h : n < count) where

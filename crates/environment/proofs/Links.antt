@@ -75,8 +75,8 @@ unfolding foundAt
 found-some ns root h = rw (ne-eqb root 65535 h)
 
 -- ---- the loop: what is left of the chain ends where all of it does, and crosses the names that are not crossed yet
-abbrev pub lastOf : Chain → End
-lastOf c = c .last
+abbrev pub lastEnd : Chain → End
+lastEnd c = c .last
 
 abbrev pub lengthOf : Chain → ℕ
 lengthOf c = length (c .crossed)
@@ -84,7 +84,7 @@ lengthOf c = length (c .crossed)
 pub record ChainLeft (ns roots : List ℕ) (nodes left node at k : ℕ) : Type 0 where
   pub inside : at < nodes
   pub fewer : k ≤ left
-  pub same : (ds : List Definition) → Binds ns roots ds → lastOf (chainFrom k ds (treeAt ns at)) ≡ lastOf (chainFrom left ds (treeAt ns node))
+  pub same : (ds : List Definition) → Binds ns roots ds → lastEnd (chainFrom k ds (treeAt ns at)) ≡ lastEnd (chainFrom left ds (treeAt ns node))
   pub crossed : (ds : List Definition) → Binds ns roots ds → left - k + lengthOf (chainFrom k ds (treeAt ns at)) ≡ lengthOf (chainFrom left ds (treeAt ns node))
 
 pub record AliasAs (ns roots : List ℕ) (nodes left node : ℕ) (a : Alias) : Type 0 where
@@ -112,7 +112,7 @@ module _ {ns roots : List ℕ} {names nodes left node at k : ℕ} (x : Nodes ns 
   stopped e c a j w i =
       record {
         within = w;
-        is = λ ds b. i ∙ sym (ap lastOf (c ds b)) ∙ l .same ds b;
+        is = λ ds b. i ∙ sym (ap lastEnd (c ds b)) ∙ l .same ds b;
         crossed-is = λ ds b. let z : lengthOf (chainFrom k ds (treeAt ns at)) ≡ 0 = ap lengthOf (c ds b) in omega (arith, l .crossed ds b);
         few = omega arith;
       }
@@ -147,7 +147,7 @@ module _ {ns roots : List ℕ} {names nodes left node at k : ℕ} (x : Nodes ns 
             record {
               inside = y .node (r .value) e;
               fewer = omega (arith, l .fewer);
-              same = λ ds b. sym (ap lastOf (on ds b)) ∙ l .same ds b;
+              same = λ ds b. sym (ap lastEnd (on ds b)) ∙ l .same ds b;
               crossed = λ ds b. omega (arith, l .fewer, ap lengthOf (on ds b), l .crossed ds b);
             }
           where

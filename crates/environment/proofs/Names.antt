@@ -7,7 +7,7 @@ use mathlib.Core.Path.{_≡_, refl, sym, ap, subst, _∙_}
 use mathlib.Core.Logic.{⊎-elim, inl, inr}
 use mathlib.Core.Bool.{cond}
 use mathlib.Core.List.{List, [], _∷_}
-use Prim.Native.Nat.{ℕ, zero, suc, _+_, _-_, _*_, _/_, _%_, _≤_, _<_}
+use Prim.Native.Nat.{ℕ, zero, suc, _+_, _-_, _*_, _/_, _≤_, _<_}
 use native.Mathlib.Nat.{le-refl}
 use native.Mathlib.Decide.{ℕ-discrete}
 use native.Mathlib.Omega.{arith}
@@ -22,12 +22,12 @@ use Rattle.format.specs.Encode.{Row}
 use Rattle.format.specs.Layout.{rowAt}
 use Rattle.format.specs.Whole.{Within, treeAt}
 use Rattle.judgement.specs.Environment.{Found, missing, body, findType, named, other, headKind, head}
-use Rattle.judgement.specs.Aliases.{End, unbound, circle, ends, link, chainFrom, chain, aliasEnd, aliasLength, nameType}
+use Rattle.judgement.specs.Aliases.{unbound, circle, ends, link, chainFrom, chain, aliasEnd, aliasLength, nameType}
 use Rattle.judgement.proofs.Lookup.{find-missing}
 use Rattle.judgement.proofs.Chains.{crosses, outcome, run-end}
 use Rattle.judgement.proofs.Lengths.{crossed-other, crossed-missing, crossed-on, crossed-same, crossed-most}
 use Rattle.environment.specs.Tables.{Nodes, Roots, Binds, nameEnd, endOf, EndAt, ChainAt, EndKnown, FollowedAs, Unfinished, NotedAs}
-use Rattle.environment.proofs.Links.{lastOf, chain-other, chain-unbound, chain-circle, chain-on, head-var, head-other, found-none, found-some, getD-within, in-table}
+use Rattle.environment.proofs.Links.{lastEnd, chain-other, chain-unbound, chain-circle, chain-on, head-var, head-other, found-none, found-some, in-table}
 
 pub is-named : (n : ℕ) → head (nameType n) ≡ named n
 unfolding head headKind
@@ -41,8 +41,8 @@ module _ (ds : List Definition) where
   -- ---- a type that is a name
   module _ (t : Forest Node) (n : ℕ) (h : head t ≡ named n) where
     never-on : (u : Forest Node) → findType ds n ≡ body u → aliasEnd ds u ≡ circle → (k : ℕ) → chainFrom k ds t .last ≡ circle
-    never-on u f c zero = ap lastOf (chain-circle ds t n h u f)
-    never-on u f c (suc k) = ap lastOf (chain-on ds t n h u (suc k) f (omega arith)) ∙ never-sooner (suc k - 1) u c
+    never-on u f c zero = ap lastEnd (chain-circle ds t n h u f)
+    never-on u f c (suc k) = ap lastEnd (chain-on ds t n h u (suc k) f (omega arith)) ∙ never-sooner (suc k - 1) u c
 
     goes-on : (u : Forest Node) → findType ds n ≡ body u → aliasEnd ds t ≡ aliasEnd ds u
     unfolding aliasEnd chain
@@ -54,7 +54,7 @@ module _ (ds : List Definition) where
 
     by-found : (f : Found) → findType ds n ≡ f → aliasEnd ds t ≡ nameEnd ds n f
     unfolding nameEnd aliasEnd chain
-    by-found missing f = ap lastOf (chain-unbound ds t n h (length ds) f)
+    by-found missing f = ap lastEnd (chain-unbound ds t n h (length ds) f)
     by-found (body u) f = goes-on u f
 
     pub to-name : aliasEnd ds t ≡ nameEnd ds n (findType ds n)
@@ -74,7 +74,7 @@ module _ (ds : List Definition) where
 
   name-stops : (n : ℕ) (u : Forest Node) → findType ds n ≡ body u → head u ≡ other → nameEnd ds n (findType ds n) ≡ ends u
   unfolding aliasEnd chain
-  name-stops n u f h = name-body n u f ∙ ap lastOf (chain-other ds u (length ds) h)
+  name-stops n u f h = name-body n u f ∙ ap lastEnd (chain-other ds u (length ds) h)
 
   -- ---- how many names are crossed
   unnamed : (n : ℕ) → findType ds n ≡ missing → aliasLength ds (nameType n) ≡ 0
@@ -94,12 +94,12 @@ module _ (ds : List Definition) where
       ap length (crossed-on ds (nameType n) u n (is-named n) f (λ c. e (sym (to-name u m h) ∙ c)))
       ∙ ap (λ (l : List ℕ). suc (length l)) (crossed-same ds u (nameType m) m h (is-named m))
 
-same-chain : (ds : List Definition) (t : Forest Node) (n : ℕ) → head t ≡ named n → (k : ℕ) → lastOf (chainFrom k ds t) ≡ lastOf (chainFrom k ds (nameType n))
+same-chain : (ds : List Definition) (t : Forest Node) (n : ℕ) → head t ≡ named n → (k : ℕ) → lastEnd (chainFrom k ds t) ≡ lastEnd (chainFrom k ds (nameType n))
 unfolding chainFrom link head headKind
 same-chain ds t n h zero = rw h
 same-chain ds t n h (suc k) = rw h
 
-name-end : (ds : List Definition) (n : ℕ) → nameEnd ds n (findType ds n) ≡ lastOf (chainFrom (length ds) ds (nameType n))
+name-end : (ds : List Definition) (n : ℕ) → nameEnd ds n (findType ds n) ≡ lastEnd (chainFrom (length ds) ds (nameType n))
 unfolding aliasEnd chain
 name-end ds n = sym (to-name ds (nameType n) n (is-named n))
 
@@ -108,7 +108,7 @@ pub record Follows (ns roots : List ℕ) (names definitions n m k far : ℕ) : T
   pub inside : m < names
   pub fewer : k ≤ definitions
   pub far-is : far ≡ (definitions - k) * 65536
-  pub fuel : (ds : List Definition) → Binds ns roots ds → lastOf (chainFrom k ds (nameType m)) ≡ lastOf (chainFrom definitions ds (nameType n))
+  pub fuel : (ds : List Definition) → Binds ns roots ds → lastEnd (chainFrom k ds (nameType m)) ≡ lastEnd (chainFrom definitions ds (nameType n))
   pub same : (ds : List Definition) → Binds ns roots ds → nameEnd ds m (findType ds m) ≡ nameEnd ds n (findType ds n)
   pub crossed : (ds : List Definition) → Binds ns roots ds → (nameEnd ds m (findType ds m) ≡ circle → ⊥) →
       aliasLength ds (nameType n) ≡ definitions - k + aliasLength ds (nameType m)
@@ -210,11 +210,11 @@ module _ {ns roots : List ℕ} {names count definitions n m k far : ℕ} (x : No
       (known-same (l .same) q (omega (arith, l .far-is)) (λ ds b c. omega (arith, l .far-is, c .crossed, l .crossed ds b (known-ends c))))
 
   -- the sums are numbers of 32 bits
-  module _ (few : definitions ≤ 1024) where
-    pub far-small : far ≤ 67108864
+  module _ (few : definitions ≤ 512) where
+    pub far-small : far ≤ 33554432
     far-small = omega (arith, l .far-is)
 
-    pub known-small : (ds : List Definition) → Binds ns roots ds → length ds ≡ definitions → (getD ends′ m 0 ≡ 1 → ⊥) → getD ends′ m 0 < 67174400
+    pub known-small : (ds : List Definition) → Binds ns roots ds → length ds ≡ definitions → (getD ends′ m 0 ≡ 1 → ⊥) → getD ends′ m 0 < 33619968
     known-small ds b s h =
         let c = u .known m (l .inside) h .is ds b in
         omega (arith, c .crossed, crossed-most ds (nameType m))
@@ -230,8 +230,8 @@ module _ {ns roots : List ℕ} {names count definitions n m k far : ℕ} (x : No
     follow-never z =
         record {
           never = λ e ds b s.
-              name-end ds n ∙ ap (λ (i : ℕ). lastOf (chainFrom i ds (nameType n))) s ∙ sym (l .fuel ds b) ∙ ap (λ (i : ℕ). lastOf (chainFrom i ds (nameType m))) z
-              ∙ ap lastOf (chain-circle ds (nameType m) m (is-named m) (treeAt ns (getD roots m 0)) (root-body x y (l .inside) some′ ds b));
+              name-end ds n ∙ ap (λ (i : ℕ). lastEnd (chainFrom i ds (nameType n))) s ∙ sym (l .fuel ds b) ∙ ap (λ (i : ℕ). lastEnd (chainFrom i ds (nameType m))) z
+              ∙ ap lastEnd (chain-circle ds (nameType m) m (is-named m) (treeAt ns (getD roots m 0)) (root-body x y (l .inside) some′ ds b));
           known = λ i. absurd (i refl);
         }
 
@@ -250,7 +250,7 @@ module _ {ns roots : List ℕ} {names count definitions n m k far : ℕ} (x : No
             far-is = omega (arith, l .far-is, l .fewer);
             fuel = λ ds b.
                 sym (same-chain ds t (r .value) (next-head x y (l .inside) some′ r is i) (k - 1))
-                ∙ sym (ap lastOf (chain-on ds (nameType m) m (is-named m) t k (root-body x y (l .inside) some′ ds b) (omega arith)))
+                ∙ sym (ap lastEnd (chain-on ds (nameType m) m (is-named m) t k (root-body x y (l .inside) some′ ds b) (omega arith)))
                 ∙ l .fuel ds b;
             same = λ ds b. sym (next-same x y (l .inside) some′ r is i ds b) ∙ l .same ds b;
             crossed = λ ds b e.

@@ -33,7 +33,7 @@ pub type EndByName = [u32; Limits::NAMES];
 
 // What a table of alias ends has for a name: CROSSED for each name crossed, and how far the node is below NONE; or one of the others. So a table
 // that has nothing is 0 throughout, which is made fastest.
-pub struct EndTable {
+struct EndTable {
     pub entry: u32,
 }
 
@@ -51,7 +51,7 @@ impl EndTable {
 pub fn no_ends() -> EndByName
     ensures { λ r. ⌜ r ≡ zeroTable ⌝ }
 {
-    [EndTable::NONE; Limits::NAMES]
+    book::tables::zeros()
 }
 
 // Takes all that a table has out of it.
@@ -187,6 +187,7 @@ fn open_ends(roots: &[u16], names: usize, ends: &mut [u32])
 }
 
 // Follows the chain of a name as far as the first name on it whose end is known, and answers what the table is to have; `OPEN` if it never ends.
+// With at most 512 definitions no sum of CROSSED runs over.
 fn follow(
     rows: &[u8],
     roots: &[u16],
@@ -197,7 +198,7 @@ fn follow(
     n: usize,
 ) -> u32
     requires { ⌜ Nodes (now rows) names nodes × Roots (now roots) nodes ×
-        Unfinished (now rows) (now roots) names nodes (now ends) × (n < names) × ((ds : List Definition) × Tabled (now rows) (now roots) definitions ds) × (definitions ≤ 1024) ⌝ }
+        Unfinished (now rows) (now roots) names nodes (now ends) × (n < names) × ((ds : List Definition) × Tabled (now rows) (now roots) definitions ds) × (definitions ≤ 512) ⌝ }
     ensures { λ r. ⌜ FollowedAs (now (rows .entry)) (now (roots .entry)) nodes definitions n r ⌝ }
 {
     let mut m = n;
@@ -260,7 +261,7 @@ pub fn find_ends(
     definitions: usize,
     ends: &mut [u32],
 ) -> u16
-    requires { ⌜ Nodes (now rows) names nodes × Roots (now roots) nodes × (now ends ≡ zeroTable) × ((ds : List Definition) × Tabled (now rows) (now roots) definitions ds) × (definitions ≤ 1024) ⌝ }
+    requires { ⌜ Nodes (now rows) names nodes × Roots (now roots) nodes × (now ends ≡ zeroTable) × ((ds : List Definition) × Tabled (now rows) (now roots) definitions ds) × (definitions ≤ 512) ⌝ }
     ensures { λ r. ⌜ AliasEndsAs (now (rows .entry)) (now (roots .entry)) names nodes definitions (now (ends .exit)) r ⌝ }
 {
     open_ends(roots, names, ends);

@@ -239,7 +239,7 @@ module _ (ds : List Definition) where
         let p : g .1 .body ≡ u = cc (f, s .is-type) in
         run-over r (subst (GoesOn ds (suc (length ns))) p (g .5))
 
-    never-circle : (t : Forest Node) → NeverEnds ds t → aliasEnd ds t ≡ circle
+    pub never-circle : (t : Forest Node) → NeverEnds ds t → aliasEnd ds t ≡ circle
     unfolding aliasEnd chain
     never-circle t h =
         ⊎-elim (λ (r : Run t (chain ds t .crossed) (aliasEnd ds t)). absurd (run-over r (h (suc (length (chain ds t .crossed)))))) (λ p. p .0) (outcome (length ds) t .either)

@@ -6,11 +6,12 @@
 --     crossed-defined, crossed-most     all have a definition, and there are at most as many as definitions
 --     crosses-ends, crosses-unbound,    what is crossed in each case of the end: the way there, or, where it never ends, as many names as there
 --     crosses-circle                    are definitions
---     leads-across                      a type leads to another exactly if there is a way that ends there
+--     leads-across, comes-across        a type leads to another, or comes to a name, exactly if there is a way there
 --     across-chain, across-lost         where each name is defined once: any such way is the chain
 --     across-only                       so there is only one
+--     crosses-never                     and a chain that never ends crosses as many names as there are definitions
 use mathlib.Core.Path.{_≡_, refl, sym, ap, subst, _∙_}
-use mathlib.Core.Logic.{_↔_, _⊎_, inl, inr, ⊎-elim}
+use mathlib.Core.Logic.{_↔_, ⊎-elim}
 use mathlib.Core.List.{List, [], _∷_, map, List·Memᴰ, List·Memᴰ·cases-cons, List·Memᴰ·not-nil}
 use Prim.Native.Nat.{ℕ, zero, suc, _≤_}
 use native.Mathlib.Omega.{arith}
@@ -19,13 +20,15 @@ use Rattle.format.specs.Forest.{Forest}
 use Rattle.format.specs.Node.{Node}
 use Rattle.format.specs.Book.{Definition}
 use Rattle.format.specs.Distinct.{Distinct}
-use Rattle.judgement.specs.Environment.{missing, body, findType, Head, named, other, head}
+use Rattle.judgement.specs.Environment.{body, findType, named, other, head}
 use Rattle.judgement.specs.Aliases.{End, unbound, circle, ends, Chain, link, chainFrom, chain, aliasEnd, aliasLength}
 use Rattle.judgement.specs.WellFormed.{definedName, Defined, Leads, arrived}
 use Rattle.judgement.specs.WellFormed as formed
-use Rattle.judgement.specs.Meaning.{Across, here, onward}
+use Rattle.judgement.specs.Rows.{NeverEnds}
+use Rattle.judgement.specs.Meaning.{ComesTo, Across, here, onward}
+use Rattle.judgement.specs.Meaning as meaning
 use Rattle.judgement.proofs.Lookup.{find-body, find-defined, find-missing, missing-find, found-defined, find-named}
-use Rattle.judgement.proofs.Chains.{Step, Lost, Run, stops, loses, crosses, chain-on, run-chain, run-short, run-end, Next, noName, noType, someType, next, outcome}
+use Rattle.judgement.proofs.Chains.{Run, stops, loses, crosses, chain-on, run-chain, run-short, never-circle, Next, noName, noType, someType, next, outcome}
 
 module _ (ds : List Definition) where
   -- ---- Link by link
@@ -159,7 +162,21 @@ module _ (ds : List Definition) where
   pub leads-across : (t u : Forest Node) → Leads ds t u ↔ ((ns : List ℕ) × Across ds ns t u × (head u ≡ other))
   leads-across t u = (leads-way, λ p. across-leads (p .1) (p .2))
 
+  across-comes : {ns : List ℕ} {t u : Forest Node} {n : ℕ} → Across ds ns t u → head u ≡ named n → ComesTo ds t n
+  across-comes here h = meaning.here h
+  across-comes {n = n} (onward e i q a) h = meaning.onward {n = n} e i q (across-comes a h)
+
+  comes-way : {t : Forest Node} {n : ℕ} → ComesTo ds t n → (ns : List ℕ) × (u : Forest Node) × Across ds ns t u × (head u ≡ named n)
+  comes-way {t} (meaning.here h) = ([], t, here, h)
+  comes-way (meaning.onward {m = m} e i q c) = let p = comes-way c in (m ∷ p .0, p .1, onward e i q (p .2), p .3)
+
+  pub comes-across : (t : Forest Node) (n : ℕ) → ComesTo ds t n ↔ ((ns : List ℕ) × (u : Forest Node) × Across ds ns t u × (head u ≡ named n))
+  comes-across t n = (comes-way, λ p. across-comes (p .2) (p .3))
+
   module _ (once : Distinct (map definedName ds)) where
+    pub crosses-never : (t : Forest Node) → NeverEnds ds t → aliasLength ds t ≡ length ds
+    crosses-never t h = crosses-circle t (never-circle ds once t h)
+
     across-run : {ns : List ℕ} {t u : Forest Node} {e : End} → Across ds ns t u → Run ds u [] e → Run ds t ns e
     across-run here r = r
     across-run (onward {n = n} {d = d} h i q a) r = crosses {u = d .body} (record { is-name = h; is-type = find-named ds once d n i q }) (across-run a r)

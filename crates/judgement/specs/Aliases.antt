@@ -45,7 +45,7 @@ chain ds t = chainFrom (length ds) ds t
 unfoldable pub aliasEnd : List Definition → Forest Node → End
 aliasEnd ds t = chain ds t .last
 
--- The length of a chain: how many names it crosses. A class adds none, since it is what stands below its top (`belowClass`) that is followed.
+-- The length of a chain: how many names it crosses. Of an actor it is asked of what stands below its class (`belowClass`), so a class adds none.
 unfoldable pub aliasLength : List Definition → Forest Node → ℕ
 aliasLength ds t = length (chain ds t .crossed)
 

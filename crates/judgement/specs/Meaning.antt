@@ -17,7 +17,7 @@ pub data ComesTo (ds : List Definition) : Forest Node → ℕ → Type 0 where
   here : {t : Forest Node} {n : ℕ} → head t ≡ named n → ComesTo ds t n
   onward : {t : Forest Node} {m n : ℕ} {d : Definition} → head t ≡ named m → List·Memᴰ d ds → d .name ≡ m → ComesTo ds (d .body) n → ComesTo ds t n
 
--- Across these names, one after the other, it comes to this type. Of `Leads` and `ComesTo` it is the way.
+-- Across these names, one after the other, it comes to this type: the way of `Leads` and of `ComesTo`.
 pub data Across (ds : List Definition) : List ℕ → Forest Node → Forest Node → Type 0 where
   here : {t : Forest Node} → Across ds [] t t
   onward : {t u : Forest Node} {n : ℕ} {ns : List ℕ} {d : Definition} → head t ≡ named n → List·Memᴰ d ds → d .name ≡ n → Across ds ns (d .body) u → Across ds (n ∷ ns) t u

@@ -22,7 +22,7 @@ fn check_cycle(
     definitions: usize,
     ends: &mut [u32],
 ) -> Verdict
-    requires { ⌜ Nodes (now rows) names nodes × Roots (now roots) nodes × (now ends ≡ zeroTable) × ((ds : List Definition) × Tabled (now rows) (now roots) definitions ds) × (definitions ≤ 1024) ⌝ }
+    requires { ⌜ Nodes (now rows) names nodes × Roots (now roots) nodes × (now ends ≡ zeroTable) × ((ds : List Definition) × Tabled (now rows) (now roots) definitions ds) × (definitions ≤ 512) ⌝ }
     ensures { λ r. ⌜ CycleAs (now (rows .entry)) (now (roots .entry)) names nodes definitions (now (ends .exit)) r ⌝ }
 {
     let circle = environment::find_ends(rows, roots, names, nodes, definitions, ends);

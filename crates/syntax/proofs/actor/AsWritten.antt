@@ -1,4 +1,4 @@
--- An actor as written: the service at the end of the chain from what stands below its top. Assumes nothing.
+-- An actor as written: the service at the end of the chain from what stands below its top, and how many names are crossed there. Assumes nothing.
 use mathlib.Core.Path.{_≡_, refl, sym, ap, subst, _∙_}
 use mathlib.Core.Bool.{Bool, true, false, cond, false≢true}
 use mathlib.Core.List.{List}
@@ -16,9 +16,10 @@ use Rattle.format.specs.Whole.{WholeAt, treeAt, actorAt}
 use Rattle.format.proofs.Trees.{beside-end}
 use Rattle.format.proofs.Stored.{actor-none, actor-some}
 use Rattle.judgement.specs.Environment.{head, isServKind, kidsOf}
-use Rattle.judgement.specs.Aliases.{End, unbound, circle, ends, aliasEnd, rootPasses, asService, methodsAt}
+use Rattle.judgement.specs.Aliases.{End, unbound, circle, ends, aliasEnd, aliasLength, rootPasses, asService, methodsAt}
 use Rattle.judgement.specs.Actor.{isClass, belowClass}
-use Rattle.environment.specs.Tables.{EndNodes, EndAt, Chains, Ended, endIs, endNode}
+use Rattle.environment.specs.Tables.{EndNodes, EndAt, Chains, Ended, endIs, endNode, LookupAs}
+use Rattle.environment.specs.declared.Lookup.{Lookup}
 use Rattle.environment.specs.Trees.{AllTrees}
 use Rattle.environment.proofs.FuncEnds.{stays, ends-service}
 use Rattle.environment.proofs.ChainEnds.{end-at, end-inside, end-whole}
@@ -109,13 +110,22 @@ module _ {ns ends′ : List ℕ} {names count root : ℕ} (a : AllTrees ns names
       let b = t .below some in
       record { names = names; count = count; nodes = a .nodes; table = z; inside = omega (arith, b .inside, a .nodes .tree root h .ends) }
 
+  below-is : treeAt ns (top .below) ≡ belowClass (actorAt ns root)
+  below-is = t .below some .is ∙ ap belowClass (sym (actor-some ns root some))
+
+  -- below a class too: a lookup of what stands below an actor's top has crossed the names of its chain
+  pub below-length : {kind : ℕ} {r : Lookup} → LookupAs kind ns ends′ (top .below) r → (ds : List Definition) → Chains ns ends′ names ds →
+      r .crossed ≡ aliasLength ds (belowClass (actorAt ns root))
+  unfolding below-ended
+  below-length l ds c = l .reached .length-is below-ended ds c ∙ ap (aliasLength ds) below-is
+
   module _ {e : ℕ} (is : e ≡ endNode ns ends′ (top .below)) where
     pub written-as : {n : ℕ} → n ≡ cond (endIs 24 ns ends′ (top .below)) 1 0 → (ds : List Definition) → Chains ns ends′ names ds →
         ActorAs ns count ds (actorAt ns root) (record { merged = false; root = root; from = top .from; until = top .until; count = n; services = replicate 16 e })
     unfolding interfaceTree below-ended
     written-as {n} q ds c =
         let s = served below-ended is ds (q ∙ ap (λ (b : Bool). cond b 1 0) (ends-service below-ended ds c)) c in
-        let same : treeAt ns (top .below) ≡ belowClass (actorAt ns root) = t .below some .is ∙ ap belowClass (sym (actor-some ns root some)) in
+        let same = below-is in
         let few : n ≤ 1 = at-most (asService ds (treeAt ns (top .below))) (s .counted) in
         record {
           tree = refl;

@@ -29,7 +29,7 @@ use Rattle.environment.specs.declared.Alias.{Alias}
 use Rattle.environment.specs.declared.End.{End}
 use Rattle.environment.specs.declared.End.the-variants.{Unbound, Circle, Ends}
 use Rattle.environment.specs.Tables.{Nodes, asEnd, InRange, Tabled}
-use Rattle.environment.proofs.Links.{lastOf, lengthOf, AliasAs, chain-other}
+use Rattle.environment.proofs.Links.{lastEnd, lengthOf, AliasAs, chain-other}
 use Rattle.syntax.specs.declared.actor.Service.{Service}
 use Rattle.syntax.specs.Interfaces.{methodsIn}
 use Rattle.syntax.specs.Resolving.{noService, serviceAt, ServiceAs, MainAs}
@@ -39,7 +39,7 @@ use Rattle.syntax.proofs.Stored.{tree-service, tree-methods}
 -- ---- no tree at all
 end-alias : (ds : List Definition) → aliasEnd ds end ≡ ends end
 unfolding aliasEnd chain head
-end-alias ds = ap lastOf (chain-other ds end (length ds) refl)
+end-alias ds = ap lastEnd (chain-other ds end (length ds) refl)
 
 end-length : (ds : List Definition) → aliasLength ds end ≡ 0
 unfolding aliasLength chain head
