@@ -1,4 +1,6 @@
 // What every question starts with: bytes that nobody vouches for are admitted as a book, or refused (format, specs/Admission.antt).
+#![tactic(auto)]
+
 ghost use Rattle.std.specs.Prelude.{◌≡◌};
 ghost use Rattle.format.specs.Admission.{◌under◌, admitted};
 ghost use Rattle.book.specs.Reading.{Admitted};
@@ -10,7 +12,7 @@ use format::Limits;
 use refusals::{Refusal, Verdict};
 
 // A refusal, or the book's table of contents.
-#[derive(Drop)]
+#[derive(Clone, Copy)]
 pub enum Admission {
     Refused(Refusal),
     Admitted(Contents),

@@ -18,7 +18,7 @@ use syntax::interface::Interface;
 pub type ByDefinition = [u16; Limits::DEFINITIONS];
 
 // How far a walk has come: a mark for each name seen, the names listed so far, and the name without definition that stopped it.
-#[derive(Drop)]
+#[derive(Clone, Copy)]
 pub struct Walk {
     pub seen: Flags,
     pub list: ByDefinition,

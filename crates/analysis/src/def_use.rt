@@ -156,7 +156,7 @@ fn put_end(
 }
 
 // How many methods and entries there are so far.
-#[derive(Drop)]
+#[derive(Clone, Copy)]
 struct Counted {
     methods: usize,
     entries: usize,

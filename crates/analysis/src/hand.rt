@@ -9,7 +9,7 @@ use format::Limits;
 use refusals::Answer;
 
 // Name numbers: the first `len` of the list.
-#[derive(Drop)]
+#[derive(Clone, Copy)]
 pub struct Names {
     pub list: NameList,
     pub len: usize,

@@ -17,7 +17,7 @@ use refusals::{Answer, Refusal};
 type Counts = [usize; Limits::NAMES];
 
 // The asked numbers: how often each below 1,024, and the lowest other one, which is no name of any book; NONE where there is none.
-#[derive(Drop)]
+#[derive(Clone, Copy)]
 struct Asked {
     pub left: Counts,
     pub far: u32,
@@ -103,7 +103,7 @@ fn place(out: &mut [u16], places: usize, k: usize, at: usize)
 }
 
 // How far a projection is: the next position, and how many are taken.
-#[derive(Drop)]
+#[derive(Clone, Copy)]
 struct Reached {
     at: usize,
     taken: usize,

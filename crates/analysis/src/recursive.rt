@@ -12,7 +12,7 @@ use environment::Table;
 use format::Limits;
 
 // The names seen and those marked; or the listed name without definition that stopped it.
-#[derive(Drop)]
+#[derive(Clone, Copy)]
 pub struct Marks {
     pub seen: Flags,
     pub marked: Flags,

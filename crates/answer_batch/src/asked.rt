@@ -8,7 +8,7 @@ use refusals::{AliasAnswer, Answer, Refusal};
 
 // Which names a book is asked about: all, but of a book with more than MOST_NAMES of which none is listed the first and the last ones alone,
 // since none has uses there; and then the first and the last number outside every table.
-#[derive(Drop)]
+#[derive(Clone, Copy)]
 pub struct Asked {}
 
 impl Asked {
@@ -22,7 +22,7 @@ impl Asked {
 }
 
 // Those whose answers are lists. Marks are made over names, uses asked of one, projection for names.
-#[derive(Drop)]
+#[derive(Clone, Copy)]
 pub enum Question {
     MainList,
     Marks,

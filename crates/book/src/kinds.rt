@@ -7,7 +7,7 @@ ghost use Rattle.book.specs.Reading.{Admitted};
 use format::Place;
 
 // A node's kind. Kinds below VAR hold no other type and no name.
-#[derive(Drop)]
+#[derive(Clone, Copy)]
 pub struct Kind {
     pub number: u8,
 }
@@ -91,7 +91,7 @@ impl Kind {
 }
 
 // A file's role.
-#[derive(Drop)]
+#[derive(Clone, Copy)]
 pub struct Role {
     pub number: u16,
 }
@@ -113,7 +113,7 @@ impl Role {
 }
 
 // Where the bodies of a book lie, and how much each holds: its table of contents. The names begin after the table, at `Contents::SIZE`.
-#[derive(Drop)]
+#[derive(Clone, Copy)]
 pub struct Contents {
     pub names: usize,
     pub nodes_at: usize,
@@ -165,7 +165,7 @@ impl Contents {
 }
 
 // A function's mode, a digit in base 4 of its value's upper half.
-#[derive(Drop)]
+#[derive(Clone, Copy)]
 pub struct Mode {
     pub number: u32,
 }

@@ -1,4 +1,6 @@
 // The declaration book, read from bytes that nobody vouches for: `layout` decides whether they are a book, and `name` hands out a name. What a book is, is defined in the crate `format`.
+#![tactic(auto)]
+
 ghost use Rattle.std.specs.Prelude.{◌≡◌};
 ghost use Rattle.book.specs.Reading.{reading};
 ghost use Rattle.format.specs.Layout.{name_in};
@@ -15,7 +17,7 @@ use crate::rules::{Next, Walked};
 use format::{Limits, Place};
 
 // What bytes are: no book, or one with this table of contents.
-#[derive(Drop)]
+#[derive(Clone, Copy)]
 pub enum Reading {
     Broken,
     Whole(Contents),

@@ -34,7 +34,7 @@ pub(crate) fn word(bytes: &[u8], at: usize) -> u32
 }
 
 // A stored node.
-#[derive(Drop)]
+#[derive(Clone, Copy)]
 pub struct Node {
     pub kind: u8,
     pub label_kind: u8,
@@ -83,7 +83,7 @@ impl Node {
 }
 
 // A stored definition or file. `owner` is a definition's file and a file's role.
-#[derive(Drop)]
+#[derive(Clone, Copy)]
 pub struct Entry {
     pub name: u16,
     pub owner: u16,

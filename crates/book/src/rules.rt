@@ -126,7 +126,7 @@ fn node_fine(names: usize, place: Place, node: Node, kids: usize) -> bool
 }
 
 // What a walk over trees finds: that they are not whole or break a rule, or how many they are.
-#[derive(Drop)]
+#[derive(Clone, Copy)]
 pub enum Walked {
     Broken,
     Count(usize),
@@ -216,7 +216,7 @@ pub(crate) fn names_fine(bytes: &[u8], count: usize) -> bool
 }
 
 // What an entry leads to: a broken book, or the node after its tree.
-#[derive(Drop)]
+#[derive(Clone, Copy)]
 pub enum Next {
     Broken,
     At(usize),

@@ -1,5 +1,7 @@
 // Verdicts and answers as one number each, for programs in other languages. Each coder promises the number (`answer`) and that the arithmetic
 // of include/ludzepin.h gives back from it what is said (`read`).
+#![tactic(auto)]
+
 ghost use Rattle.std.specs.Prelude.{◌≡◌, ◌<◌};
 ghost use Rattle.refusals.specs.Refusal.{needed_of};
 ghost use Rattle.refusals.specs.declared.Answer.TheVariants.{Refused};

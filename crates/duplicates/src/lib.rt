@@ -1,6 +1,8 @@
 // The first duplicate in a list of numbers.
 // Numbers that ascend have none, and few are compared in pairs. Others go through a digital search tree, in which a number lies at most 32 links
 // deep, one for each of its bits: no choice of numbers makes that slow, as it may make buckets of hashes.
+#![tactic(auto)]
+
 ghost use Rattle.std.specs.Prelude.{◌≡◌, true, ◌*◌, ◌≤◌, ◌<◌, length};
 ghost use Rattle.format.specs.Distinct.{Distinct};
 ghost use Rattle.duplicates.specs.Duplicate.{FirstDuplicate, StandsBefore};

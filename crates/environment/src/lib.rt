@@ -1,6 +1,8 @@
 // What names stand for: type_env.rs. A table from name number to definition is made once a call, and so is one of alias ends, with the length of
 // each chain; both are lent by the caller.
 // Functions ask of their caller what an admitted book gives: nodes that are whole trees with numbers in range (specs/Tables.antt).
+#![tactic(auto)]
+
 ghost use Rattle.std.specs.Prelude.{◌≡◌, List, ℕ, ◌≤◌, ◌<◌, length, get_or};
 ghost use Rattle.format.specs.Book.{Definition};
 ghost use Rattle.format.specs.Whole.{tree_at};
@@ -15,7 +17,7 @@ use book::read::{Entry, Node};
 use format::Limits;
 
 // What a table of roots has for a name: a node, or NONE.
-#[derive(Drop)]
+#[derive(Clone, Copy)]
 pub struct Table {
     pub entry: u16,
 }
@@ -30,7 +32,7 @@ pub type EndByName = [u32; Limits::NAMES];
 
 // What a table of alias ends has for a name: CROSSED for each name crossed, and how far the node is below NONE; or one of the others. So a table
 // that has nothing is 0 throughout, which is made fastest.
-#[derive(Drop)]
+#[derive(Clone, Copy)]
 struct EndTable {
     pub entry: u32,
 }
@@ -104,7 +106,7 @@ pub fn enter(
 }
 
 // One link of an alias chain: where the definition of a name stands, and the name that it is. Each is NONE where there is none.
-#[derive(Drop)]
+#[derive(Clone, Copy)]
 pub struct Link {
     pub root: usize,
     pub next: usize,
@@ -144,7 +146,7 @@ pub fn step(rows: &[u8], roots: &[u16], n: usize) -> Link
 }
 
 // Where an alias chain ends: at a name without definition, never, or at a node that is no name.
-#[derive(Drop)]
+#[derive(Clone, Copy)]
 pub enum End {
     Unbound(u16),
     Circle,
@@ -152,7 +154,7 @@ pub enum End {
 }
 
 // The end of an alias chain, and how many names it crosses.
-#[derive(Drop)]
+#[derive(Clone, Copy)]
 pub struct Alias {
     pub crossed: usize,
     pub end: End,
@@ -316,7 +318,7 @@ pub fn find_ends(
 }
 
 // The node at which a chain ends, or NONE, and how many names it crosses.
-#[derive(Drop)]
+#[derive(Clone, Copy)]
 pub struct Reached {
     pub node: u16,
     pub crossed: u16,
@@ -350,7 +352,7 @@ pub fn names_crossed(ends: &[u32], n: usize) -> u16
 }
 
 // What a lookup finds: the end of a chain, whether it is of the kind that is looked for, and, found or not, how many names were crossed.
-#[derive(Drop)]
+#[derive(Clone, Copy)]
 pub struct Lookup {
     pub found: bool,
     pub node: u16,

@@ -1,5 +1,7 @@
 // What programs in other languages link: `#[unsafe(no_mangle)] pub extern "C"` functions over byte slices, with numbers for limits and answers. Each
 // promises the number (`answer`), that the arithmetic of include/ludzepin.h gives back from it what is said (`read`), and the lent list (`left`).
+#![tactic(auto)]
+
 ghost use Rattle.std.specs.Prelude.{◌≡◌, ◌/◌, length};
 ghost use Rattle.format.specs.Admission.{◌under◌, on_bytes};
 ghost use Rattle.judgement.specs.Check.{check_bytes, init_check_bytes};

@@ -1,10 +1,12 @@
 // The declaration book: what it holds, how it is laid out in bytes, which bytes are a book, and how much of one a terminal model takes.
 // Definitions and theorems; the code that reads a book is the crate `book`.
+#![tactic(auto)]
+
 ghost use Rattle.std.specs.Prelude.{◌≡◌};
 ghost use Rattle.format.specs.Within.{full, within};
 
 // Where a node stands: a root; a child of a record or a variant; a method; any other child.
-#[derive(Drop)]
+#[derive(Clone, Copy)]
 pub enum Place {
     Root,
     Field,
@@ -13,7 +15,7 @@ pub enum Place {
 }
 
 // The most that a terminal model takes of a book. A limit above document 01's figure counts as that figure.
-#[derive(Drop)]
+#[derive(Clone, Copy)]
 pub struct Limits {
     pub names: u32,
     pub nodes: u32,

@@ -13,7 +13,7 @@ use environment::Table;
 use format::Limits;
 
 // What a walk knows of a name. EMPTY is a flag that is set, and no other mark is.
-#[derive(Drop)]
+#[derive(Clone, Copy)]
 struct Mark {
     number: u8,
 }
@@ -29,7 +29,7 @@ impl Mark {
 }
 
 // What a visit answers, and the marks after it.
-#[derive(Drop)]
+#[derive(Clone, Copy)]
 struct Visit {
     pub empty: bool,
     pub marks: Flags,

@@ -1,5 +1,7 @@
 // Compares `idl_hash` with known label numbers. Writes a line for each name: the name in quotes, the number that `idl_hash` computes,
 // and `ok`, or `differs` where the known number is another.
+#![tactic(auto)]
+
 use libc::STDOUT_FILENO;
 
 fn row(name: &[u8], known: u32) {

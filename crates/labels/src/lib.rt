@@ -1,5 +1,7 @@
 // The labels of fields, cases and methods, and the numbers that they stand for (Candid: `idl_hash`, `Label`).
 // Every function is total: none asks anything of its caller.
+#![tactic(auto)]
+
 ghost use Rattle.std.specs.Prelude.{◌≡◌, ◌*◌, ◌%◌, ◌^◌, ◌==◌};
 ghost use Rattle.labels.specs.Number.{label_number};
 ghost use Rattle.labels.specs.Label.{label_kind_of, value_of, id_by};
@@ -26,7 +28,7 @@ pub fn idl_hash(id: &[u8]) -> u32
 
 // What labels a field, a case or a method. A `Named` label holds a name number, a place in the book's table of names: an enum holds
 // no reference, so the label number of the name is handed over beside the label where its own is asked for.
-#[derive(Drop)]
+#[derive(Clone, Copy)]
 pub enum Label {
     Id(u32),
     Named(u32),

@@ -1,5 +1,7 @@
 // Reads a book from the file that is named, or from standard input, and prints its definition list with the names marked that have to be boxed,
 // or its refusal. What is printed is proved; a read or a write that fails is told on standard error.
+#![tactic(auto)]
+
 ghost use Rattle.std.specs.Prelude.{◌≤◌, ◌<◌, ◌≡◌, length, take};
 ghost use Rattle.judgement.specs.Check.{member};
 ghost use Rattle.refusals.specs.Outcome.{given};

@@ -1,5 +1,7 @@
 // The stages that a book goes through before it is asked anything, admitted and passed, and the questions on a book that passed, a module for
 // each; the draft list's is on an admitted book. Who asks several questions of one book, as the program list does, lets it pass once.
+#![tactic(auto)]
+
 ghost use Rattle.std.specs.Prelude.{◌≡◌};
 ghost use Rattle.format.specs.Admission.{◌under◌};
 ghost use Rattle.book.specs.Tables.{blank_table, zero_table};

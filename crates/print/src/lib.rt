@@ -2,6 +2,8 @@
 // place `at` on and answers the place after it. Where the buffer ends first the text is cut there: a buffer that is longer than the text has
 // all of it.
 // Every function that is public is total: none asks anything of its caller.
+#![tactic(auto)]
+
 ghost use Rattle.std.specs.Prelude.{◌≡◌, [], ◌∷◌, ◌<◌};
 ghost use Rattle.print.specs.Laid.{Laid, LaidWithin};
 ghost use Rattle.print.specs.Quoted.{hex_digit, plain, escape, quoted};

@@ -1,6 +1,8 @@
 // The questions of documents 01 and 02 on a book of bytes, under the limits of a terminal model. An entry point is admission, the check (for init
 // arguments the init check) and the question on the book that passed, which has a module of its own; an accepted question gives the number of
 // its entries, which stand at the front of the lent list, and a refusal leaves the list as it was. An alias chain is no list, and is given as it is.
+#![tactic(auto)]
+
 ghost use Rattle.std.specs.Prelude.{◌≡◌};
 ghost use Rattle.refusals.specs.Handed.{HandedAs, UsesAs, alias_answer};
 ghost use Rattle.format.specs.Admission.{◌under◌, on_bytes};

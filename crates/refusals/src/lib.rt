@@ -1,5 +1,7 @@
 // What the reader says: the refusals of documents 01 and 02, the verdict of a check and the answer of a question. It stands below the book, so
 // that definitions need no code for it.
+#![tactic(auto)]
+
 ghost use Rattle.std.specs.Prelude.{◌≡◌, ◌<◌, length};
 ghost use Rattle.refusals.specs.Refusal.{number_of, names_of, name_of, needed_of};
 ghost use Rattle.refusals.specs.Verdict.{is_passed};
@@ -8,7 +10,7 @@ ghost use Rattle.refusals.specs.Handed.{HandedAs};
 
 // Rows 1 to 17 of document 01 in order, then those of document 02. Those with a name hold its number: a place in the book's table of names, unless
 // a question was asked with a number outside that table. Then 3 and 15 hold the number as it was asked, even 65,535.
-#[derive(Drop)]
+#[derive(Clone, Copy)]
 pub enum Refusal {
     // 1: the layout is broken.
     Broken,
@@ -51,7 +53,7 @@ pub enum Refusal {
 }
 
 // What a refusal says: its number, whether it names something, the name's number, the entries needed.
-#[derive(Drop)]
+#[derive(Clone, Copy)]
 struct Said(u16, bool, u16, u32);
 
 impl Refusal {
@@ -115,7 +117,7 @@ impl Refusal {
 }
 
 // What a check finds.
-#[derive(Drop)]
+#[derive(Clone, Copy)]
 pub enum Verdict {
     Passed,
     Refused(Refusal),
@@ -134,21 +136,21 @@ impl Verdict {
 }
 
 // What a question answers: how many entries stand at the front of the lent list, or why there are none.
-#[derive(Drop)]
+#[derive(Clone, Copy)]
 pub enum Answer {
     Given(usize),
     Refused(Refusal),
 }
 
 // The names that an alias chain crosses: how many, and the last of them.
-#[derive(Drop)]
+#[derive(Clone, Copy)]
 pub struct Crossed {
     pub names: u16,
     pub last: u16,
 }
 
 // What the question about an alias chain answers.
-#[derive(Drop)]
+#[derive(Clone, Copy)]
 pub enum AliasAnswer {
     Given(Crossed),
     Refused(Refusal),

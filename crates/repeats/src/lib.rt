@@ -1,6 +1,8 @@
 // The first repeated label of a book whose layout is whole (document 02, request 1).
 // Only a record, variant or service of more than two nodes can have two children: a book without one makes no table. Names are hashed when a
 // field asks, and once.
+#![tactic(auto)]
+
 ghost use Rattle.std.specs.Prelude.{◌≡◌, true, ◌+◌, ◌<◌, length};
 ghost use Rattle.labels.specs.Number.{label_number};
 ghost use Rattle.format.specs.Forest.{count};

@@ -1,13 +1,15 @@
 // For programs: a book's bytes from the file that the first argument names, or from standard input, and a text to standard output. What fails is
 // told on standard error, with its reason; what was read before is then no input.
 // Assumes the contracts of the C functions below `os`, `io` and `libc`; no contract can say what is read or written.
+#![tactic(auto)]
+
 ghost use Rattle.std.specs.Prelude.{◌≤◌, length};
 ghost use Rattle.stdio.specs.Read.{ReadAs, MoreAs, WrittenAs};
 
 use libc::{STDERR_FILENO, STDIN_FILENO, STDOUT_FILENO};
 
 // What came of reading: a failure, which was told, or all of the input, so many bytes at the front of the buffer. A full buffer may be cut.
-#[derive(Drop)]
+#[derive(Clone, Copy)]
 pub enum Input {
     Failed,
     Read(usize),

@@ -27,7 +27,7 @@ use refusals::{Refusal, Verdict};
 // ---- One service
 
 // The node of a service, or none; or why it is refused. In each case how many names were crossed.
-#[derive(Drop)]
+#[derive(Clone, Copy)]
 struct Service {
     verdict: Verdict,
     count: usize,
@@ -121,7 +121,7 @@ fn main_service(
 // ---- The resolved actor
 
 // What resolving finds: a refusal, or the interface of the actor.
-#[derive(Drop)]
+#[derive(Clone, Copy)]
 pub struct Resolved {
     pub verdict: Verdict,
     pub interface: Interface,
@@ -168,7 +168,7 @@ fn refused(verdict: Verdict) -> Resolved
 }
 
 // The services of main and of the imports, of which the first `count` are there. Where one is refused there are none.
-#[derive(Drop)]
+#[derive(Clone, Copy)]
 struct Services {
     verdict: Verdict,
     count: usize,

@@ -9,7 +9,7 @@ use book::read::{Entry, Node};
 
 // The arguments of an actor that is a class are the trees from `from` up to `until`; what stands below a class's top is its last child, and
 // another type itself.
-#[derive(Drop)]
+#[derive(Clone, Copy)]
 pub struct Top {
     pub from: usize,
     pub until: usize,

@@ -10,7 +10,7 @@ use book::read::Entry;
 use refusals::{Refusal, Verdict};
 
 // Numbers of files: the first `count` are the service imports in order. A refused table has none.
-#[derive(Drop)]
+#[derive(Clone, Copy)]
 pub struct Imports {
     pub verdict: Verdict,
     pub count: usize,
@@ -19,7 +19,7 @@ pub struct Imports {
 
 // What is found of the files: main's root, the service imports, and the number of the init file, which is that of all files where there is
 // none.
-#[derive(Drop)]
+#[derive(Clone, Copy)]
 pub struct Files {
     pub root: u16,
     pub imports: Imports,

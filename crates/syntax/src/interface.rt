@@ -8,7 +8,7 @@ use format::Limits;
 // The actor that a book means: main's root as written, or NO_ROOT; where `merged`, the methods are those of several files' services. The
 // arguments of main's class are the trees from `from` up to `until`, the methods those of the first `count` services. An actor as written
 // that is no service has none.
-#[derive(Drop)]
+#[derive(Clone, Copy)]
 pub struct Interface {
     pub merged: bool,
     pub root: u16,

@@ -1,5 +1,7 @@
 // What syntax/mod.rs makes of the files of a book: its imports, and the actor that it means. Functions ask of their caller what an admitted
 // book gives.
+#![tactic(auto)]
+
 pub mod actor;
 pub mod class;
 pub mod files;

@@ -16,7 +16,7 @@ use refusals::Verdict;
 
 // What the init check finds, and what the init list needs beside the table of the definitions that the arguments see: how many those are, and
 // the range of the arguments' nodes. Without an init file the definitions are main's, and the range is empty.
-#[derive(Drop)]
+#[derive(Clone, Copy)]
 pub struct InitFound {
     pub verdict: Verdict,
     pub count: usize,

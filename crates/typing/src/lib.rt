@@ -1,4 +1,6 @@
 // The check of a declaration: typing.rs. Here the types; each function asks of its caller what an admitted book gives.
+#![tactic(auto)]
+
 ghost use Rattle.std.specs.Prelude.{◌≡◌, false, ◌||◌, not, List, ◌+◌, ◌<◌, length, get_or};
 ghost use Rattle.format.specs.Book.{Definition};
 ghost use Rattle.format.specs.Layout.{row_at, siblings};

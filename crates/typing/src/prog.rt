@@ -12,7 +12,7 @@ use syntax::files::Files;
 use syntax::interface::Interface;
 
 // A book that passed, beside its tables of roots and of alias ends.
-#[derive(Drop)]
+#[derive(Clone, Copy)]
 pub struct Passed {
     pub contents: Contents,
     pub main: usize,
@@ -20,7 +20,7 @@ pub struct Passed {
 }
 
 // What the check finds; a refused book has nothing to go on with.
-#[derive(Drop)]
+#[derive(Clone, Copy)]
 pub struct Found {
     pub verdict: Verdict,
     pub passed: Passed,
