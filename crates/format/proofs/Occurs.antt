@@ -113,7 +113,7 @@ reference-occurs (tree n kids next) {k} m =
       | inr h ↦ elim (Memᴰ.append_cases (references kids) h) [ inl i ↦ somewhere-below (reference-occurs kids i) | inr i ↦ somewhere-after (reference-occurs next i) ]
     ]
 
-pub occurs-reference : {f : Forest Node} {n : Node} {kids : Forest Node} {k : ℕ} → Occurs n kids f → n.kind ≡ VarT k → Memᴰ k (references f)
+pub occurs-reference : {n : Node} {kids : Forest Node} {k : ℕ} {f : Forest Node} → Occurs n kids f → n.kind ≡ VarT k → Memᴰ k (references f)
 unfolding references
 occurs-reference {n = n} {kids = kids} (here {next = next}) e = Memᴰ.append_left (references kids ++ references next) (name-is n.kind e)
 occurs-reference (below {m = m} {lids = lids} {next = next} o) e =

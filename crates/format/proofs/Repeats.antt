@@ -124,24 +124,24 @@ module _ (names : List (List ℕ)) where
   unfolding is_among
   among-first p l m E h s = rw (is-true (has_labels p) h, is-true (same_label names p m l) s) tt
 
-  late-again : (p : Place) (E : List Labelled) {n : Node} {kids f : Forest Node} {j : ℕ} → TreeAt n kids j f → Hit p E n.label → Again p E f j n.label
+  late-again : {n : Node} {kids : Forest Node} (p : Place) (E : List Labelled) {f : Forest Node} {j : ℕ} → TreeAt n kids j f → Hit p E n.label → Again p E f j n.label
   late-again p E first h = here h
-  late-again p E {n = n} (later {m = m} t) h = beyond (late-again p (m.label ∷ E) t (among-later p n.label m.label E h))
+  late-again {n = n} p E (later {m = m} t) h = beyond (late-again p (m.label ∷ E) t (among-later p n.label m.label E h))
 
-  pair-again : (p : Place) (E : List Labelled) {n m : Node} {kids lids f : Forest Node} {i j : ℕ} → TreeAt n kids i f → TreeAt m lids j f → i < j →
+  pair-again : {n m : Node} {kids lids : Forest Node} (p : Place) (E : List Labelled) {f : Forest Node} {i j : ℕ} → TreeAt n kids i f → TreeAt m lids j f → i < j →
       T (has_labels p) → T (same_label names p n.label m.label) → Again p E f j m.label
   pair-again p E first first o h s = absurd (omega arith)
-  pair-again p E {n = n} {m = m} first (later u) o h s = beyond (late-again p (n.label ∷ E) u (among-first p m.label n.label E h s))
+  pair-again {n = n} {m = m} p E first (later u) o h s = beyond (late-again p (n.label ∷ E) u (among-first p m.label n.label E h s))
   pair-again p E (later t) first o h s = absurd (omega arith)
-  pair-again p E (later t) (later u) o h s = beyond (pair-again p _ t u (omega arith) h s)
+  pair-again p E (later {m = m'} t) (later u) o h s = beyond (pair-again p (m'.label ∷ E) t u (omega arith) h s)
 
   moved : {p : Place} {E : List Labelled} {f : Forest Node} {i j : ℕ} {l : Labelled} → i ≡ j → Again p E f i l → Again p E f j l
   moved {p} {E} {f} {l = l} e a = subst (λ (k : ℕ). Again p E f k l) e a
 
-  repeat-again : (p : Place) (E : List Labelled) {parent : Node} {kids f : Forest Node} {at j : ℕ} {l : Labelled} → NodeAt parent kids at f →
+  repeat-again : {parent : Node} {kids : Forest Node} {j : ℕ} {l : Labelled} (p : Place) (E : List Labelled) {f : Forest Node} {at : ℕ} → NodeAt parent kids at f →
       Again (place_below parent.kind) [] kids j l → Again p E f (suc (at + j)) l
-  repeat-again p E {j = j} {l = l} (root {next = next}) a = moved (omega arith) (inside a)
-  repeat-again p E (below o) a = moved (omega arith) (inside (repeat-again _ [] o a))
+  repeat-again {j = j} {l = l} p E (root {next = next}) a = moved (omega arith) (inside a)
+  repeat-again p E (below {m = m} o) a = moved (omega arith) (inside (repeat-again (place_below m.kind) [] o a))
   repeat-again p E (after {m = m} o) a = moved (omega arith) (beyond (repeat-again p (m.label ∷ E) o a))
 
   is-again : {f : Forest Node} {j : ℕ} {l : Labelled} (p : Place) (E : List Labelled) → RepeatAt names f j l → Again p E f j l
@@ -377,6 +377,7 @@ module _ (names : List (List ℕ)) where
 
     distinct-apart : (f : Forest Node) → Distinct (keys_of g f) → Apart f
     unfolding keys_of
+    distinct-apart end d m lids i o mids j x5 _ l e = elim x5 [ ]
     distinct-apart (tree n kids next) d m lids i o mids j first first l e = omega arith
     distinct-apart (tree n kids next) d m lids i o mids j first (later u) l e = distinct-head d (rw e (tree-key u))
     distinct-apart (tree n kids next) d m lids i o mids j (later t) first l e = omega arith

@@ -96,7 +96,7 @@ unfolding definition_entries bodies beside count
 definitions-stored {next = next} [] g one w h = record { are = refl; roots = tt; rest = rw (add-zero next) w; others = rw (add-zero next) h }
 definitions-stored {ns} {next} {last} (d ∷ ds) g one w h =
     let r = rooted d.body (beside (bodies ds) g) w (h ∙ beside-assoc d.body (bodies ds) g) one.0 in
-    let s = definitions-stored ds g one.1 r.rest r.others in
+    let s = definitions-stored {next = next + count d.body} ds g one.1 r.rest r.others in
     let e : next + count d.body + count (bodies ds) ≡ next + count (beside d.body (bodies ds)) = omega (arith, count-beside d.body (bodies ds)) in
     record {
       are = λ i. record { name = d.name; file = d.file; body = r.is i } ∷ s.are i;
@@ -145,9 +145,9 @@ pub files-stored :
     → siblings ns next last ≡ actors fs → FilesStored ns next last fs
 unfolding file_entries actors
 files-stored [] l one w h = record { are = refl; roots = tt; roles = tt }
-files-stored (f ∷ fs) l one w h =
+files-stored {ns = ns} {next = next} {last = last} (f ∷ fs) l one w h =
     let r = actor-stored f.actor (actors fs) l w h one.0 in
-    let s = files-stored fs l one.1 r.rest r.others in
+    let s = files-stored {next = next + count f.actor} fs l one.1 r.rest r.others in
     let role = role-back f.role in
     record {
       are = λ i. record { name = f.name; role = role i; actor = r.is i } ∷ s.are i;
