@@ -1,0 +1,14 @@
+-- `Contents::files` meets its contract. Assumes nothing.
+use Rattle.format.specs.Layout.{part}
+use Rattle.book.proofs.Opened.{bounds, files-here}
+use Rattle.book.proofs.kinds.Contents.files.Goals as goal
+
+pub slice_bounds-result-count : goal.slice_bounds-result-count
+slice_bounds-result-count c = (bounds c.requires).four
+
+pub slice_bounds-result-start : goal.slice_bounds-result-start
+slice_bounds-result-start c = (bounds c.requires).four
+
+pub returns : goal.returns
+unfolding part
+returns c = files-here c.requires
