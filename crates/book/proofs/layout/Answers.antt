@@ -4,126 +4,110 @@ use native.Mathlib.Omega.{arith}
 use lib.Dec.{T}
 use Rattle.format.specs.declared.Place.TheVariants.{Root}
 use Rattle.format.specs.Layout.{part, run, entry_at}
-use Rattle.format.specs.Rules as rules
 use Rattle.format.proofs.Logic.{of-true}
-use Rattle.book.specs.declared.rules.Next.TheVariants.{At}
-use Rattle.book.specs.Steps.{ContentsAs, Stated, Good, TreesAs, DefinitionsAs}
+use Rattle.book.specs.Steps.{ContentsAs, TreesAs, DefinitionsAs}
 use Rattle.book.proofs.Parts.{reading-broken, reading-whole, nodes_in, definitions_in, files_in, names-good, nodes-good, entries-good, all-good, bounds, nodes-within, definitions-within, files-within}
-use borrow.Author.Rules.{rules}
 use Rattle.book.proofs.layout.Goals as goal
-use Rattle.book.proofs.layout.Goals.{In-At, In-Count, In-Whole}
 
 pub returns-in_default : goal.returns-in_default
 returns-in_default c = reading-broken _ (λ r. subst (ContentsAs c.args.book.now) c.in_default.is c.contents.ensures r.contents)
 
--- the table of contents keeps its rules, and states the parts
-table : (c : In-Whole) → rules.Contents c.args.book.now × Stated c.args.book.now c.in-Whole.c
-table c = subst (ContentsAs c.args.book.now) c.in-Whole.is c.contents.ensures
-
 pub slice_bounds-names_fine-count : goal.slice_bounds-names_fine-count
-slice_bounds-names_fine-count c = let t = table c in (bounds t.1 t.0).one
+slice_bounds-names_fine-count c = let t = (subst (ContentsAs c.args.book.now) c.in-Whole.is c.contents.ensures) in (bounds t.1 t.0).one
 
 pub slice_bounds-names_fine-start : goal.slice_bounds-names_fine-start
-slice_bounds-names_fine-start c = let t = table c in (bounds t.1 t.0).one
+slice_bounds-names_fine-start c = let t = (subst (ContentsAs c.args.book.now) c.in-Whole.is c.contents.ensures) in (bounds t.1 t.0).one
 
 pub slice_bounds-names_fine-end : goal.slice_bounds-names_fine-end
-slice_bounds-names_fine-end c = let t = table c in let b = bounds t.1 t.0 in omega (arith, b.two, b.three, b.four)
+slice_bounds-names_fine-end c = let t = (subst (ContentsAs c.args.book.now) c.in-Whole.is c.contents.ensures) in let b = bounds t.1 t.0 in omega (arith, b.two, b.three, b.four)
 
 pub returns-then-not-names_fine : goal.returns-then-not-names_fine
 unfolding part
 returns-then-not-names_fine c =
-    let t = table c.before.before.before in
+    let t = (subst (ContentsAs c.args.book.now) c.in-Whole.is c.contents.ensures) in
     reading-broken _ (λ r. c.names_fine.ensures.fails (c.if-not-names_fine.true) (names-good t.1 r))
 
 pub slice_bounds-rows-count : goal.slice_bounds-rows-count
-slice_bounds-rows-count c = let t = table c.before.before.before in (bounds t.1 t.0).two
+slice_bounds-rows-count c = let t = (subst (ContentsAs c.args.book.now) c.in-Whole.is c.contents.ensures) in (bounds t.1 t.0).two
 
 pub slice_bounds-rows-start : goal.slice_bounds-rows-start
-slice_bounds-rows-start c = let t = table c.before.before.before in (bounds t.1 t.0).two
+slice_bounds-rows-start c = let t = (subst (ContentsAs c.args.book.now) c.in-Whole.is c.contents.ensures) in (bounds t.1 t.0).two
 
 pub slice_bounds-rows-end : goal.slice_bounds-rows-end
-slice_bounds-rows-end c = let t = table c.before.before.before in let b = bounds t.1 t.0 in omega (arith, b.three, b.four)
+slice_bounds-rows-end c = let t = (subst (ContentsAs c.args.book.now) c.in-Whole.is c.contents.ensures) in let b = bounds t.1 t.0 in omega (arith, b.three, b.four)
 
 pub trees-requires : goal.trees-requires
 unfolding part
-trees-requires c = let t = table c.before.before.before.before in (omega arith, nodes-within t.1 t.0)
+trees-requires c = let t = (subst (ContentsAs c.args.book.now) c.in-Whole.is c.contents.ensures) in (omega arith, nodes-within t.1 t.0)
 
 pub returns-in_default-trees : goal.returns-in_default-trees
 unfolding part
 returns-in_default-trees c =
-    let t = table c.before.before.before.before.before.before in
+    let t = (subst (ContentsAs c.args.book.now) c.in-Whole.is c.contents.ensures) in
     reading-broken _ (λ r. subst (TreesAs c.in-Whole.c.names Root (nodes_in c.args.book.now c.in-Whole.c) 0 c.in-Whole.c.nodes) c.in_default-trees.is c.trees.ensures (nodes-good t.1 r))
 
--- the trees are good
-trees-good : (c : In-Count) → Good c.in-Whole.c.names Root (nodes_in c.args.book.now c.in-Whole.c) 0 c.in-Whole.c.nodes
-unfolding part
-trees-good c =
-    (subst (TreesAs c.in-Whole.c.names Root (nodes_in c.args.book.now c.in-Whole.c) 0 c.in-Whole.c.nodes) c.in-Count.is c.trees.ensures).0
-
 pub slice_bounds-definitions-count : goal.slice_bounds-definitions-count
-slice_bounds-definitions-count c = let t = table c.before.before.before.before.before.before in (bounds t.1 t.0).three
+slice_bounds-definitions-count c = let t = (subst (ContentsAs c.args.book.now) c.in-Whole.is c.contents.ensures) in (bounds t.1 t.0).three
 
 pub slice_bounds-definitions-start : goal.slice_bounds-definitions-start
-slice_bounds-definitions-start c = let t = table c.before.before.before.before.before.before in (bounds t.1 t.0).three
+slice_bounds-definitions-start c = let t = (subst (ContentsAs c.args.book.now) c.in-Whole.is c.contents.ensures) in (bounds t.1 t.0).three
 
 pub slice_bounds-definitions-end : goal.slice_bounds-definitions-end
-slice_bounds-definitions-end c = let t = table c.before.before.before.before.before.before in (bounds t.1 t.0).four
+slice_bounds-definitions-end c = let t = (subst (ContentsAs c.args.book.now) c.in-Whole.is c.contents.ensures) in (bounds t.1 t.0).four
 
 pub definitions-requires : goal.definitions-requires
 unfolding part
 definitions-requires c =
-    let t = table c.before.before.before.before.before.before.before in (
+    let t = (subst (ContentsAs c.args.book.now) c.in-Whole.is c.contents.ensures) in (
       definitions-within t.1 t.0,
-      record { ordered = omega arith; within = nodes-within t.1 t.0; sized = (trees-good c.before).sized },
+      record { ordered = omega arith; within = nodes-within t.1 t.0; sized = ((subst (TreesAs c.in-Whole.c.names Root (nodes_in c.args.book.now c.in-Whole.c) 0 c.in-Whole.c.nodes) c.in-Count.is c.trees.ensures).0).sized },
     )
 
 pub returns-in_default-definitions : goal.returns-in_default-definitions
 unfolding part
 returns-in_default-definitions c =
-    let t = table (c.before.before.before.before.before.before.before.before.before) in
+    let t = (subst (ContentsAs c.args.book.now) c.in-Whole.is c.contents.ensures) in
     let d = c.in-Whole.c in
     let b = c.args.book.now in
     reading-broken _ (λ r.
     subst (DefinitionsAs d.names d.files (definitions_in b d) d.definitions (nodes_in b d) d.nodes) c.in_default-definitions.is c.definitions.ensures
     (run (entry_at (files_in b d)) 0 d.files) (entries-good t.1 r))
 
--- the definitions' entries are good if the files' are
-definitions-good : (c : In-At) →
-    DefinitionsAs c.in-Whole.c.names c.in-Whole.c.files (definitions_in c.args.book.now c.in-Whole.c) c.in-Whole.c.definitions
-    (nodes_in c.args.book.now c.in-Whole.c) c.in-Whole.c.nodes (At c.in-At.next)
-unfolding part
-definitions-good c =
-    let d = c.in-Whole.c in
-    let b = c.args.book.now in
-    subst (DefinitionsAs d.names d.files (definitions_in b d) d.definitions (nodes_in b d) d.nodes) c.in-At.is c.definitions.ensures
-
 pub slice_bounds-files-count : goal.slice_bounds-files-count
-slice_bounds-files-count c = let t = table (c.before.before.before.before.before.before.before.before.before) in (bounds t.1 t.0).four
+slice_bounds-files-count c = let t = (subst (ContentsAs c.args.book.now) c.in-Whole.is c.contents.ensures) in (bounds t.1 t.0).four
 
 pub slice_bounds-files-start : goal.slice_bounds-files-start
-slice_bounds-files-start c = let t = table (c.before.before.before.before.before.before.before.before.before) in (bounds t.1 t.0).four
+slice_bounds-files-start c = let t = (subst (ContentsAs c.args.book.now) c.in-Whole.is c.contents.ensures) in (bounds t.1 t.0).four
 
 pub files-requires : goal.files-requires
 unfolding part
 files-requires c =
-    let t = table (c.before.before.before.before.before.before.before.before.before.before) in
-    (files-within t.1 t.0, (definitions-good c.before).0)
+    let t = (subst (ContentsAs c.args.book.now) c.in-Whole.is c.contents.ensures) in (
+      files-within t.1 t.0,
+      (let d = c.in-Whole.c in
+          let b = c.args.book.now in
+          subst (DefinitionsAs d.names d.files (definitions_in b d) d.definitions (nodes_in b d) d.nodes) c.in-At.is c.definitions.ensures).0,
+    )
 
 pub returns-then-not-files : goal.returns-then-not-files
 unfolding part
 returns-then-not-files c =
-    let t = table (c.before.before.before.before.before.before.before.before.before.before.before.before) in
+    let t = (subst (ContentsAs c.args.book.now) c.in-Whole.is c.contents.ensures) in
     let d = c.in-Whole.c in
-    let b = (entry-after-rows c.before.before.before.before.before.before.before.before).args.book.now in
+    let b = c.args.book.now in
     reading-broken _ (λ r.
-    subst T ((definitions-good c.before.before.before).1 (run (entry_at (files_in b d)) 0 d.files) ∙ sym c.files.ensures ∙ c.if-not-files.true) (entries-good t.1 r))
+    subst T ((let d = c.in-Whole.c in
+    let b = c.args.book.now in
+    subst (DefinitionsAs d.names d.files (definitions_in b d) d.definitions (nodes_in b d) d.nodes) c.in-At.is c.definitions.ensures).1 (run (entry_at (files_in b d)) 0 d.files) ∙ sym c.files.ensures ∙ c.if-not-files.true) (entries-good t.1 r))
 
 pub returns : goal.returns
 unfolding part
 returns c =
-    let t = table (c.before.before.before.before.before.before.before.before.before.before.before.before) in
+    let t = (subst (ContentsAs c.args.book.now) c.in-Whole.is c.contents.ensures) in
     let d = c.in-Whole.c in
-    let b = (entry-after-rows c.before.before.before.before.before.before.before.before).args.book.now in
-    reading-whole (λ i. omega (arith, (shared-slice-known-after-trees c.before.before.before.before.before.before.before).type_inv.book i))
-    (all-good t.1 t.0 (c.names_fine.ensures.holds (c.if-not-names_fine.false)) (trees-good c.before.before.before.before.before.before)
-    (of-true _ ((definitions-good c.before.before.before).1 (run (entry_at (files_in b d)) 0 d.files) ∙ sym c.files.ensures ∙ c.if-not-files.false))) t.1
+    let b = c.args.book.now in
+    reading-whole (λ i. omega (arith, c.type_inv.book i))
+    (all-good t.1 t.0 (c.names_fine.ensures.holds (c.if-not-names_fine.false)) ((subst (TreesAs c.in-Whole.c.names Root (nodes_in c.args.book.now c.in-Whole.c) 0 c.in-Whole.c.nodes) c.in-Count.is c.trees.ensures).0)
+    (of-true _ ((let d = c.in-Whole.c in
+    let b = c.args.book.now in
+    subst (DefinitionsAs d.names d.files (definitions_in b d) d.definitions (nodes_in b d) d.nodes) c.in-At.is c.definitions.ensures).1 (run (entry_at (files_in b d)) 0 d.files) ∙ sym c.files.ensures ∙ c.if-not-files.false))) t.1
