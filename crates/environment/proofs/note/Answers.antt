@@ -1,7 +1,8 @@
 -- `note` meets its contract: each turn knows one end more. Assumes nothing.
+use Prim.Native.Nat.{◌≤◌}
 use mathlib.Core.Path.{sym, ◌∙◌}
 use native.Mathlib.Omega.{arith}
-use Rattle.environment.proofs.Links.{link-says}
+use Rattle.environment.proofs.Links.{Bound, link-says}
 use Rattle.environment.proofs.Names.{name-small, open-bound, note-start, note-inside, note-end, note-less, note-set, note-more, note-on}
 use Rattle.environment.proofs.note.Goals as goal
 
@@ -34,13 +35,13 @@ returns-then-s-eq-NONE c =
     note-set p.0 c.loop-ends.invariant c.loop-ends-test.true
 
 pub overflow_sub-e : goal.overflow_sub-e
-overflow_sub-e c = omega (
-  arith,
-  (let p = c.requires in
-      note-more p.0 c.loop-ends.invariant c.loop-ends-test.true (let p = c.requires in
-      let l = c.loop-ends.invariant in
-      open-bound l.table l.inside c.loop-ends-test.true (link-says p.0 p.1 _ _ c.step-s.ensures)) c.if-s-eq-NONE.false p.5.0 p.5.1),
-)
+overflow_sub-e c =
+    let link : (let a = c.args in Bound a.rows.now a.roots.now a.names a.nodes c.loop-ends.m c.step-s.result) = let p = c.requires in
+    let l = c.loop-ends.invariant in
+    open-bound l.table l.inside c.loop-ends-test.true (link-says p.0 p.1 _ _ c.step-s.ensures) in
+    let more : 65536 ≤ c.loop-ends.e = let p = c.requires in
+    note-more p.0 c.loop-ends.invariant c.loop-ends-test.true (link) c.if-s-eq-NONE.false p.5.0 p.5.1 in
+    omega (arith, more)
 
 pub loop-ends-smaller : goal.loop-ends-smaller
 loop-ends-smaller c =
@@ -49,13 +50,13 @@ loop-ends-smaller c =
 
 pub loop-ends-preserved : goal.loop-ends-preserved
 loop-ends-preserved c =
+    let link : (let a = c.args in Bound a.rows.now a.roots.now a.names a.nodes c.loop-ends.m c.step-s.result) = let p = c.requires in
+    let l = c.loop-ends.invariant in
+    open-bound l.table l.inside c.loop-ends-test.true (link-says p.0 p.1 _ _ c.step-s.ensures) in
+    let more : 65536 ≤ c.loop-ends.e = let p = c.requires in
+    note-more p.0 c.loop-ends.invariant c.loop-ends-test.true (link) c.if-s-eq-NONE.false p.5.0 p.5.1 in
     let p = c.requires in
-    note-on p.0 c.loop-ends.invariant c.loop-ends-test.true (let p = c.requires in
-    let l = c.loop-ends.invariant in
-    open-bound l.table l.inside c.loop-ends-test.true (link-says p.0 p.1 _ _ c.step-s.ensures)) c.if-s-eq-NONE.false (let p = c.requires in
-    note-more p.0 c.loop-ends.invariant c.loop-ends-test.true (let p = c.requires in
-    let l = c.loop-ends.invariant in
-    open-bound l.table l.inside c.loop-ends-test.true (link-says p.0 p.1 _ _ c.step-s.ensures)) c.if-s-eq-NONE.false p.5.0 p.5.1)
+    note-on p.0 c.loop-ends.invariant c.loop-ends-test.true (link) c.if-s-eq-NONE.false (more)
 
 pub shape_of-ends : goal.shape_of-ends
 shape_of-ends c = c.loop-ends.invariant.table.long ∙ sym c.requires.2.long
