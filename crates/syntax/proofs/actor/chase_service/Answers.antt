@@ -15,7 +15,7 @@ alias_end-chain-requires c = let p = c.requires in rw c.nodes-rows.ensures ((all
 pub service_at-requires : goal.service_at-requires
 service_at-requires c =
     let found : AliasAs (nodes_part c.args.book.now) c.args.roots.now c.args.c.nodes c.args.main c.args.node c.alias_end-chain.result = let e = c.alias_end-chain.ensures in
-    record { within = e.0; is = rw c.nodes-rows.ensures at e.1.0; crossed-is = rw c.nodes-rows.ensures at e.1.1.0; few = e.1.1.1 } in
+    record { within = e.within; is = rw c.nodes-rows.ensures at e.is; crossed-is = rw c.nodes-rows.ensures at e.crossed; few = e.few } in
     let t = (all-trees c.requires.0).nodes in
     let i = chase-inside t c.args.other (found) c.in-Ends.is in
     rw c.nodes-rows.ensures (record { held = omega (arith, i, t.within.held); few = t.within.few }, omega (arith, i, t.few_nodes))
@@ -23,17 +23,17 @@ service_at-requires c =
 pub returns-in-Unbound : goal.returns-in-Unbound
 returns-in-Unbound c =
     let found : AliasAs (nodes_part c.args.book.now) c.args.roots.now c.args.c.nodes c.args.main c.args.node c.alias_end-chain.result = let e = c.alias_end-chain.ensures in
-    record { within = e.0; is = rw c.nodes-rows.ensures at e.1.0; crossed-is = rw c.nodes-rows.ensures at e.1.1.0; few = e.1.1.1 } in
+    record { within = e.within; is = rw c.nodes-rows.ensures at e.is; crossed-is = rw c.nodes-rows.ensures at e.crossed; few = e.few } in
     chase-unbound (all-trees c.requires.0).nodes c.args.other (found) c.in-Unbound.is
 
 pub returns-in-Circle : goal.returns-in-Circle
 returns-in-Circle c =
     let found : AliasAs (nodes_part c.args.book.now) c.args.roots.now c.args.c.nodes c.args.main c.args.node c.alias_end-chain.result = let e = c.alias_end-chain.ensures in
-    record { within = e.0; is = rw c.nodes-rows.ensures at e.1.0; crossed-is = rw c.nodes-rows.ensures at e.1.1.0; few = e.1.1.1 } in
+    record { within = e.within; is = rw c.nodes-rows.ensures at e.is; crossed-is = rw c.nodes-rows.ensures at e.crossed; few = e.few } in
     chase-circle (all-trees c.requires.0).nodes c.args.other (found) c.in-Circle.is
 
 pub returns-in-Ends : goal.returns-in-Ends
 returns-in-Ends c =
     let found : AliasAs (nodes_part c.args.book.now) c.args.roots.now c.args.c.nodes c.args.main c.args.node c.alias_end-chain.result = let e = c.alias_end-chain.ensures in
-    record { within = e.0; is = rw c.nodes-rows.ensures at e.1.0; crossed-is = rw c.nodes-rows.ensures at e.1.1.0; few = e.1.1.1 } in
+    record { within = e.within; is = rw c.nodes-rows.ensures at e.is; crossed-is = rw c.nodes-rows.ensures at e.crossed; few = e.few } in
     rw (c.service_at.ensures, c.nodes-rows.ensures) (chase-ends (all-trees c.requires.0).nodes c.args.other (found) c.in-Ends.is)
