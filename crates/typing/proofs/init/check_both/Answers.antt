@@ -9,13 +9,6 @@ use Rattle.typing.specs.Init.{OwnPassed, Merged}
 use Rattle.typing.specs.Passing.{PassedBook}
 use Rattle.typing.proofs.init.Laws.{own-table, main-table, init-differs, init-merged, init-found, init-cleared}
 use Rattle.typing.proofs.init.check_both.Goals as goal
-use Rattle.typing.proofs.init.check_both.Goals.{Else-not-passed}
-
-joined : (c : Else-not-passed) {e both : List ℕ} →
-    let a = c.args in
-    (x : PassedBook a.book.now a.roots.now e a.p) → OwnPassed x.admitted a.own.now a.init a.main →
-    MergedAs a.own.now a.roots.now both → Merged x.admitted a.own.now a.roots.now both
-joined c x o = init-merged x.admitted o x.passed (c.merge-w.ensures x.admitted) (sym c.passed.ensures ∙ not-false _ c.if-not-passed.false)
 
 pub merge-w-requires : goal.merge-w-requires
 merge-w-requires c =
@@ -36,7 +29,7 @@ merged-requires c =
 pub check_seen-found-requires : goal.check_seen-found-requires
 check_seen-found-requires c =
     let p = c.requires in
-    (_, p.0.0, p.0.1, p.0.2, joined c p.0.1 p.0.2 c.merged.ensures)
+    (_, p.0.0, p.0.1, p.0.2, init-merged p.0.1.admitted p.0.2 p.0.1.passed (c.merge-w.ensures p.0.1.admitted) (sym c.passed.ensures ∙ c.if-not-passed.false) c.merged.ensures)
 
 pub clear-requires : goal.clear-requires
 clear-requires c = c.merged.ensures.long
@@ -44,11 +37,11 @@ clear-requires c = c.merged.ensures.long
 pub returns-then-not-passed-2 : goal.returns-then-not-passed-2
 returns-then-not-passed-2 c =
     λ e x o.
-    init-cleared (c.check_seen-found.ensures _ e x o (joined c x o c.merged.ensures))
+    init-cleared (c.check_seen-found.ensures _ e x o (init-merged x.admitted o x.passed (c.merge-w.ensures x.admitted) (sym c.passed.ensures ∙ c.if-not-passed.false) c.merged.ensures))
     (sym c.passed-2.ensures ∙ c.if-not-passed-2.true) c.clear.ensures
 
 pub returns : goal.returns
 returns c =
     λ e x o.
-    init-found (c.check_seen-found.ensures _ e x o (joined c x o c.merged.ensures))
+    init-found (c.check_seen-found.ensures _ e x o (init-merged x.admitted o x.passed (c.merge-w.ensures x.admitted) (sym c.passed.ensures ∙ c.if-not-passed.false) c.merged.ensures))
     (sym c.passed-2.ensures ∙ c.if-not-passed-2.false)

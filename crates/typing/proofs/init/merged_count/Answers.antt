@@ -6,6 +6,7 @@ use native.Mathlib.Omega.{arith}
 use Rattle.format.specs.Encode.{Entry}
 use Rattle.typing.proofs.init.Laws.{table-read, count-start, count-end, count-more, count-same}
 use Rattle.typing.proofs.init.merged_count.Goals as goal
+use Rattle.typing.proofs.init.merged_count.Goals.{then-init-e, else-init-e}
 
 pub loop-d-init : goal.loop-d-init
 loop-d-init c = count-start _ _ _ _
@@ -32,7 +33,10 @@ pub loop-d-smaller : goal.loop-d-smaller
 loop-d-smaller c = omega (arith, c.loop-d-test.true)
 
 pub loop-d-preserved : goal.loop-d-preserved
-loop-d-preserved c = let q = ap (λ (e : Entry). e.name) c.at-e.ensures in let w = c.requires.0.name _ (omega arith) c.loop-d-test.true in let x = table-read c.args.init.now q (omega (arith, q, w, c.requires.1, c.requires.2)) in ⊎_elim (λ i. count-more c.loop-d.invariant c.loop-d-test.true i.1 (sym x ∙ i.0.taken)) (λ i. count-same c.loop-d.invariant c.loop-d-test.true i.1 (λ e. i.0.left (x ∙ e))) c.if-init-e.branch
+loop-d-preserved c = let q = ap (λ (e : Entry). e.name) c.at-e.ensures in let w = c.requires.0.name _ (omega arith) c.loop-d-test.true in let x = table-read c.args.init.now q (omega (arith, q, w, c.requires.1, c.requires.2)) in elim c.if-init-e.branch [
+  | then-init-e w ↦ count-more c.loop-d.invariant c.loop-d-test.true w.n-is (sym x ∙ w.if-init-e.true)
+  | else-init-e w ↦ count-same c.loop-d.invariant c.loop-d-test.true w.n-is (λ e. w.if-init-e.false (x ∙ e))
+]
 
 pub returns : goal.returns
 returns c = count-end c.loop-d.invariant c.loop-d-test.false
