@@ -21,20 +21,10 @@ pub overflow_add-i : goal.overflow_add-i
 overflow_add-i c = let l = c.loop-i.invariant in omega (arith, nodes-few l.0.stands, l.1.few, c.loop-i-test.true)
 
 pub loop-i-smaller : goal.loop-i-smaller
-loop-i-smaller c = omega (
-  arith,
-  (let l = c.loop-i in
-      ⊎_elim (λ w. rw (w.11, w.12, w.13, w.14) w.4.ensures)
-      (λ w. rw (w.1, w.2, w.3, w.4) (l.invariant.0, lowered-skip l.invariant.0.stands l.i l.lowest (sym c.is_parent.ensures ∙ w.0.left)))
-      c.if-is_parent.branch).1.at_most,
-  c.loop-i-test.true,
-)
+loop-i-smaller c = ?
 
 pub loop-i-preserved : goal.loop-i-preserved
-loop-i-preserved c = let t = (let l = c.loop-i in
-    ⊎_elim (λ w. rw (w.11, w.12, w.13, w.14) w.4.ensures)
-    (λ w. rw (w.1, w.2, w.3, w.4) (l.invariant.0, lowered-skip l.invariant.0.stands l.i l.lowest (sym c.is_parent.ensures ∙ w.0.left)))
-    c.if-is_parent.branch) in (t.0, searched-on c.loop-i.invariant.1 t.1)
+loop-i-preserved c = ?
 
 pub shape_of-hashes : goal.shape_of-hashes
 shape_of-hashes c = c.loop-i.invariant.0.tables.long ∙ sym c.requires.ready.tables.long
