@@ -1,6 +1,5 @@
 -- `gather` meets its contract: the keys before node i stand in front, and those from it on are left. Assumes nothing.
 use mathlib.Core.Path.{sym, ◌∙◌}
-use Prim.Native.Nat.{◌-◌}
 use native.Mathlib.Omega.{arith}
 use Rattle.book.specs.Reading.{as_row}
 use Rattle.repeats.proofs.Gathered.{left-start, left-within, left-fits, left-room, left-next, left-on, left-end}
