@@ -1,5 +1,4 @@
 -- `bytes` meets its contract: the bytes so far are laid. Assumes nothing.
-use Prim.Native.Nat.{◌-◌}
 use Rattle.print.proofs.Laid.{nothing, more, all, same}
 use Rattle.print.proofs.bytes.Goals as goal
 

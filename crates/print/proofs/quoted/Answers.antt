@@ -1,5 +1,4 @@
 -- `quoted` meets its contract: the bytes so far are laid after the opening quote. Assumes nothing.
-use Prim.Native.Nat.{◌-◌}
 use Rattle.print.proofs.Laid.{same}
 use Rattle.print.proofs.Escapes.{escapes-start, escapes-on, escapes-end}
 use Rattle.print.proofs.quoted.Goals as goal

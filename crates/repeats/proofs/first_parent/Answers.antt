@@ -1,6 +1,5 @@
 -- `first_parent` meets its contract: the nodes before node i are skipped. Assumes nothing.
 use mathlib.Core.Path.{sym, ◌∙◌}
-use Prim.Native.Nat.{◌-◌}
 use native.Mathlib.Omega.{arith}
 use borrow.Author.Count.{below_more}
 use Rattle.repeats.proofs.first_parent.Goals as goal

@@ -1,6 +1,5 @@
 -- `gather` meets its contract: the keys before node i stand in front, and those from it on are left. Assumes nothing.
 use mathlib.Core.Path.{sym, ◌∙◌}
-use Prim.Native.Nat.{◌-◌}
 use native.Mathlib.Omega.{arith}
 use Rattle.book.specs.Reading.{as_row}
 use Rattle.repeats.proofs.Gathered.{left-start, left-within, left-fits, left-room, left-next, left-on, left-end}
@@ -18,13 +17,13 @@ key-requires c =
     record { tables = l.ready.tables; row_fits = rw c.at-node.ensures (left-fits l c.loop-i-test.true); book_value = l.ready.stands.laid }
 
 pub offset_bounds-keys-k : goal.offset_bounds-keys-k
-offset_bounds-keys-k c = omega (arith, (let l = c.loop-i.invariant in (left-room l c.loop-i-test.true, l.ready.room)))
+offset_bounds-keys-k c = let l = c.loop-i.invariant in omega (arith, left-room l c.loop-i-test.true, l.ready.room)
 
 pub bounds-keys-k : goal.bounds-keys-k
-bounds-keys-k c = omega (arith, (let l = c.loop-i.invariant in (left-room l c.loop-i-test.true, l.ready.room)))
+bounds-keys-k c = let l = c.loop-i.invariant in omega (arith, left-room l c.loop-i-test.true, l.ready.room)
 
 pub overflow_add-k : goal.overflow_add-k
-overflow_add-k c = omega (arith, (let l = c.loop-i.invariant in (left-room l c.loop-i-test.true, l.ready.room)))
+overflow_add-k c = let l = c.loop-i.invariant in omega (arith, left-room l c.loop-i-test.true, l.ready.room)
 
 pub overflow_add-i : goal.overflow_add-i
 overflow_add-i c = omega (

@@ -1,10 +1,9 @@
 -- `search` meets its contract: no repeat below a node before node i is lower than the lowest so far. Assumes nothing.
 use mathlib.Core.Path.{sym, ◌∙◌}
-use mathlib.Core.Logic.{⊎_elim}
-use Prim.Native.Nat.{◌-◌}
 use native.Mathlib.Omega.{arith}
 use Rattle.repeats.proofs.Searched.{nodes-few, row-within, searched-start, searched-on, lowered-skip, searched-end}
 use Rattle.repeats.proofs.search.Goals as goal
+use Rattle.repeats.proofs.search.Goals.{then-is_parent, else-is_parent}
 
 pub loop-i-init : goal.loop-i-init
 loop-i-init c = (c.requires.ready, searched-start c.requires.ready.stands c.requires.nodes_value c.requires.skipped)
@@ -21,20 +20,24 @@ pub overflow_add-i : goal.overflow_add-i
 overflow_add-i c = let l = c.loop-i.invariant in omega (arith, nodes-few l.0.stands, l.1.few, c.loop-i-test.true)
 
 pub loop-i-smaller : goal.loop-i-smaller
-loop-i-smaller c = omega (
-  arith,
-  (let l = c.loop-i in
-      ⊎_elim (λ w. rw (w.11, w.12, w.13, w.14) w.4.ensures)
-      (λ w. rw (w.1, w.2, w.3, w.4) (l.invariant.0, lowered-skip l.invariant.0.stands l.i l.lowest (sym c.is_parent.ensures ∙ w.0.left)))
-      c.if-is_parent.branch).1.at_most,
-  c.loop-i-test.true,
-)
+loop-i-smaller c =
+    elim c.if-is_parent.branch [
+      | then-is_parent w ↦ omega (arith, w.lowest-is, w.repeat_below-lowest.ensures.lowered.at_most)
+      | else-is_parent w ↦ omega (arith, w.lowest-is)
+    ]
 
 pub loop-i-preserved : goal.loop-i-preserved
-loop-i-preserved c = let t = (let l = c.loop-i in
-    ⊎_elim (λ w. rw (w.11, w.12, w.13, w.14) w.4.ensures)
-    (λ w. rw (w.1, w.2, w.3, w.4) (l.invariant.0, lowered-skip l.invariant.0.stands l.i l.lowest (sym c.is_parent.ensures ∙ w.0.left)))
-    c.if-is_parent.branch) in (t.0, searched-on c.loop-i.invariant.1 t.1)
+loop-i-preserved c =
+    let inv = c.loop-i.invariant in
+    elim c.if-is_parent.branch [
+      | then-is_parent w ↦
+          let found = w.repeat_below-lowest.ensures in
+          rw (w.hashes-is, w.known-is, w.keys-is, w.lowest-is)
+          (found.ready_2, searched-on inv.1 found.lowered)
+      | else-is_parent w ↦
+          rw (w.hashes-is, w.known-is, w.keys-is, w.lowest-is)
+          (inv.0, searched-on inv.1 (lowered-skip inv.0.stands _ _ (sym c.is_parent.ensures ∙ w.if-is_parent.false)))
+    ]
 
 pub shape_of-hashes : goal.shape_of-hashes
 shape_of-hashes c = c.loop-i.invariant.0.tables.long ∙ sym c.requires.ready.tables.long

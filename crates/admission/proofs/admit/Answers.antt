@@ -11,31 +11,17 @@ use Rattle.book.specs.Reading.{reading}
 use Rattle.book.proofs.Named.{broken-of, book-of}
 use Rattle.admission.specs.declared.Admission.TheVariants.{Refused}
 use Rattle.admission.specs.Admitting.{admission_of}
-use borrow.Author.Rules.{rules}
-use Rattle.admission.proofs.admit.Statement.{statement}
-use Rattle.admission.proofs.admit.Tie as tie
+use Rattle.admission.proofs.admit.Goals as goal
 
 broken-refused : (bs : List ℕ) (l : Limits) → Broken ≡ reading bs → Refused BrokenBook ≡ admission_of (admitted (bs under l))
 unfolding admission_of
 broken-refused bs l e = ap admission_of (sym (admission-refuses (bs under l) (is_broken (broken-of bs e))))
 
-layout-requires : tie.Need-layout-requires
-layout-requires c κs = search rules
+pub admit_whole-requires : goal.admit_whole-requires
+admit_whole-requires c = book-of _ _ (sym c.in-Whole.is ∙ c.layout.ensures)
 
-enum_told : tie.Need-enum-told
-enum_told c = search rules
+pub returns-in-Broken : goal.returns-in-Broken
+returns-in-Broken c = broken-refused _ _ (sym c.in-Broken.is ∙ c.layout.ensures)
 
-enum-known-c : tie.Need-enum-known-c
-enum-known-c c = search rules
-
-admit-whole-requires : tie.Need-admit-whole-requires
-admit-whole-requires c κs = book-of _ _ (sym c.before.c.given.1 ∙ c.before.before.before.layout.ensures)
-
-returns : tie.Need-returns
-returns c = broken-refused _ _ (sym c.enum_told.given.1 ∙ c.before.before.layout.ensures)
-
-returns-2 : tie.Need-returns-2
-returns-2 c = c.admit-whole.ensures
-
-pub admit-spec : {M : Type 1} → statement M
-admit-spec = tie.close (tie.spec layout-requires enum_told enum-known-c admit-whole-requires returns returns-2)
+pub returns-in-Whole : goal.returns-in-Whole
+returns-in-Whole c = c.admit_whole.ensures
