@@ -35,7 +35,7 @@ pub put_end-at-requires : goal.put_end-at-requires
 put_end-at-requires c =
     let p = c.requires in
     let l = c.loop-i.invariant in
-    let inside : c.before.before.before.loop.i < p.0.ended.count = omega (arith, served-until p.0.ended, ap (λ (q : Row). q.size) c.at-t.ensures, c.loop-i-test.true) in (
+    let inside : c.loop-i.i < p.0.ended.count = omega (arith, served-until p.0.ended, ap (λ (q : Row). q.size) c.at-t.ensures, c.loop-i-test.true) in (
       end-tested p.0 (inside) c.end_of-end.ensures.node-is,
       p.1,
       omega (arith, p.2, l.long),

@@ -47,7 +47,7 @@ pub loop-i-preserved-then-done-n-eq1 : goal.loop-i-preserved-then-done-n-eq1
 loop-i-preserved-then-done-n-eq1 c = infer-again c.loop-i.invariant c.loop-i-test.true _ refl _ c.root_of-root.ensures c.requires.0 c.if-root.false c.if-done-n-eq1.true
 
 pub overflow_cast-k : goal.overflow_cast-k
-overflow_cast-k c = omega (arith, c.root_of-root.type-inv)
+overflow_cast-k c = omega (arith, c.root_of-root.type_inv)
 
 pub at-t-requires : goal.at-t-requires
 at-t-requires c =
