@@ -1,5 +1,4 @@
 -- `chase_actor` meets its contract: the services that are left lead where all of them do. Assumes nothing.
-use Prim.Native.Nat.{◌-◌}
 use mathlib.Core.Path.{ap}
 use native.Mathlib.Omega.{arith}
 use Rattle.format.specs.Encode.{Row}

@@ -1,5 +1,4 @@
 -- `put_uses` meets its contract. Assumes nothing.
-use Prim.Native.Nat.{◌-◌}
 use native.Mathlib.Omega.{arith}
 use Rattle.analysis.proofs.def_use.Methods.{offered-arguments, offered-service, services-start, services-on, uses-most, uses-end}
 use Rattle.analysis.proofs.def_use.put_uses.Goals as goal
