@@ -1,5 +1,4 @@
 -- `chase` meets its contract: the rows that are left, and those that wait, lead where all of them do. Assumes nothing.
-use Prim.Native.Nat.{◌-◌}
 use mathlib.Core.Path.{refl, sym}
 use native.Mathlib.Omega.{arith}
 use native.Mathlib.Nat.{pos_of_ne-zero}

@@ -1,5 +1,4 @@
 -- `next_new` meets its contract: the nodes before are no new names. Assumes nothing.
-use Prim.Native.Nat.{◌-◌}
 use mathlib.Core.Path.{sym, ◌∙◌}
 use native.Mathlib.Omega.{arith}
 use Rattle.analysis.proofs.chase.NewNames.{scan-start, scan-end, scan-here, scan-found, scan-on}

@@ -18,7 +18,7 @@ pub bounds-out-at-3 : goal.bounds-out-at-3
 bounds-out-at-3 c =
     let a = c.args in
     let l = set a.out.now (3 * a.k) a.method in
-    omega (arith, length-set a.out.now (3 * a.k) a.method, length-set l (3 * a.k + 1) a.result, c.if-k-places.false, c.requires)
+    omega (arith, length-set a.out.now (3 * a.k) a.method, length-set l (3 * a.k + 1) a.res, c.if-k-places.false, c.requires)
 
 pub returns : goal.returns
 returns c = sym (put-stored _ _ _ _ c.if-k-places.false)

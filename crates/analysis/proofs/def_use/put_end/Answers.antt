@@ -27,4 +27,4 @@ shape_of-out c = c.put_func.ensures.most.long
 pub returns : goal.returns
 returns c =
     let a = c.args in
-    let p = c.put_func.ensures in record { most = p.0; puts = end-puts a.rows.now a.e a.method a.places a.k a.out.now c.if-e-eq-NONE.false (c.requires.0.whole c.if-e-eq-NONE.false) _ c.at-t.ensures c.if-t-ne-FUNC.false p.1 }
+    let p = c.put_func.ensures in record { most = p.most; puts = end-puts a.rows.now a.e a.method a.places a.k a.out.now c.if-e-eq-NONE.false (c.requires.0.whole c.if-e-eq-NONE.false) _ c.at-t.ensures c.if-t-ne-FUNC.false p.puts }

@@ -42,4 +42,4 @@ pub returns : goal.returns
 returns c =
     let p = c.put_trees-at.ensures in
     let q = c.put_trees.ensures in
-    let a = c.args in record { most = func-most c.requires.0 _ c.at-t.ensures c.skip-results.ensures p.0 q.0; puts = func-puts c.requires.0 _ c.at-t.ensures c.skip-results.ensures a.near.now a.method a.places a.k p.1 q.1 }
+    let a = c.args in record { most = func-most c.requires.0 _ c.at-t.ensures c.skip-results.ensures p.most q.most; puts = func-puts c.requires.0 _ c.at-t.ensures c.skip-results.ensures a.near.now a.method a.places a.k p.puts q.puts }

@@ -1,5 +1,5 @@
 -- `put_methods` meets its contract. Assumes nothing.
-use Prim.Native.Nat.{◌-◌, ◌<◌}
+use Prim.Native.Nat.{◌<◌}
 use mathlib.Core.Path.{ap}
 use native.Mathlib.Omega.{arith}
 use Rattle.format.specs.Encode.{Row}
@@ -35,8 +35,8 @@ pub put_end-at-requires : goal.put_end-at-requires
 put_end-at-requires c =
     let p = c.requires in
     let l = c.loop-i.invariant in
-    let inside : c.before.before.before.loop.i < p.0.ended.count = omega (arith, served-until p.0.ended, ap (λ (q : Row). q.size) c.at-t.ensures, c.loop-i-test.true) in (
-      end-tested p.0 (inside) c.end_of-end.ensures.node-is,
+    let inside : c.loop-i.i < p.0.ended.count = omega (arith, served-until p.0.ended, ap (λ (q : Row). q.size) c.at-t.ensures, c.loop-i-test.true) in (
+      end-tested p.0 inside c.end_of-end.ensures.node-is,
       p.1,
       omega (arith, p.2, l.long),
       omega (arith, p.4, l.few, methods-few l, c.loop-i-test.true),

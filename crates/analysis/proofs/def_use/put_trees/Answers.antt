@@ -1,5 +1,4 @@
 -- `put_trees` meets its contract. Assumes nothing.
-use Prim.Native.Nat.{◌-◌}
 use native.Mathlib.Omega.{arith}
 use Rattle.analysis.proofs.def_use.Trees.{trees-start, trees-most, trees-end, trees-within, trees-next, trees-on}
 use Rattle.analysis.proofs.def_use.put_trees.Goals as goal

@@ -1,5 +1,4 @@
 -- `put_uses` meets its contract. Assumes nothing.
-use Prim.Native.Nat.{◌-◌}
 use native.Mathlib.Omega.{arith}
 use Rattle.analysis.proofs.def_use.Methods.{offered-arguments, offered-service, services-start, services-on, uses-most, uses-end}
 use Rattle.analysis.proofs.def_use.put_uses.Goals as goal
@@ -47,7 +46,7 @@ pub loop-s-preserved : goal.loop-s-preserved
 loop-s-preserved c =
     let o = c.requires.0 in
     let e = c.put_methods-c.ensures in
-    services-on c.loop-s.invariant c.loop-s-test.true (omega (arith, c.good.1.1.1.1.1.0.1.0.1, o.few)) (o.book.tree _ (o.service c.loop-s.s c.loop-s-test.true)).whole e.0 e.1.0 e.1.1
+    services-on c.loop-s.invariant c.loop-s-test.true (omega (arith, c.well_formed.1.1.1.1.1.0.1.0.1, o.few)) (o.book.tree _ (o.service c.loop-s.s c.loop-s-test.true)).whole e.position e.most e.puts
 
 pub shape_of-out : goal.shape_of-out
 shape_of-out c =

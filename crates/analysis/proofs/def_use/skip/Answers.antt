@@ -1,5 +1,4 @@
 -- `skip` meets its contract. Assumes nothing.
-use Prim.Native.Nat.{◌-◌}
 use native.Mathlib.Nat.{pos_of_ne-zero}
 use native.Mathlib.Omega.{arith}
 use Rattle.analysis.proofs.def_use.Trees.{skip-start, skip-stop, skip-end, skip-within, skip-next, skip-on}

@@ -1,6 +1,5 @@
 -- `count_asked` meets its contract: the numbers from i on are still to be counted. Assumes nothing.
 use mathlib.Core.Path.{refl, sym}
-use Prim.Native.Nat.{◌-◌}
 use native.Mathlib.Omega.{arith}
 use Rattle.analysis.proofs.project.Counts.{asked-start, counts-few, asked-on, asked-end}
 use Rattle.analysis.proofs.project.count_asked.Goals as goal

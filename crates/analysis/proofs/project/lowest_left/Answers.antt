@@ -1,5 +1,4 @@
 -- `lowest_left` meets its contract: the names before n are not asked for. Assumes nothing.
-use Prim.Native.Nat.{◌-◌}
 use native.Mathlib.Omega.{arith}
 use Rattle.analysis.proofs.project.Counts.{lowest-start, lowest-on, lowest-found, lowest-end}
 use Rattle.analysis.proofs.project.lowest_left.Goals as goal

@@ -1,6 +1,5 @@
 -- `project_methods` meets its contract: the services that are left come to the same. Assumes nothing.
 use mathlib.Core.Path.{sym, ◌∙◌}
-use Prim.Native.Nat.{◌-◌}
 use native.Mathlib.Omega.{arith}
 use Rattle.analysis.proofs.project.Laws.{services-start, service-within, service-ends, service-methods, service-room, services-on, services-end}
 use Rattle.analysis.proofs.project.project_methods.Goals as goal

@@ -1,5 +1,4 @@
 -- `take_methods` meets its contract: the methods that are left come to the same. Assumes nothing.
-use Prim.Native.Nat.{◌-◌}
 use mathlib.Core.Path.{sym, ◌∙◌}
 use native.Mathlib.Omega.{arith}
 use Rattle.analysis.proofs.project.Laws.{methods-start, method-within, method-name, method-ends, method-room, methods-on, methods-end}

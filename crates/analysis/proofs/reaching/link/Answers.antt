@@ -1,5 +1,4 @@
 -- `reaching::link` meets its contract: one row more is linked each turn. Assumes nothing.
-use Prim.Native.Nat.{◌-◌}
 use mathlib.Core.Path.{refl, ap, ◌∙◌}
 use native.Mathlib.Omega.{arith}
 use lib.ListN.{length}

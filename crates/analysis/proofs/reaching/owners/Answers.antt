@@ -1,5 +1,4 @@
 -- `reaching::owners` meets its contract: the rows of one definition more are written each turn. Assumes nothing.
-use Prim.Native.Nat.{◌-◌}
 use mathlib.Core.Path.{refl, ap, ◌∙◌}
 use native.Mathlib.Omega.{arith}
 use lib.ListN.{length}
