@@ -20,10 +20,7 @@ use Rattle.listing.specs.Project.{project_from, projected, project}
 use Rattle.analysis.specs.Projecting.{Services}
 use Rattle.analysis.proofs.project.Laws.{interface-services, interface-projects}
 use Rattle.passed.proofs.Asking.{lacks-actor, has-actor, handed-as, handed-refused}
-use borrow.Author.Tests.{not-true, not-false}
-use borrow.Author.Rules.{rules}
-use Rattle.passed.proofs.project.project_passed.Statement.{statement}
-use Rattle.passed.proofs.project.project_passed.Tie as tie
+use Rattle.passed.proofs.project.project_passed.Goals as goal
 
 -- ---- The projection of a book that passed, as the code has it
 module _ {bs : List ℕ} {c : Contents} {a : Admitted bs c} {roots ends' : List ℕ} {p : Passed} (x : PassedAs a roots ends' p)
@@ -45,38 +42,12 @@ module _ {bs : List ℕ} {c : Contents} {a : Admitted bs c} {roots ends' : List 
         (interface-projects (x.offers (some-actor x is f)) l
         (subst (λ (ns : List ℕ). HandedAs (projected (project_from 0 (methods_in ns (take p.interface.count p.interface.services)) l)) out out' r) here h))
 
--- ---- The function
-has-actor-requires : tie.Need-has-actor-requires
-has-actor-requires c κs = search rules
+pub returns-then-not-has_actor : goal.returns-then-not-has_actor
+returns-then-not-has_actor c = λ b. handed-refused _ (project-lacks b.passed c.has_actor.ensures _ (c.if-not-has_actor.true))
 
-returns : tie.Need-returns
-returns c = λ b. handed-refused _ (project-lacks b.passed c.before.has-actor.ensures _ (not-true _ c.if1.true))
+pub project-requires : goal.project-requires
+project-requires c =
+    rw c.nodes-rows.ensures (services c.requires.passed c.has_actor.ensures (c.if-not-has_actor.false))
 
-nodes-requires : tie.Need-nodes-requires
-nodes-requires c κs = search rules
-
-slice-aggregate-project : tie.Need-slice-aggregate-project
-slice-aggregate-project c = search rules
-
-project-requires : tie.Need-project-requires
-project-requires c κs =
-    let at-if1 = c.before.before.before.before.before in
-    rw c.before.before.before.nodes.ensures (services at-if1.before.before.before.before.before.before.before.before.requires.passed at-if1.before.has-actor.ensures (not-false _ at-if1.if1.false))
-
-same_length : tie.Need-same-length
-same_length c = search rules
-
-returns-2 : tie.Need-returns-2
-returns-2 c = λ b. project-handed b.passed c.before.before.before.before.before.before.before.before.before.has-actor.ensures (not-false _ c.before.before.before.before.before.before.before.before.if1.false) c.before.before.before.before.before.before.nodes.ensures _ c.before.before.project.ensures
-
-pub project-passed-spec : {M : Type 1} → statement M
-project-passed-spec =
-    tie.close
-    (tie.spec
-    has-actor-requires
-    returns
-    nodes-requires
-    slice-aggregate-project
-    project-requires
-    same_length
-    returns-2)
+pub returns : goal.returns
+returns c = λ b. project-handed b.passed c.has_actor.ensures (c.if-not-has_actor.false) c.nodes-rows.ensures _ c.project.ensures

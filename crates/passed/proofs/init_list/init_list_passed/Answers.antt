@@ -26,9 +26,7 @@ use Rattle.refusals.proofs.Outcomes.{after-passed, after-stops}
 use Rattle.passed.proofs.Walks.{Walks, walk-says, walk-short}
 use Rattle.passed.proofs.Walks as walks
 use Rattle.passed.proofs.Asking.{handed-refused, handed-as}
-use borrow.Author.Rules.{rules}
-use Rattle.passed.proofs.init_list.init_list_passed.Statement.{statement}
-use Rattle.passed.proofs.init_list.init_list_passed.Tie as tie
+use Rattle.passed.proofs.init_list.init_list_passed.Goals as goal
 
 -- ---- The init list of a book that passed, as the code has it
 module _ {bs : List ℕ} {c : Contents} {a : Admitted bs c} {roots ends' : List ℕ} {p : Passed} (x : PassedAs a roots ends' p)
@@ -66,62 +64,17 @@ module _ {bs : List ℕ} {c : Contents} {a : Admitted bs c} {roots ends' : List 
           (after-passed (init_check a.book) _ (sym verdict-is ∙ e)
           ∙ ap (λ (t : Forest Node). walked (chase_types (both_definitions a.book) t)) (sym q.arguments))
 
--- ---- The function
-blank-requires : tie.Need-blank-requires
-blank-requires c κs = search rules
+pub returns-in-Refused : goal.returns-in-Refused
+returns-in-Refused c = λ b. handed-refused _ (init-refused b.passed (c.check_init_args-found.ensures _ b) c.in-Refused.is)
 
-slice-aggregate-check-init-args : tie.Need-slice-aggregate-check-init-args
-slice-aggregate-check-init-args c = search rules
+pub chase_types-w-requires : goal.chase_types-w-requires
+chase_types-w-requires c =
+    arguments c.requires.passed (c.check_init_args-found.ensures _ c.requires) c.in_default.is c.nodes-rows.ensures
 
-check-init-args-requires : tie.Need-check-init-args-requires
-check-init-args-requires c κs = search rules
+pub hand_walk-requires : goal.hand_walk-requires
+hand_walk-requires c =
+    walk-short (init-walks c.requires.passed (c.check_init_args-found.ensures _ c.requires) c.in_default.is c.nodes-rows.ensures _ c.chase_types-w.ensures)
 
-enum-known-v : tie.Need-enum-known-v
-enum-known-v c = search rules
-
-returns : tie.Need-returns
-returns c = λ b. handed-refused _ (init-refused b.passed (c.before.before.before.before.check-init-args.ensures _ b) c.before.v.given.1)
-
-enum_told : tie.Need-enum-told
-enum_told c = search rules
-
-nodes-requires : tie.Need-nodes-requires
-nodes-requires c κs = search rules
-
-slice-aggregate-chase-types : tie.Need-slice-aggregate-chase-types
-slice-aggregate-chase-types c = search rules
-
-chase-types-requires : tie.Need-chase-types-requires
-chase-types-requires c κs =
-    let at-check-init-args = c.before.before.before.before.before.before in
-    arguments at-check-init-args.before.before.before.before.before.before.before.pre.passed (at-check-init-args.check-init-args.ensures _ at-check-init-args.before.before.before.before.before.before.before.pre) c.before.before.before.enum_told.given.1 c.before.nodes.ensures
-
-hand-walk-requires : tie.Need-hand-walk-requires
-hand-walk-requires c κs =
-    let at-check-init-args = c.before.before.before.before.before.before.before.before in
-    walk-short (init-walks at-check-init-args.before.before.before.before.before.before.before.pre.passed (at-check-init-args.check-init-args.ensures _ at-check-init-args.before.before.before.before.before.before.before.pre) c.before.before.before.before.before.enum_told.given.1 c.before.before.before.nodes.ensures _ c.before.chase-types.ensures)
-
-same_length : tie.Need-same-length
-same_length c = search rules
-
-returns-2 : tie.Need-returns-2
-returns-2 c =
-    let at-hand-walk = c.before.before in
-    λ b. handed-as (init-says b.passed (at-hand-walk.before.before.before.before.before.before.before.before.before.check-init-args.ensures _ b) at-hand-walk.before.before.before.before.before.before.enum_told.given.1 at-hand-walk.before.before.before.before.nodes.ensures _ at-hand-walk.before.before.chase-types.ensures) at-hand-walk.hand-walk.ensures
-
-pub init-list-passed-spec : {M : Type 1} → statement M
-init-list-passed-spec =
-    tie.close
-    (tie.spec
-    blank-requires
-    slice-aggregate-check-init-args
-    check-init-args-requires
-    enum-known-v
-    returns
-    enum_told
-    nodes-requires
-    slice-aggregate-chase-types
-    chase-types-requires
-    hand-walk-requires
-    same_length
-    returns-2)
+pub returns : goal.returns
+returns c =
+    λ b. handed-as (init-says b.passed (c.check_init_args-found.ensures _ b) c.in_default.is c.nodes-rows.ensures _ c.chase_types-w.ensures) c.hand_walk.ensures

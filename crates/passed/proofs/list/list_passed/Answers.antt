@@ -26,10 +26,7 @@ use Rattle.passed.specs.Answers.{walk_outcome}
 use Rattle.passed.proofs.Asking.{lacks-actor, has-actor, handed-refused, handed-as}
 use Rattle.passed.proofs.Walks.{Walks, walk-says, walk-short}
 use Rattle.passed.proofs.Walks as walks
-use borrow.Author.Tests.{not-true, not-false}
-use borrow.Author.Rules.{rules}
-use Rattle.passed.proofs.list.list_passed.Statement.{statement}
-use Rattle.passed.proofs.list.list_passed.Tie as tie
+use Rattle.passed.proofs.list.list_passed.Goals as goal
 
 -- ---- The list of a book that passed, as the code has it
 module _ {bs : List ℕ} {c : Contents} {a : Admitted bs c} {roots ends' : List ℕ} {p : Passed} (x : PassedAs a roots ends' p) where
@@ -60,38 +57,15 @@ module _ {bs : List ℕ} {c : Contents} {a : Admitted bs c} {roots ends' : List 
           walk-says list-walks
           (has-actor x is _ f ∙ ap (λ (t : Forest Node). walked (chase_types (main_definitions a.book) t)) (sym x.tree))
 
--- ---- The function
-has-actor-requires : tie.Need-has-actor-requires
-has-actor-requires c κs = search rules
+pub returns-then-not-has_actor : goal.returns-then-not-has_actor
+returns-then-not-has_actor c = λ b. handed-refused _ (list-lacks b.passed c.has_actor.ensures (c.if-not-has_actor.true))
 
-returns : tie.Need-returns
-returns c = λ b. handed-refused _ (list-lacks b.passed c.before.has-actor.ensures (not-true _ c.if1.true))
+pub chase_actor-w-requires : goal.chase_actor-w-requires
+chase_actor-w-requires c = rw c.nodes-rows.ensures (interface-in c.requires.passed, counted c.requires.passed)
 
-nodes-requires : tie.Need-nodes-requires
-nodes-requires c κs = search rules
+pub hand_walk-requires : goal.hand_walk-requires
+hand_walk-requires c =
+    walk-short (list-walks c.requires.passed c.has_actor.ensures c.nodes-rows.ensures _ c.chase_actor-w.ensures)
 
-chase-actor-requires : tie.Need-chase-actor-requires
-chase-actor-requires c κs = rw c.nodes.ensures (interface-in c.before.before.before.before.before.before.before.before.before.requires.passed, counted c.before.before.before.before.before.before.before.before.before.requires.passed)
-
-hand-walk-requires : tie.Need-hand-walk-requires
-hand-walk-requires c κs =
-    let at-nodes = c.before.before in
-    walk-short (list-walks at-nodes.before.before.before.before.before.before.before.before.before.requires.passed at-nodes.before.before.before.has-actor.ensures at-nodes.nodes.ensures _ c.before.chase-actor.ensures)
-
-same_length : tie.Need-same-length
-same_length c = search rules
-
-returns-2 : tie.Need-returns-2
-returns-2 c = λ b. handed-as (list-says b.passed c.before.before.before.before.before.before.before.before.has-actor.ensures c.before.before.before.before.before.nodes.ensures _ c.before.before.before.before.chase-actor.ensures (not-false _ c.before.before.before.before.before.before.before.if1.false)) c.before.before.hand-walk.ensures
-
-pub list-passed-spec : {M : Type 1} → statement M
-list-passed-spec =
-    tie.close
-    (tie.spec
-    has-actor-requires
-    returns
-    nodes-requires
-    chase-actor-requires
-    hand-walk-requires
-    same_length
-    returns-2)
+pub returns : goal.returns
+returns c = λ b. handed-as (list-says b.passed c.has_actor.ensures c.nodes-rows.ensures _ c.chase_actor-w.ensures (c.if-not-has_actor.false)) c.hand_walk.ensures

@@ -26,9 +26,7 @@ use Rattle.analysis.proofs.recursive.Rows.{nothing-held}
 use Rattle.analysis.proofs.recursive.Answers.{marked-stopped, marked-long, marked-given}
 use Rattle.refusals.proofs.Outcomes.{after-passed}
 use Rattle.passed.proofs.Asking.{handed-refused, handed-as}
-use borrow.Author.Rules.{rules}
-use Rattle.passed.proofs.marks.marks_passed.Statement.{statement}
-use Rattle.passed.proofs.marks.marks_passed.Tie as tie
+use Rattle.passed.proofs.marks.marks_passed.Goals as goal
 
 -- ---- The marks of a book that passed, as the code has them
 module _ {bs : List ℕ} {c : Contents} {a : Admitted bs c} {roots ends' : List ℕ} {p : Passed} (x : PassedAs a roots ends' p) where
@@ -72,52 +70,19 @@ module _ {bs : List ℕ} {c : Contents} {a : Admitted bs c} {roots ends' : List 
           ∙ marked-given p.contents.names (infer_rec (main_definitions a.book) l) m h f names-few
           ∙ ap given (sym e)
 
--- ---- The function
-nodes-requires : tie.Need-nodes-requires
-nodes-requires c κs = search rules
+pub infer_rec-m-requires : goal.infer_rec-m-requires
+infer_rec-m-requires c = marks-from c.requires.passed c.nodes-rows.ensures c.no_marks-fresh.ensures
 
-no-marks-requires : tie.Need-no-marks-requires
-no-marks-requires c κs = search rules
+pub returns-then-m : goal.returns-then-m
+returns-then-m c = λ b. handed-refused _ (marks-stop b.passed c.nodes-rows.ensures c.no_marks-fresh.ensures _ _ c.infer_rec-m.ensures c.if-m.true)
 
-infer-rec-requires : tie.Need-infer-rec-requires
-infer-rec-requires c κs = marks-from c.before.before.before.before.before.before.before.before.requires.passed c.before.nodes.ensures c.no-marks.ensures
+pub names_of-found-requires : goal.names_of-found-requires
+names_of-found-requires c =
+    let x = c.requires.passed in
+    marks-ready x c.nodes-rows.ensures c.no_marks-fresh.ensures _ _ c.infer_rec-m.ensures c.if-m.false
 
-returns : tie.Need-returns
-returns c = λ b. handed-refused _ (marks-stop b.passed c.before.before.before.nodes.ensures c.before.before.no-marks.ensures _ _ c.before.infer-rec.ensures c.if1.true)
-
-slice-aggregate-names-of : tie.Need-slice-aggregate-names-of
-slice-aggregate-names-of c = search rules
-
-names-of-requires : tie.Need-names-of-requires
-names-of-requires c κs =
-    let at-if1 = c.before.before in
-    let at-infer = at-if1.before in
-    let x = at-infer.before.before.before.before.before.before.before.before.before.requires.passed in
-    marks-ready x at-infer.before.before.nodes.ensures at-infer.before.no-marks.ensures _ _ at-infer.infer-rec.ensures at-if1.if1.false
-
-hand-names-requires : tie.Need-hand-names-requires
-hand-names-requires c κs = search rules
-
-same_length : tie.Need-same-length
-same_length c = search rules
-
-returns-2 : tie.Need-returns-2
-returns-2 c =
-    let at-if1 = c.before.before.before.before.before.before.before in
+pub returns : goal.returns
+returns c =
     λ b. handed-as
-    (marks-given b.passed at-if1.before.before.before.nodes.ensures at-if1.before.before.no-marks.ensures _ _ at-if1.before.infer-rec.ensures at-if1.if1.false c.before.before.before.before.names-of.ensures.0)
-    c.before.before.hand-names.ensures
-
-pub marks-passed-spec : {M : Type 1} → statement M
-marks-passed-spec =
-    tie.close
-    (tie.spec
-    nodes-requires
-    no-marks-requires
-    infer-rec-requires
-    returns
-    slice-aggregate-names-of
-    names-of-requires
-    hand-names-requires
-    same_length
-    returns-2)
+    (marks-given b.passed c.nodes-rows.ensures c.no_marks-fresh.ensures _ _ c.infer_rec-m.ensures c.if-m.false c.names_of-found.ensures.0)
+    c.hand_names.ensures

@@ -20,9 +20,7 @@ use Rattle.typing.proofs.prog.Book.{tabled, names-are}
 use Rattle.listing.specs.Empty.{replace_empty, empty_names, emptiness}
 use Rattle.refusals.proofs.Outcomes.{after-passed}
 use Rattle.passed.proofs.Asking.{handed-as}
-use borrow.Author.Rules.{rules}
-use Rattle.passed.proofs.empty.emptiness_passed.Statement.{statement}
-use Rattle.passed.proofs.empty.emptiness_passed.Tie as tie
+use Rattle.passed.proofs.empty.emptiness_passed.Goals as goal
 
 -- ---- The empty names of a book that passed, as the code has them
 module _ {bs : List ℕ} {c : Contents} {a : Admitted bs c} {roots ends' : List ℕ} {p : Passed} (x : PassedAs a roots ends' p) where
@@ -49,36 +47,11 @@ module _ {bs : List ℕ} {c : Contents} {a : Admitted bs c} {roots ends' : List 
         ∙ ap (λ (n : ℕ). given (replace_empty (main_definitions a.book) n)) (sym (names-are x))
         ∙ ap given (sym (h.is (main_definitions a.book) (tabled x).0) ∙ sym e)
 
--- ---- The function
-nodes-requires : tie.Need-nodes-requires
-nodes-requires c κs = search rules
+pub replace_empty-flags-requires : goal.replace_empty-flags-requires
+replace_empty-flags-requires c = rw c.nodes-rows.ensures (ready c.requires.passed)
 
-replace-empty-requires : tie.Need-replace-empty-requires
-replace-empty-requires c κs = rw c.nodes.ensures (ready c.before.before.before.before.before.before.requires.passed)
+pub names_of-found-requires : goal.names_of-found-requires
+names_of-found-requires c = empty-flags c.requires.passed c.nodes-rows.ensures c.replace_empty-flags.ensures
 
-slice-aggregate-names-of : tie.Need-slice-aggregate-names-of
-slice-aggregate-names-of c = search rules
-
-names-of-requires : tie.Need-names-of-requires
-names-of-requires c κs = empty-flags c.before.before.before.before.before.before.before.before.requires.passed c.before.before.nodes.ensures c.before.replace-empty.ensures
-
-hand-names-requires : tie.Need-hand-names-requires
-hand-names-requires c κs = search rules
-
-same_length : tie.Need-same-length
-same_length c = search rules
-
-returns : tie.Need-returns
-returns c = λ b. handed-as (empty-given b.passed c.before.before.before.before.before.before.before.nodes.ensures c.before.before.before.before.before.before.replace-empty.ensures c.before.before.before.before.names-of.ensures.0) c.before.before.hand-names.ensures
-
-pub emptiness-passed-spec : {M : Type 1} → statement M
-emptiness-passed-spec =
-    tie.close
-    (tie.spec
-    nodes-requires
-    replace-empty-requires
-    slice-aggregate-names-of
-    names-of-requires
-    hand-names-requires
-    same_length
-    returns)
+pub returns : goal.returns
+returns c = λ b. handed-as (empty-given b.passed c.nodes-rows.ensures c.replace_empty-flags.ensures c.names_of-found.ensures.0) c.hand_names.ensures
