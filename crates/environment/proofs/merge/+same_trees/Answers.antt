@@ -69,7 +69,7 @@ returns-then-not-same_node t c =
       is = c.at-t.ensures;
       at = c.at-u.ensures;
     } in
-    same-node (turn) c.same_node.ensures (c.if-not-same_node.true)
+    same-node turn c.same_node.ensures (c.if-not-same_node.true)
 
 pub place_below-below-requires : goal.place_below-below-requires
 place_below-below-requires t c = tt
@@ -84,7 +84,7 @@ overflow_add-i t c =
       is = c.at-t.ensures;
       at = c.at-u.ensures;
     } in
-    omega (arith, (first-few (turn)).0)
+    omega (arith, (first-few turn).0)
 
 pub overflow_add-i-in-loop-i : goal.overflow_add-i-in-loop-i
 overflow_add-i-in-loop-i t c =
@@ -96,7 +96,7 @@ overflow_add-i-in-loop-i t c =
       is = c.at-t.ensures;
       at = c.at-u.ensures;
     } in
-    omega (arith, (first-few (turn)).1)
+    omega (arith, (first-few turn).1)
 
 pub overflow_add-j : goal.overflow_add-j
 overflow_add-j t c =
@@ -108,7 +108,7 @@ overflow_add-j t c =
       is = c.at-t.ensures;
       at = c.at-u.ensures;
     } in
-    omega (arith, (second-few (turn)).0)
+    omega (arith, (second-few turn).0)
 
 pub overflow_add-j-in-loop-i : goal.overflow_add-j-in-loop-i
 overflow_add-j-in-loop-i t c =
@@ -120,7 +120,7 @@ overflow_add-j-in-loop-i t c =
       is = c.at-t.ensures;
       at = c.at-u.ensures;
     } in
-    omega (arith, (second-few (turn)).1)
+    omega (arith, (second-few turn).1)
 
 pub same_trees-requires : goal.same_trees-requires
 same_trees-requires t c =
@@ -145,7 +145,7 @@ returns-then-not-same_trees t c =
       is = c.at-t.ensures;
       at = c.at-u.ensures;
     } in
-    same-kids (turn) c.same_node.ensures (c.if-not-same_node.false) _ c.place_below-below.ensures
+    same-kids turn c.same_node.ensures (c.if-not-same_node.false) _ c.place_below-below.ensures
     c.same_trees.ensures (c.if-not-same_trees.true)
 
 pub overflow_add-i-in-loop-i-2 : goal.overflow_add-i-in-loop-i-2
@@ -158,7 +158,7 @@ overflow_add-i-in-loop-i-2 t c =
       is = c.at-t.ensures;
       at = c.at-u.ensures;
     } in
-    omega (arith, (first-few (turn)).1)
+    omega (arith, (first-few turn).1)
 
 pub overflow_add-j-in-loop-i-2 : goal.overflow_add-j-in-loop-i-2
 overflow_add-j-in-loop-i-2 t c =
@@ -170,7 +170,7 @@ overflow_add-j-in-loop-i-2 t c =
       is = c.at-t.ensures;
       at = c.at-u.ensures;
     } in
-    omega (arith, (second-few (turn)).1)
+    omega (arith, (second-few turn).1)
 
 pub loop-i-smaller : goal.loop-i-smaller
 loop-i-smaller t c =
@@ -182,7 +182,7 @@ loop-i-smaller t c =
       is = c.at-t.ensures;
       at = c.at-u.ensures;
     } in
-    omega (arith, first-size (turn))
+    omega (arith, first-size turn)
 
 pub loop-i-preserved : goal.loop-i-preserved
 loop-i-preserved t c =
@@ -194,7 +194,7 @@ loop-i-preserved t c =
       is = c.at-t.ensures;
       at = c.at-u.ensures;
     } in
-    same-on (turn) c.same_node.ensures (c.if-not-same_node.false) _ c.place_below-below.ensures
+    same-on turn c.same_node.ensures (c.if-not-same_node.false) _ c.place_below-below.ensures
     c.same_trees.ensures (c.if-not-same_trees.false)
 
 pub returns : goal.returns

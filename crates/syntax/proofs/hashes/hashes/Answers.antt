@@ -72,7 +72,7 @@ slice_bounds-met-end c =
 pub slice_bounds-has-end : goal.slice_bounds-has-end
 slice_bounds-has-end c =
     let few : c.loop-i.k ≤ length c.loop-i.met = omega (arith, hashes-few c.requires.1 c.loop-i.invariant.left, c.loop-i.invariant.left.long) in
-    sym (length-take-le _ _ (few))
+    sym (length-take-le _ _ few)
 
 pub slice_bounds-has-end-in-loop-i : goal.slice_bounds-has-end-in-loop-i
 slice_bounds-has-end-in-loop-i c = sym c.loop-i.invariant.left.buckets.nexts
