@@ -64,6 +64,7 @@ below-count f = go (is_class f)
 
 body-count : (ds : List Definition) (d : Definition) → Memᴰ d ds → count d.body ≤ count (bodies ds)
 unfolding bodies
+body-count [] d m = absurd (Memᴰ.not-nil m)
 body-count (e ∷ ds) d (Memᴰ.head q) = omega (arith, count-beside e.body (bodies ds), ap (λ (x : Definition). count x.body) q)
 body-count (e ∷ ds) d (Memᴰ.tail m) = omega (arith, count-beside e.body (bodies ds), body-count ds d m)
 
@@ -124,6 +125,7 @@ arguments-breadth t = go (is_class t)
 
 imports-count : (fs : List File) (f : File) → Memᴰ f (service_imports fs) → count f.actor ≤ count (actors fs)
 unfolding service_imports actors
+imports-count [] f m = absurd (Memᴰ.not-nil m)
 imports-count (g ∷ fs) f m = go (is_service_import g.role) (imports-count fs f) m
   where
     go : (c : Bool) → (Memᴰ f (service_imports fs) → count f.actor ≤ count (actors fs)) →

@@ -92,6 +92,7 @@ module _ {u n : ℕ} where
 
   pub earlier-place : {l : List ℕ} → Distinct l → Earlier u n l → place l u < place l n
   unfolding place
+  earlier-place none x3 = elim x3 [ ]
   earlier-place (more new d) (now {l = l} i) =
       rw (if_pos (ℕ_discrete u u) refl, if_neg (ℕ_discrete n u) (λ e. new (Memᴰ.cast (sym e) i))) (omega arith)
   earlier-place (more new d) (later {m = m} {l = l} e) =

@@ -162,7 +162,7 @@ name-noted {p} {Q} {s} v h = look (member v h.seen) refl (member-says v h.seen)
 all-noted : {p : List ℕ} {Q : ℕ → Type 0} {s : Marks} (vs : List ℕ) → Noted p Q s → Noted p (OrIn p Q vs) (each note_name vs s)
 unfolding each
 all-noted [] h = noted-as (λ n. (inl, ⊎_elim (λ q. q) (λ x. absurd (Memᴰ.not-nil x.0)))) h
-all-noted {p} {Q} (v ∷ vs) h = noted-as (λ n. (join n, part n)) (all-noted vs (name-noted v h))
+all-noted {p} {Q} (v ∷ vs) h = noted-as (λ n. (join n, part n)) (all-noted {Q = OrIn p Q (v ∷ [])} vs (name-noted v h))
   where
     join : (n : ℕ) → OrIn p (OrIn p Q (v ∷ [])) vs n → OrIn p Q (v ∷ vs) n
     join n = ⊎_elim (⊎_elim inl (λ x. inr (Memᴰ.append_left vs x.0, x.1))) (λ x. inr (Memᴰ.tail x.0, x.1))
@@ -235,7 +235,7 @@ module _ (ds : List Definition) (distinct : Distinct (map formed.defined_name ds
   infer-noted {p} [] all h = (p, noted-as (λ n. (inl, ⊎_elim (λ q. q) no-place)) h)
   infer-noted {p} {Q} (u ∷ l) all h =
       let f = find-defined ds u (all u (Memᴰ.head refl)) in
-      let r = infer-noted l (λ n i. all n (Memᴰ.tail i)) (listed-noted u f.1 h) in
+      let r = infer-noted {p = u ∷ p} {Q = OrRefers p Q u} l (λ n i. all n (Memᴰ.tail i)) (listed-noted u f.1 h) in
       (r.0, noted-as (λ n. (join n, part n)) r.1)
     where
       join : (n : ℕ) → OrRefers p Q u n ⊎ After (u ∷ p) l n → Q n ⊎ After p (u ∷ l) n
@@ -268,7 +268,7 @@ module _ (ds : List Definition) (distinct : Distinct (map formed.defined_name ds
   infer-first : {p : List ℕ} {Q : ℕ → Type 0} {s : Marks} (l : List ℕ) (n : ℕ) → Noted p Q s → (infer_from ds l s ≡ unbound n) ↔ FirstUnbound ds l n
   unfolding infer_from listed
   infer-first [] n h = (λ e. let z : ◌≡◌ {A = ℕ} 0 1 = cc in absurd (omega arith), no-place)
-  infer-first {p} {Q} {s} (u ∷ l) n h = look (found-cases (find_type ds u)) (λ t e. infer-first l n (listed-noted u e h))
+  infer-first {p} {Q} {s} (u ∷ l) n h = look (found-cases (find_type ds u)) (λ t e. infer-first {p = u ∷ p} {Q = OrRefers p Q u} l n (listed-noted u e h))
     where
       look : (find_type ds u ≡ missing) ⊎ ((t : Forest Node) × (find_type ds u ≡ body t)) →
           ((t : Forest Node) → find_type ds u ≡ body t → (infer_from ds l (listed ds u (find_type ds u) s) ≡ unbound n) ↔ FirstUnbound ds l n) →

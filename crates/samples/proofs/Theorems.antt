@@ -2,7 +2,8 @@
 --     all-read    by computation, the one theorem of the table
 --     all-fit     so each book fits, and the bytes are its encoding
 use mathlib.Core.Path.{◌≡◌, refl, ap, ◌∙◌, sym}
-use mathlib.Core.List.{List, ◌∷◌, map, Memᴰ, head-eq_of_cons-eq, tail-eq_of_cons-eq}
+use mathlib.Core.List.{List, [], ◌∷◌, map, Memᴰ, head-eq_of_cons-eq, tail-eq_of_cons-eq}
+use mathlib.Core.List.Memᴰ
 use Rattle.format.specs.Encode.{encode}
 use Rattle.format.specs.Fits.{Fits}
 use Rattle.format.specs.Layout.{layout, whole}
@@ -12,6 +13,7 @@ use Rattle.samples.proofs.Computed.{layout-computed, samples-computed}
 
 -- Two columns that are equal as lists are equal in every row.
 pub in-row : {A B : Type 0} (f g : A → B) (l : List A) → map f l ≡ map g l → (a : A) → Memᴰ a l → f a ≡ g a
+in-row f g [] e a m = absurd (Memᴰ.not-nil m)
 in-row f g (b ∷ l) e a (Memᴰ.head h) = ap f h ∙ head-eq_of_cons-eq e ∙ ap g (sym h)
 in-row f g (b ∷ l) e a (Memᴰ.tail m) = in-row f g l (tail-eq_of_cons-eq e) a m
 

@@ -64,15 +64,15 @@ pub node_fine-requires : goal.node_fine-requires
 node_fine-requires t c = tt
 
 -- Past the call: the children are good, and counted.
-below : {rows : List ℕ} {names i size kind kids : ℕ} {q : Place} {w : Walked} → q ≡ below_kind kind → w ≡ Count kids → Below rows names i size q w
+below : {rows : List ℕ} {names : ℕ} (i size kind : ℕ) {kids : ℕ} {q : Place} {w : Walked} → q ≡ below_kind kind → w ≡ Count kids → Below rows names i size q w
     → Below rows names i size (below_kind kind) (Count kids)
-below {rows} {names} {i} {size} {kind} {kids} {q} e f h = subst (λ (q : Place). Below rows names i size q (Count kids)) e (subst (Below rows names i size q) f h)
+below {rows} {names} i size kind {kids} {q} e f h = subst (λ (q : Place). Below rows names i size q (Count kids)) e (subst (Below rows names i size q) f h)
 
 pub returns-then-not-node_fine : goal.returns-then-not-node_fine
 returns-then-not-node_fine t c =
     trees-row c.loop-i.invariant c.loop-i-test.true _ c.at-node.ensures
     c.if-size-eq0.false c.if-until-i.false _
-    (below c.place_below.ensures c.in-Count.is c.trees.ensures) (sym c.node_fine.ensures ∙ c.if-not-node_fine.true)
+    (below _ _ c.at-node.result.kind c.place_below.ensures c.in-Count.is c.trees.ensures) (sym c.node_fine.ensures ∙ c.if-not-node_fine.true)
 
 pub overflow_add-count : goal.overflow_add-count
 overflow_add-count t c = omega (arith, c.loop-i.invariant.few, c.loop-i-test.true, c.ranges.until)
@@ -87,7 +87,7 @@ pub loop-i-preserved : goal.loop-i-preserved
 loop-i-preserved t c =
     trees-on c.loop-i.invariant c.loop-i-test.true _ c.at-node.ensures
     c.if-size-eq0.false c.if-until-i.false _
-    (below c.place_below.ensures c.in-Count.is c.trees.ensures) (sym c.node_fine.ensures ∙ c.if-not-node_fine.false)
+    (below _ _ c.at-node.result.kind c.place_below.ensures c.in-Count.is c.trees.ensures) (sym c.node_fine.ensures ∙ c.if-not-node_fine.false)
 
 pub returns : goal.returns
 returns t c = trees-end c.loop-i.invariant c.loop-i-test.false
