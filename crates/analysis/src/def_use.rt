@@ -21,7 +21,7 @@ const CLASS: u16 = 65535;
 // Entry k, where it has a place.
 fn put(out: &mut [u16], places: usize, k: usize, method: u16, res: u16, index: u16)
     requires { 3 * places ≤ length out.old }
-    ensures* { λ _. ⌜ out.new ≡ put places k (record { method = method; result = res; index = index }) out.old ⌝ }
+    ensures { out.new ≡ put places k (record { method = method; result = res; index = index }) out.old }
 {
     if k >= places {
         return;
@@ -45,8 +45,8 @@ fn put_tree(
     out: &mut [u16],
 ) -> usize
     requires { (length near.now ≡ 4097) × (i < 4096) × (3 * places ≤ length out.old) × (k < 4294967295) }
-    ensures* { λ r. ⌜ Puts places k (cond (hit near.now i next) (record { method = method; result = res; index = index } ∷ []) [])
-        out.old out.new r ⌝ }
+    ensures { Puts places k (cond (hit near.now i next) (record { method = method; result = res; index = index } ∷ []) [])
+        out.old out.new result }
 {
     if near[i] as usize >= next {
         return k;

@@ -111,11 +111,17 @@ pub(crate) fn reply(
 }
 
 // A number of an answer, at this place of the list, as what it is: a use is three numbers with points between.
-pub(crate) fn print_number(question: Question, place: usize, number: u16, book: &[u8]) {
+pub(crate) fn print_number(
+    rt: &HostRuntime,
+    question: Question,
+    place: usize,
+    number: u16,
+    book: &[u8],
+) {
     match question {
-        Question::Uses => crate::asking::print_of_use(place % 3 == 0, number),
-        Question::Projection => crate::lines::counts(b" ", number as usize),
-        _ => crate::lines::name(book::name(book, number)),
+        Question::Uses => crate::asking::print_of_use(rt, place % 3 == 0, number),
+        Question::Projection => crate::lines::counts(rt, b" ", number as usize),
+        _ => crate::lines::name(rt, book::name(book, number)),
     }
 }
 
@@ -132,47 +138,53 @@ pub(crate) fn is_counted(place: usize) -> bool {
 }
 
 // What is counted at a place of the tally.
-pub(crate) fn print_counted(place: usize) {
+pub(crate) fn print_counted(rt: &HostRuntime, place: usize) {
     match place {
-        Question::LAYOUT => crate::lines::write(b"tally given layout"),
-        Question::NAME => crate::lines::write(b"tally given name"),
-        Question::CHECK => crate::lines::write(b"tally given check"),
-        Question::INIT_CHECK => crate::lines::write(b"tally given init-check"),
-        Question::LIST => crate::lines::write(b"tally given list"),
-        Question::MARKS => crate::lines::write(b"tally given marks"),
-        Question::INIT_LIST => crate::lines::write(b"tally given init"),
-        Question::DRAFT_LIST => crate::lines::write(b"tally given draft"),
-        Question::EMPTINESS => crate::lines::write(b"tally given empty"),
-        Question::CHAINS => crate::lines::write(b"tally given chains"),
-        Question::LOOKUPS => crate::lines::write(b"tally given lookups"),
-        Question::USES => crate::lines::write(b"tally given uses"),
-        Question::ALIAS => crate::lines::write(b"tally given alias"),
-        Question::PROJECTION => crate::lines::write(b"tally given project"),
-        _ => crate::lines::counts(b"tally refused ", place),
+        Question::LAYOUT => crate::lines::write(rt, b"tally given layout"),
+        Question::NAME => crate::lines::write(rt, b"tally given name"),
+        Question::CHECK => crate::lines::write(rt, b"tally given check"),
+        Question::INIT_CHECK => crate::lines::write(rt, b"tally given init-check"),
+        Question::LIST => crate::lines::write(rt, b"tally given list"),
+        Question::MARKS => crate::lines::write(rt, b"tally given marks"),
+        Question::INIT_LIST => crate::lines::write(rt, b"tally given init"),
+        Question::DRAFT_LIST => crate::lines::write(rt, b"tally given draft"),
+        Question::EMPTINESS => crate::lines::write(rt, b"tally given empty"),
+        Question::CHAINS => crate::lines::write(rt, b"tally given chains"),
+        Question::LOOKUPS => crate::lines::write(rt, b"tally given lookups"),
+        Question::USES => crate::lines::write(rt, b"tally given uses"),
+        Question::ALIAS => crate::lines::write(rt, b"tally given alias"),
+        Question::PROJECTION => crate::lines::write(rt, b"tally given project"),
+        _ => crate::lines::counts(rt, b"tally refused ", place),
     }
 }
 
 // ---- What a book is asked
 
 // Every question of a book under these limits, a line for each. Broken books have no names.
-pub(crate) fn replay(source: &[u8], book: &[u8], limits: Limits, tally: &mut [u32]) {
-    let names = ask_layout(source, book, tally);
-    ask_name(source, book, names, tally);
-    ask_checks(source, book, limits, tally);
-    let listed = ask_list(source, book, limits, tally);
-    ask_others(source, book, limits, tally);
-    crate::inner::ask_inner(source, book, limits, tally);
-    ask_of_names(source, book, limits, names, listed, tally);
+pub(crate) fn replay(
+    rt: &HostRuntime,
+    source: &[u8],
+    book: &[u8],
+    limits: Limits,
+    tally: &mut [u32],
+) {
+    let names = ask_layout(rt, source, book, tally);
+    ask_name(rt, source, book, names, tally);
+    ask_checks(rt, source, book, limits, tally);
+    let listed = ask_list(rt, source, book, limits, tally);
+    ask_others(rt, source, book, limits, tally);
+    crate::inner::ask_inner(rt, source, book, limits, tally);
+    ask_of_names(rt, source, book, limits, names, listed, tally);
 }
 
 // What the layout is. Answers how many names the book has.
-fn ask_layout(source: &[u8], book: &[u8], tally: &mut [u32]) -> u16 {
-    crate::lines::asks(source, b"layout", b"");
+fn ask_layout(rt: &HostRuntime, source: &[u8], book: &[u8], tally: &mut [u32]) -> u16 {
+    crate::lines::asks(rt, source, b"layout", b"");
     let Reading::Whole(c) = book::layout(book) else {
-        crate::asking::refuse(Refusal::Broken, book, tally);
+        crate::asking::refuse(rt, Refusal::Broken, book, tally);
         return 0;
     };
-    crate::lines::whole(c);
+    crate::lines::whole(rt, c);
     crate::tally::count(Question::LAYOUT, tally);
     let names = c.names;
     if Limits::NAMES < names {
@@ -182,25 +194,32 @@ fn ask_layout(source: &[u8], book: &[u8], tally: &mut [u32]) -> u16 {
 }
 
 // Every name by its number, then the number after the last and the highest, which have none.
-fn ask_name(source: &[u8], book: &[u8], names: u16, tally: &mut [u32]) {
-    crate::lines::asks(source, b"name", b"");
-    crate::lines::counts(b"given ", names as usize + 2);
+fn ask_name(rt: &HostRuntime, source: &[u8], book: &[u8], names: u16, tally: &mut [u32]) {
+    crate::lines::asks(rt, source, b"name", b"");
+    crate::lines::counts(rt, b"given ", names as usize + 2);
     let mut number: u16 = 0;
     while number < names {
-        crate::lines::name(book::name(book, number));
+        crate::lines::name(rt, book::name(book, number));
         number += 1;
     }
-    crate::lines::name(book::name(book, names));
-    crate::lines::name(book::name(book, u16::MAX));
-    crate::lines::write(b"\n");
+    crate::lines::name(rt, book::name(book, names));
+    crate::lines::name(rt, book::name(book, u16::MAX));
+    crate::lines::write(rt, b"\n");
     crate::tally::count(Question::NAME, tally);
 }
 
-fn ask_checks(source: &[u8], book: &[u8], limits: Limits, tally: &mut [u32]) {
-    crate::lines::asks(source, b"check", b"");
-    crate::asking::judge(questions::check(book, limits), Question::CHECK, book, tally);
-    crate::lines::asks(source, b"init-check", b"");
+fn ask_checks(rt: &HostRuntime, source: &[u8], book: &[u8], limits: Limits, tally: &mut [u32]) {
+    crate::lines::asks(rt, source, b"check", b"");
     crate::asking::judge(
+        rt,
+        questions::check(book, limits),
+        Question::CHECK,
+        book,
+        tally,
+    );
+    crate::lines::asks(rt, source, b"init-check", b"");
+    crate::asking::judge(
+        rt,
         questions::init_check(book, limits),
         Question::INIT_CHECK,
         book,
@@ -209,10 +228,17 @@ fn ask_checks(source: &[u8], book: &[u8], limits: Limits, tally: &mut [u32]) {
 }
 
 // The definition list, and the marks over it, over no names where it is refused. Answers how many are listed.
-fn ask_list(source: &[u8], book: &[u8], limits: Limits, tally: &mut [u32]) -> usize {
+fn ask_list(
+    rt: &HostRuntime,
+    source: &[u8],
+    book: &[u8],
+    limits: Limits,
+    tally: &mut [u32],
+) -> usize {
     let mut out = crate::asking::room();
     let none = [0u16; 0];
     let listed = crate::asking::ask_both(
+        rt,
         source,
         b"list",
         Question::MainList,
@@ -224,13 +250,21 @@ fn ask_list(source: &[u8], book: &[u8], limits: Limits, tally: &mut [u32]) -> us
         tally,
     );
     let end = crate::asking::within(listed, &out);
-    ask_marks(source, book, limits, &out[..end], tally);
+    ask_marks(rt, source, book, limits, &out[..end], tally);
     listed
 }
 
 // The marks over a list, over it from its end, and over it and then each number that is no name's.
-fn ask_marks(source: &[u8], book: &[u8], limits: Limits, list: &[u16], tally: &mut [u32]) {
+fn ask_marks(
+    rt: &HostRuntime,
+    source: &[u8],
+    book: &[u8],
+    limits: Limits,
+    list: &[u16],
+    tally: &mut [u32],
+) {
     crate::asking::ask_again(
+        rt,
         source,
         b"marks",
         Question::Marks,
@@ -240,13 +274,21 @@ fn ask_marks(source: &[u8], book: &[u8], limits: Limits, list: &[u16], tally: &m
         list,
         tally,
     );
-    ask_marks_turned(source, book, limits, list, tally);
+    ask_marks_turned(rt, source, book, limits, list, tally);
 }
 
-fn ask_marks_turned(source: &[u8], book: &[u8], limits: Limits, list: &[u16], tally: &mut [u32]) {
+fn ask_marks_turned(
+    rt: &HostRuntime,
+    source: &[u8],
+    book: &[u8],
+    limits: Limits,
+    list: &[u16],
+    tally: &mut [u32],
+) {
     let mut back = crate::asking::room_for_names();
     let end = crate::asking::within(crate::asking::put_backwards(list, &mut back), &back);
     crate::asking::ask(
+        rt,
         source,
         b"marks-back",
         Question::Marks,
@@ -257,6 +299,7 @@ fn ask_marks_turned(source: &[u8], book: &[u8], limits: Limits, list: &[u16], ta
         tally,
     );
     ask_marks_and(
+        rt,
         source,
         b"marks-outside",
         book,
@@ -266,6 +309,7 @@ fn ask_marks_turned(source: &[u8], book: &[u8], limits: Limits, list: &[u16], ta
         tally,
     );
     ask_marks_and(
+        rt,
         source,
         b"marks-highest",
         book,
@@ -278,6 +322,7 @@ fn ask_marks_turned(source: &[u8], book: &[u8], limits: Limits, list: &[u16], ta
 
 // The marks over a list from its end and then this number.
 fn ask_marks_and(
+    rt: &HostRuntime,
     source: &[u8],
     word: &[u8],
     book: &[u8],
@@ -290,6 +335,7 @@ fn ask_marks_and(
     let next = crate::asking::put_backwards(back, &mut more);
     let last = crate::asking::within(crate::asking::put(true, number, &mut more, next), &more);
     crate::asking::ask(
+        rt,
         source,
         word,
         Question::Marks,
@@ -302,9 +348,10 @@ fn ask_marks_and(
 }
 
 // The other questions that are asked with no names.
-fn ask_others(source: &[u8], book: &[u8], limits: Limits, tally: &mut [u32]) {
+fn ask_others(rt: &HostRuntime, source: &[u8], book: &[u8], limits: Limits, tally: &mut [u32]) {
     let none = [0u16; 0];
     crate::asking::ask_again(
+        rt,
         source,
         b"init",
         Question::InitList,
@@ -315,6 +362,7 @@ fn ask_others(source: &[u8], book: &[u8], limits: Limits, tally: &mut [u32]) {
         tally,
     );
     crate::asking::ask_again(
+        rt,
         source,
         b"draft",
         Question::DraftList,
@@ -325,6 +373,7 @@ fn ask_others(source: &[u8], book: &[u8], limits: Limits, tally: &mut [u32]) {
         tally,
     );
     crate::asking::ask_again(
+        rt,
         source,
         b"empty",
         Question::Emptiness,
@@ -339,6 +388,7 @@ fn ask_others(source: &[u8], book: &[u8], limits: Limits, tally: &mut [u32]) {
 // The questions about each name and about numbers that are no name's; the methods projected for none, for all names that have one, and for
 // all names. A broken book has none and is not asked.
 fn ask_of_names(
+    rt: &HostRuntime,
     source: &[u8],
     book: &[u8],
     limits: Limits,
@@ -355,15 +405,16 @@ fn ask_of_names(
         &numbers,
     );
     let mut taken = crate::asking::room_for_names();
-    let count = ask_of_each(source, book, limits, &numbers[..end], &mut taken, tally);
-    ask_outside(source, book, limits, tally);
+    let count = ask_of_each(rt, source, book, limits, &numbers[..end], &mut taken, tally);
+    ask_outside(rt, source, book, limits, tally);
     let last = crate::asking::within(count, &taken);
-    ask_together(source, book, limits, names, &taken[..last], tally);
+    ask_together(rt, source, book, limits, names, &taken[..last], tally);
 }
 
-fn ask_outside(source: &[u8], book: &[u8], limits: Limits, tally: &mut [u32]) {
+fn ask_outside(rt: &HostRuntime, source: &[u8], book: &[u8], limits: Limits, tally: &mut [u32]) {
     let outside = [Asked::OUTSIDE];
     crate::asking::ask(
+        rt,
         source,
         b"uses-outside",
         Question::Uses,
@@ -374,6 +425,7 @@ fn ask_outside(source: &[u8], book: &[u8], limits: Limits, tally: &mut [u32]) {
         tally,
     );
     ask_alias(
+        rt,
         source,
         b"alias-outside",
         false,
@@ -383,6 +435,7 @@ fn ask_outside(source: &[u8], book: &[u8], limits: Limits, tally: &mut [u32]) {
         tally,
     );
     ask_alias(
+        rt,
         source,
         b"alias-highest",
         false,
@@ -391,13 +444,20 @@ fn ask_outside(source: &[u8], book: &[u8], limits: Limits, tally: &mut [u32]) {
         Asked::HIGHEST,
         tally,
     );
-    project_outside(source, book, limits, tally);
+    project_outside(rt, source, book, limits, tally);
 }
 
 // The methods projected for numbers that are no name's, and for none.
-fn project_outside(source: &[u8], book: &[u8], limits: Limits, tally: &mut [u32]) {
+fn project_outside(
+    rt: &HostRuntime,
+    source: &[u8],
+    book: &[u8],
+    limits: Limits,
+    tally: &mut [u32],
+) {
     let outside = [Asked::OUTSIDE];
     crate::asking::ask(
+        rt,
         source,
         b"project-outside",
         Question::Projection,
@@ -409,6 +469,7 @@ fn project_outside(source: &[u8], book: &[u8], limits: Limits, tally: &mut [u32]
     );
     let highest = [Asked::HIGHEST];
     crate::asking::ask(
+        rt,
         source,
         b"project-highest",
         Question::Projection,
@@ -419,6 +480,7 @@ fn project_outside(source: &[u8], book: &[u8], limits: Limits, tally: &mut [u32]
         tally,
     );
     crate::asking::ask(
+        rt,
         source,
         b"project-none",
         Question::Projection,
@@ -432,6 +494,7 @@ fn project_outside(source: &[u8], book: &[u8], limits: Limits, tally: &mut [u32]
 
 // The projection of these names and of all, the last first.
 fn ask_together(
+    rt: &HostRuntime,
     source: &[u8],
     book: &[u8],
     limits: Limits,
@@ -442,6 +505,7 @@ fn ask_together(
     let mut back = crate::asking::room_for_names();
     let last = crate::asking::within(crate::asking::put_backwards(taken, &mut back), &back);
     crate::asking::ask_again(
+        rt,
         source,
         b"project-all",
         Question::Projection,
@@ -459,6 +523,7 @@ fn ask_together(
         &turned,
     );
     crate::asking::ask(
+        rt,
         source,
         b"project-every",
         Question::Projection,
@@ -472,6 +537,7 @@ fn ask_together(
 
 // The questions about each of these names. Puts those into a list that have a method, and answers how many.
 fn ask_of_each(
+    rt: &HostRuntime,
     source: &[u8],
     book: &[u8],
     limits: Limits,
@@ -482,7 +548,7 @@ fn ask_of_each(
     let mut end = 0;
     let mut i = 0;
     while i < numbers.len() {
-        let has_method = ask_of(source, book, limits, numbers[i], tally);
+        let has_method = ask_of(rt, source, book, limits, numbers[i], tally);
         end = crate::asking::put(has_method, numbers[i], taken, end);
         i += 1;
     }
@@ -491,6 +557,7 @@ fn ask_of_each(
 
 // The alias chain from a number, by this word: the names that it crosses and the last of them.
 fn ask_alias(
+    rt: &HostRuntime,
     source: &[u8],
     word: &[u8],
     of_name: bool,
@@ -499,26 +566,34 @@ fn ask_alias(
     number: u16,
     tally: &mut [u32],
 ) {
-    crate::lines::asks(source, word, b"");
+    crate::lines::asks(rt, source, word, b"");
     if of_name {
-        crate::lines::about(book::name(book, number));
+        crate::lines::about(rt, book::name(book, number));
     }
     match questions::alias(book, limits, number) {
-        AliasAnswer::Refused(why) => crate::asking::refuse(why, book, tally),
+        AliasAnswer::Refused(why) => crate::asking::refuse(rt, why, book, tally),
         AliasAnswer::Given(found) => {
-            crate::lines::counts(b"given ", found.names as usize);
-            crate::lines::name(book::name(book, found.last));
-            crate::lines::write(b"\n");
+            crate::lines::counts(rt, b"given ", found.names as usize);
+            crate::lines::name(rt, book::name(book, found.last));
+            crate::lines::write(rt, b"\n");
             crate::tally::count_given(Question::ALIAS, found.names as usize, tally);
         }
     }
 }
 
 // The questions about a name. Answers whether it has a method.
-fn ask_of(source: &[u8], book: &[u8], limits: Limits, number: u16, tally: &mut [u32]) -> bool {
+fn ask_of(
+    rt: &HostRuntime,
+    source: &[u8],
+    book: &[u8],
+    limits: Limits,
+    number: u16,
+    tally: &mut [u32],
+) -> bool {
     let once = [number];
     let twice = [number, number];
     crate::asking::ask_again(
+        rt,
         source,
         b"uses",
         Question::Uses,
@@ -528,8 +603,9 @@ fn ask_of(source: &[u8], book: &[u8], limits: Limits, number: u16, tally: &mut [
         &once,
         tally,
     );
-    ask_alias(source, b"alias", true, book, limits, number, tally);
+    ask_alias(rt, source, b"alias", true, book, limits, number, tally);
     let taken = crate::asking::ask(
+        rt,
         source,
         b"project",
         Question::Projection,
@@ -540,6 +616,7 @@ fn ask_of(source: &[u8], book: &[u8], limits: Limits, number: u16, tally: &mut [
         tally,
     );
     crate::asking::ask(
+        rt,
         source,
         b"twice",
         Question::Projection,

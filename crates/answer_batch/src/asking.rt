@@ -1,6 +1,6 @@
 // How a question is asked and its answer printed and counted, and the lists of names that it is asked with.
 ghost use Rattle.std.specs.Prelude.{◌≡◌, ◌≤◌, length};
-ghost use Rattle.io.specs.Counts.{IsPrefixLen};
+ghost use Rattle.std.specs.Counts.{IsPrefixLen};
 
 use crate::asked::{Asked, Question};
 use format::Limits;
@@ -22,6 +22,7 @@ pub(crate) fn room_for_names() -> [u16; Limits::NAMES]
 
 // Asks a question by this word, about the first of the names if it is of a name. Answers how many numbers were given.
 pub(crate) fn ask(
+    rt: &HostRuntime,
     source: &[u8],
     word: &[u8],
     question: Question,
@@ -32,13 +33,14 @@ pub(crate) fn ask(
     tally: &mut [u32],
 ) -> usize {
     let mut out = room();
-    begin(source, word, b"", of_name, book, asked);
+    begin(rt, source, word, b"", of_name, book, asked);
     let said = crate::asked::reply(question, book, limits, asked, &mut out);
-    answer(question, said, &out, book, tally)
+    answer(rt, question, said, &out, book, tally)
 }
 
 // The same and, where it has entries, once more with one place less.
 pub(crate) fn ask_again(
+    rt: &HostRuntime,
     source: &[u8],
     word: &[u8],
     question: Question,
@@ -50,12 +52,13 @@ pub(crate) fn ask_again(
 ) {
     let mut out = room();
     ask_both(
-        source, word, question, of_name, book, limits, asked, &mut out, tally,
+        rt, source, word, question, of_name, book, limits, asked, &mut out, tally,
     );
 }
 
 // The same with a lent list, in which the answer to the first is left.
 pub(crate) fn ask_both(
+    rt: &HostRuntime,
     source: &[u8],
     word: &[u8],
     question: Question,
@@ -66,39 +69,54 @@ pub(crate) fn ask_both(
     out: &mut [u16],
     tally: &mut [u32],
 ) -> usize {
-    begin(source, word, b"", of_name, book, asked);
+    begin(rt, source, word, b"", of_name, book, asked);
     let said = crate::asked::reply(question, book, limits, asked, out);
-    let end = answer(question, said, out, book, tally);
+    let end = answer(rt, question, said, out, book, tally);
     let width = question.width();
     if end < width {
         return 0;
     }
-    begin(source, word, b"-short", of_name, book, asked);
+    begin(rt, source, word, b"-short", of_name, book, asked);
     let short = within(end - width, out);
     let again = crate::asked::reply(question, book, limits, asked, &mut out[..short]);
-    answer_short(again, book, tally);
+    answer_short(rt, again, book, tally);
     end
 }
 
 // The beginning of a line.
-fn begin(source: &[u8], word: &[u8], more: &[u8], of_name: bool, book: &[u8], asked: &[u16]) {
-    crate::lines::asks(source, word, more);
+fn begin(
+    rt: &HostRuntime,
+    source: &[u8],
+    word: &[u8],
+    more: &[u8],
+    of_name: bool,
+    book: &[u8],
+    asked: &[u16],
+) {
+    crate::lines::asks(rt, source, word, more);
     if of_name {
-        crate::lines::about(book::name(book, first_of(asked)));
+        crate::lines::about(rt, book::name(book, first_of(asked)));
     }
 }
 
 // The answer to a question, printed and counted. Answers how many numbers were given.
-fn answer(question: Question, said: Answer, out: &[u16], book: &[u8], tally: &mut [u32]) -> usize {
+fn answer(
+    rt: &HostRuntime,
+    question: Question,
+    said: Answer,
+    out: &[u16],
+    book: &[u8],
+    tally: &mut [u32],
+) -> usize {
     match said {
         Answer::Refused(why) => {
-            refuse(why, book, tally);
+            refuse(rt, why, book, tally);
             0
         }
         Answer::Given(entries) => {
             let end = within(question.numbers(entries), out);
-            crate::lines::counts(b"given ", entries);
-            print_entries(question, &out[..end], book);
+            crate::lines::counts(rt, b"given ", entries);
+            print_entries(rt, question, &out[..end], book);
             crate::tally::count_given(question.place(), entries, tally);
             end
         }
@@ -106,14 +124,14 @@ fn answer(question: Question, said: Answer, out: &[u16], book: &[u8], tally: &mu
 }
 
 // The same where the list is too short, after the entries needed.
-fn answer_short(said: Answer, book: &[u8], tally: &mut [u32]) {
+fn answer_short(rt: &HostRuntime, said: Answer, book: &[u8], tally: &mut [u32]) {
     match said {
         Answer::Refused(why) => {
-            crate::lines::counts(b"needs ", why.needed() as usize);
-            crate::lines::write(b" ");
-            refuse(why, book, tally);
+            crate::lines::counts(rt, b"needs ", why.needed() as usize);
+            crate::lines::write(rt, b" ");
+            refuse(rt, why, book, tally);
         }
-        Answer::Given(entries) => crate::lines::counts(b"given ", entries),
+        Answer::Given(entries) => crate::lines::counts(rt, b"given ", entries),
     }
 }
 
@@ -145,37 +163,43 @@ pub(crate) fn first_of(asked: &[u16]) -> u16 {
     u16::MAX
 }
 
-pub(crate) fn judge(found: Verdict, place: usize, book: &[u8], tally: &mut [u32]) {
+pub(crate) fn judge(
+    rt: &HostRuntime,
+    found: Verdict,
+    place: usize,
+    book: &[u8],
+    tally: &mut [u32],
+) {
     match found {
         Verdict::Passed => {
-            crate::lines::write(b"passed\n");
+            crate::lines::write(rt, b"passed\n");
             crate::tally::count(place, tally);
         }
-        Verdict::Refused(why) => refuse(why, book, tally),
+        Verdict::Refused(why) => refuse(rt, why, book, tally),
     }
 }
 
-pub(crate) fn refuse(why: Refusal, book: &[u8], tally: &mut [u32]) {
-    crate::lines::refusal(why, book);
+pub(crate) fn refuse(rt: &HostRuntime, why: Refusal, book: &[u8], tally: &mut [u32]) {
+    crate::lines::refusal(rt, why, book);
     crate::tally::count_refusal(why, tally);
 }
 
 // A number of a use, of which the method comes first.
-pub(crate) fn print_of_use(is_first: bool, number: u16) {
+pub(crate) fn print_of_use(rt: &HostRuntime, is_first: bool, number: u16) {
     if is_first {
-        crate::lines::counts(b" ", number as usize);
+        crate::lines::counts(rt, b" ", number as usize);
         return;
     }
-    crate::lines::counts(b".", number as usize);
+    crate::lines::counts(rt, b".", number as usize);
 }
 
-fn print_entries(question: Question, numbers: &[u16], book: &[u8]) {
+fn print_entries(rt: &HostRuntime, question: Question, numbers: &[u16], book: &[u8]) {
     let mut i = 0;
     while i < numbers.len() {
-        crate::asked::print_number(question, i, numbers[i], book);
+        crate::asked::print_number(rt, question, i, numbers[i], book);
         i += 1;
     }
-    crate::lines::write(b"\n");
+    crate::lines::write(rt, b"\n");
 }
 
 // ---- Lists that are asked with

@@ -15,23 +15,29 @@ use format::Limits;
 use refusals::{Refusal, Verdict};
 use typing::prog::Passed;
 
-pub(crate) fn ask_inner(source: &[u8], book: &[u8], limits: Limits, tally: &mut [u32]) {
-    ask_chains(source, book, limits, tally);
-    ask_lookups(source, book, limits, tally);
+pub(crate) fn ask_inner(
+    rt: &HostRuntime,
+    source: &[u8],
+    book: &[u8],
+    limits: Limits,
+    tally: &mut [u32],
+) {
+    ask_chains(rt, source, book, limits, tally);
+    ask_lookups(rt, source, book, limits, tally);
 }
 
 // ---- Alias ends
 
-fn ask_chains(source: &[u8], book: &[u8], limits: Limits, tally: &mut [u32]) {
-    crate::lines::asks(source, b"chains", b"");
+fn ask_chains(rt: &HostRuntime, source: &[u8], book: &[u8], limits: Limits, tally: &mut [u32]) {
+    crate::lines::asks(rt, source, b"chains", b"");
     match admission::admit(book, limits) {
-        Admission::Refused(why) => crate::asking::refuse(why, book, tally),
-        Admission::Admitted(c) => say_chains(book, c, tally),
+        Admission::Refused(why) => crate::asking::refuse(rt, why, book, tally),
+        Admission::Admitted(c) => say_chains(rt, book, c, tally),
     }
 }
 
 // The chain from each definition's body, in order; 2 where a name is defined twice, be it in two files.
-fn say_chains(book: &[u8], c: Contents, tally: &mut [u32])
+fn say_chains(rt: &HostRuntime, book: &[u8], c: Contents, tally: &mut [u32])
     requires { Admitted book.now c }
 {
     let mut roots = book::tables::blank();
@@ -44,26 +50,26 @@ fn say_chains(book: &[u8], c: Contents, tally: &mut [u32])
         &mut roots,
     );
     if twice != Table::NONE {
-        crate::asking::refuse(Refusal::Twice(twice), book, tally);
+        crate::asking::refuse(rt, Refusal::Twice(twice), book, tally);
         return;
     }
-    crate::lines::counts(b"given ", c.definitions);
-    print_chains(book, c, &roots);
-    crate::lines::write(b"\n");
+    crate::lines::counts(rt, b"given ", c.definitions);
+    print_chains(rt, book, c, &roots);
+    crate::lines::write(rt, b"\n");
     crate::tally::count_given(Question::CHAINS, c.definitions, tally);
 }
 
-fn print_chains(book: &[u8], c: Contents, roots: &[u16])
+fn print_chains(rt: &HostRuntime, book: &[u8], c: Contents, roots: &[u16])
     requires { Admitted book.now c × Roots roots.now c.nodes }
 {
     let mut d = 0;
     while d < c.definitions {
-        print_chain(book, c, roots, d);
+        print_chain(rt, book, c, roots, d);
         d += 1;
     }
 }
 
-fn print_chain(book: &[u8], c: Contents, roots: &[u16], d: usize)
+fn print_chain(rt: &HostRuntime, book: &[u8], c: Contents, roots: &[u16], d: usize)
     requires { Admitted book.now c × Roots roots.now c.nodes × (d < c.definitions) }
 {
     let e = Entry::at(c.definitions(book), d);
@@ -77,57 +83,64 @@ fn print_chain(book: &[u8], c: Contents, roots: &[u16], d: usize)
     );
     let end = found.end;
     let crossed = found.crossed;
-    print_end(book, end, crossed);
+    print_end(rt, book, end, crossed);
 }
 
-fn print_end(book: &[u8], end: End, crossed: usize) {
+fn print_end(rt: &HostRuntime, book: &[u8], end: End, crossed: usize) {
     match end {
-        End::Ends(_) => crate::lines::counts(b" ends.", crossed),
-        End::Circle => crate::lines::counts(b" circle.", crossed),
+        End::Ends(_) => crate::lines::counts(rt, b" ends.", crossed),
+        End::Circle => crate::lines::counts(rt, b" circle.", crossed),
         End::Unbound(name) => {
-            crate::lines::counts(b" unbound.", crossed);
-            crate::lines::name(book::name(book, name));
+            crate::lines::counts(rt, b" unbound.", crossed);
+            crate::lines::name(rt, book::name(book, name));
         }
     }
 }
 
 // ---- Function and service lookups
 
-fn ask_lookups(source: &[u8], book: &[u8], limits: Limits, tally: &mut [u32]) {
-    crate::lines::asks(source, b"lookups", b"");
+fn ask_lookups(rt: &HostRuntime, source: &[u8], book: &[u8], limits: Limits, tally: &mut [u32]) {
+    crate::lines::asks(rt, source, b"lookups", b"");
     let mut roots = book::tables::blank();
     let mut ends = environment::no_ends();
     let found = passed::pass(book, limits, &mut roots, &mut ends);
     let v = found.verdict;
     let p = found.passed;
     match v {
-        Verdict::Refused(why) => crate::asking::refuse(why, book, tally),
-        Verdict::Passed => say_lookups(book, p, &roots, &ends, tally),
+        Verdict::Refused(why) => crate::asking::refuse(rt, why, book, tally),
+        Verdict::Passed => say_lookups(rt, book, p, &roots, &ends, tally),
     }
 }
 
 // What is looked up from the body of each definition but the init file's, in order, and then from main's actor.
-fn say_lookups(book: &[u8], p: Passed, roots: &[u16], ends: &[u32], tally: &mut [u32])
+fn say_lookups(
+    rt: &HostRuntime,
+    book: &[u8],
+    p: Passed,
+    roots: &[u16],
+    ends: &[u32],
+    tally: &mut [u32],
+)
     requires { PassedBook book.now roots.now ends.now p }
 {
-    crate::lines::counts(b"given ", p.main);
-    print_lookups(book, p, roots, ends);
-    print_actor(book, p, roots, ends);
-    crate::lines::write(b"\n");
+    crate::lines::counts(rt, b"given ", p.main);
+    print_lookups(rt, book, p, roots, ends);
+    print_actor(rt, book, p, roots, ends);
+    crate::lines::write(rt, b"\n");
     crate::tally::count_given(Question::LOOKUPS, p.main, tally);
 }
 
-fn print_lookups(book: &[u8], p: Passed, roots: &[u16], ends: &[u32])
+fn print_lookups(rt: &HostRuntime, book: &[u8], p: Passed, roots: &[u16], ends: &[u32])
     requires { PassedBook book.now roots.now ends.now p }
 {
     let mut d = 0;
     while d < p.main {
-        print_lookup(book, p, roots, ends, d);
+        print_lookup(rt, book, p, roots, ends, d);
         d += 1;
     }
 }
 
-fn print_lookup(book: &[u8], p: Passed, roots: &[u16], ends: &[u32], d: usize)
+fn print_lookup(rt: &HostRuntime, book: &[u8], p: Passed, roots: &[u16], ends: &[u32], d: usize)
     requires { PassedBook book.now roots.now ends.now p × (d < p.main) }
 {
     let c = p.contents;
@@ -136,27 +149,27 @@ fn print_lookup(book: &[u8], p: Passed, roots: &[u16], ends: &[u32], d: usize)
     let node = e.root as usize;
     let function = environment::as_func(rows, ends, node);
     let service = environment::as_service(rows, ends, node);
-    print_found(function, service);
+    print_found(rt, function, service);
 }
 
 // Both have crossed the same names, found or not: where they have not, a word says so that no stored line has.
-fn print_found(function: Lookup, service: Lookup) {
+fn print_found(rt: &HostRuntime, function: Lookup, service: Lookup) {
     if function.crossed != service.crossed {
-        crate::lines::write(b" apart");
+        crate::lines::write(rt, b" apart");
     }
     if function.found {
-        crate::lines::counts(b" f.", function.crossed as usize);
+        crate::lines::counts(rt, b" f.", function.crossed as usize);
         return;
     }
     if service.found {
-        crate::lines::counts(b" s.", service.crossed as usize);
+        crate::lines::counts(rt, b" s.", service.crossed as usize);
         return;
     }
-    crate::lines::counts(b" -.", service.crossed as usize);
+    crate::lines::counts(rt, b" -.", service.crossed as usize);
 }
 
 // The service below main's class, or main's actor itself; nothing where main has no actor. With service imports too it is main's own tree.
-fn print_actor(book: &[u8], p: Passed, roots: &[u16], ends: &[u32])
+fn print_actor(rt: &HostRuntime, book: &[u8], p: Passed, roots: &[u16], ends: &[u32])
     requires { PassedBook book.now roots.now ends.now p }
 {
     let i = p.interface;
@@ -168,8 +181,8 @@ fn print_actor(book: &[u8], p: Passed, roots: &[u16], ends: &[u32])
     let top = syntax::class::top_of(rows, i.root);
     let service = environment::as_service(rows, ends, top.below);
     if service.found {
-        crate::lines::counts(b" actor.", service.crossed as usize);
+        crate::lines::counts(rt, b" actor.", service.crossed as usize);
         return;
     }
-    crate::lines::counts(b" actor-.", service.crossed as usize);
+    crate::lines::counts(rt, b" actor-.", service.crossed as usize);
 }

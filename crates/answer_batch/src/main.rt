@@ -11,8 +11,8 @@ mod lines;
 mod records;
 mod tally;
 
-fn main() {
+fn main(rt: HostRuntime) {
     let mut counts = asked::no_counts();
-    records::replay_all(&mut counts);
-    tally::print_tally(&counts);
+    records::replay_all(&rt, &mut counts);
+    tally::print_tally(&rt, &counts);
 }

@@ -3,7 +3,7 @@
 ghost use Rattle.std.specs.Prelude.{◌≡◌, length};
 
 use format::Limits;
-use libc::STDIN_FILENO;
+use std::io::Read;
 
 // As many bytes as a source's name has at most: one byte tells its length.
 fn room_for_source() -> [u8; 255]
@@ -20,9 +20,9 @@ fn room_for_book() -> [u8; 65537]
 }
 
 // Reads just so many bytes to the beginning of a buffer. Answers whether they came and it has room for them.
-fn read_exactly(buffer: &mut [u8], size: usize) -> bool {
+fn read_exactly(rt: &HostRuntime, buffer: &mut [u8], size: usize) -> bool {
     let end = crate::lines::within(size, buffer);
-    io::read_full(STDIN_FILENO, &mut buffer[..end]) == size
+    end == size && rt.stdin().read_exact(&mut buffer[..end]).is_ok()
 }
 
 // A number in four bytes, the lowest first.
@@ -33,20 +33,20 @@ fn word_of(a: u8, b: u8, c: u8, d: u8) -> u32 {
 }
 
 // Replays the next record. Answers whether there was one.
-fn replayed(tally: &mut [u32]) -> bool {
+fn replayed(rt: &HostRuntime, tally: &mut [u32]) -> bool {
     let mut head = [0u8; 1];
-    if !read_exactly(&mut head, 1) {
+    if !read_exactly(rt, &mut head, 1) {
         return false;
     }
     let mut source = room_for_source();
     let source_size = crate::lines::wide(head[0]);
-    if !read_exactly(&mut source, source_size) {
-        crate::lines::write(b"the batch is cut\n");
+    if !read_exactly(rt, &mut source, source_size) {
+        crate::lines::write(rt, b"the batch is cut\n");
         return false;
     }
     let mut words = [0u8; 16];
-    if !read_exactly(&mut words, 16) {
-        crate::lines::write(b"the batch is cut\n");
+    if !read_exactly(rt, &mut words, 16) {
+        crate::lines::write(rt, b"the batch is cut\n");
         return false;
     }
     let limits = Limits {
@@ -56,24 +56,21 @@ fn replayed(tally: &mut [u32]) -> bool {
     };
     let mut book = room_for_book();
     let size = word_of(words[12], words[13], words[14], words[15]) as usize;
-    if !read_exactly(&mut book, size) {
-        crate::lines::write(b"the batch is cut\n");
+    if !read_exactly(rt, &mut book, size) {
+        crate::lines::write(rt, b"the batch is cut\n");
         return false;
     }
     let source_end = crate::lines::within(source_size, &source);
     let end = crate::lines::within(size, &book);
-    crate::asked::replay(&source[..source_end], &book[..end], limits, tally);
+    crate::asked::replay(rt, &source[..source_end], &book[..end], limits, tally);
     true
 }
 
-// All records. A proved loop has to end, and nothing says that the input does: the turns are counted down from a number that no run
-// uses up.
-pub(crate) fn replay_all(tally: &mut [u32]) {
-    let mut turns = u64::MAX;
-    while 0 < turns {
-        if !replayed(tally) {
+// All records. A proved loop has to end, and nothing says that the input does: so many turns no run uses up.
+pub(crate) fn replay_all(rt: &HostRuntime, tally: &mut [u32]) {
+    for _ in 0..u64::MAX {
+        if !replayed(rt, tally) {
             return;
         }
-        turns -= 1;
     }
 }

@@ -34,27 +34,27 @@ fn wide(count: u32) -> usize {
 }
 
 // Prints a count, and answers whether it is not 0. Where nothing is counted there is nothing to print.
-fn print_count(place: usize, count: u32) -> bool {
+fn print_count(rt: &HostRuntime, place: usize, count: u32) -> bool {
     if !crate::asked::is_counted(place) {
         return true;
     }
-    crate::asked::print_counted(place);
-    crate::lines::counts(b" ", wide(count));
-    crate::lines::write(b"\n");
+    crate::asked::print_counted(rt, place);
+    crate::lines::counts(rt, b" ", wide(count));
+    crate::lines::write(rt, b"\n");
     0 < count
 }
 
 // All counts, and whether none of them is 0.
-pub(crate) fn print_tally(tally: &[u32]) {
+pub(crate) fn print_tally(rt: &HostRuntime, tally: &[u32]) {
     let mut is_complete = true;
     let mut place = 1;
     while place < tally.len() {
-        is_complete = print_count(place, tally[place]) & is_complete;
+        is_complete = print_count(rt, place, tally[place]) & is_complete;
         place += 1;
     }
     if is_complete {
-        crate::lines::write(b"tally complete\n");
+        crate::lines::write(rt, b"tally complete\n");
         return;
     }
-    crate::lines::write(b"tally incomplete\n");
+    crate::lines::write(rt, b"tally incomplete\n");
 }

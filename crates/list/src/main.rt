@@ -197,12 +197,12 @@ fn room_for_book() -> [u8; 65537]
     [0; 65537]
 }
 
-fn main() {
+fn main(rt: HostRuntime) {
     let mut input = room_for_book();
-    let Input::Read(size) = stdio::read(b"list", &mut input) else {
+    let Input::Read(size) = stdio::read(&rt, b"list", &mut input) else {
         return;
     };
     let mut out = room_for_print();
     let end = print(&input[..size], &mut out);
-    stdio::write(b"list", &out[..end]);
+    stdio::write(&rt, b"list", &out[..end]);
 }

@@ -49,4 +49,4 @@ child-is {i = i} w zero h = sym (add-zero i)
 child-is {ns} {i} {e} w (suc d) h =
     let o = opened w h in
     rw (siblings-opens o)
-    (child-is o.rest d (others o h) ∙ omega (arith, o.here.one, count-siblings ns (i + 1) (i + (row_at ns i).size)))
+    (child-is {i = i + (row_at ns i).size} o.rest d (others o h) ∙ omega (arith, o.here.one, count-siblings ns (i + 1) (i + (row_at ns i).size)))

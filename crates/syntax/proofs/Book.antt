@@ -67,6 +67,7 @@ init-at (f ∷ l) (suc i) x h e n = rw (n 0 (omega arith)) (init-at l i x (omega
 
 none-init : (l : List File) → ((j : ℕ) → j < length l → is_init_role (role_at l j) ≡ false) → NoInit l
 unfolding role_at is_init_role
+none-init [] n f x3 r = elim x3 [ ]
 none-init (g ∷ l) n f (Memᴰ.head e) r =
     let t : true ≡ false = ap is_init_role (sym (ap (λ (k : File). k.role) (sym e) ∙ r)) ∙ n 0 (omega arith) in
     let z : ◌≡◌ {A = ℕ} 0 1 = cc in omega arith

@@ -1,0 +1,33 @@
+-- `reaching::find_nearest` meets its contract: the table of links is the table of first rows, before that is made. Assumes nothing.
+use mathlib.Core.Path.{ap, ◌∙◌}
+use mathlib.Core.List.{List}
+use Prim.Native.Nat.{ℕ}
+use native.Mathlib.Omega.{arith}
+use lib.ListN.{length, get_or}
+use Rattle.analysis.proofs.reaching.Near.{places-length, places-at}
+use Rattle.analysis.proofs.reaching.find_nearest.Goals as goal
+
+pub link-requires : goal.link-requires
+link-requires c = (record { names = _; known = c.requires.0.known }, c.no_links-head.ensures, ap length c.requires.2 ∙ places-length)
+
+pub returns : goal.returns
+returns c =
+    let p = c.requires in
+    record {
+      flags = _;
+      reach = c.reaching-flags.ensures record {
+        rows = _;
+        entries = _;
+        names = _;
+        nodes = _;
+        definitions = _;
+        book = p.0;
+        owned = c.owners.ensures;
+        links = c.link.ensures.0;
+      };
+      first = c.nearest.ensures.0;
+      rest = λ i h. c.nearest.ensures.1.kept i (omega arith)
+          ∙ c.link.ensures.1.kept i (λ v b n. omega arith)
+          ∙ ap (λ (t : List ℕ). get_or t i 0) p.2
+          ∙ places-at i;
+    }

@@ -1,2 +1,0 @@
--- Laws that the programs cite.
-pub mod Laws
