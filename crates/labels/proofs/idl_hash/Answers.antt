@@ -1,6 +1,6 @@
 -- `labels::idl_hash` meets its contract. The loop's invariant: from `s` on, the fold over the bytes that are left gives what it gives from 0
 -- over all of them. Assumes nothing.
-use Rattle.std.proofs.Common.{◌≡◌, ℕ, ◌+◌, ◌-◌, ◌*◌, ◌%◌, ◌^◌, ◌<◌, ◌≤◌, List, length, get_or, drop, refl, ◌∙◌, add-one, arith, drop_of_length-le, drop-cons}
+use Rattle.std.proofs.Common.{◌≡◌, ℕ, ◌+◌, ◌*◌, ◌%◌, ◌^◌, ◌<◌, ◌≤◌, List, length, get_or, drop, refl, ◌∙◌, add-one, arith, drop_of_length-le, drop-cons}
 use native.Mathlib.Nat.{mod-add-mod}
 use Rattle.labels.specs.Number.{label_number, fold_from, label_fold}
 use Rattle.labels.proofs.Laws.{label_fold-label_number}

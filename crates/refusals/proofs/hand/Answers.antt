@@ -1,6 +1,5 @@
 -- `hand` meets its contract: the list is copied from the front. Assumes nothing.
 use mathlib.Core.Path.{refl}
-use Prim.Native.Nat.{◌-◌}
 use native.Mathlib.Omega.{arith}
 use Rattle.refusals.proofs.Handed.{handed-short, copied-start, copied-length, copied-on, copied-end}
 use Rattle.refusals.proofs.hand.Goals as goal
