@@ -1,6 +1,6 @@
 -- `alias_end` meets its contract: what is left of the chain ends where all of it does. Assumes nothing.
 use native.Mathlib.Omega.{arith}
-use Rattle.environment.proofs.Links.{LinkSays, link-says, chain-start, chain-name, alias-ends, alias-unbound, alias-circle, chain-step}
+use Rattle.environment.proofs.Links.{link-says, chain-start, chain-name, alias-ends, alias-unbound, alias-circle, chain-step}
 use Rattle.environment.proofs.alias_end.Goals as goal
 
 pub var_at-n-requires : goal.var_at-n-requires

@@ -1,8 +1,8 @@
 -- `enter` meets its contract: what the table lacks is found in the entries that are left. Assumes nothing.
-use Prim.Native.Nat.{◌-◌, ◌<◌}
-use mathlib.Core.Path.{◌≡◌, sym, ap, ◌∙◌}
+use Prim.Native.Nat.{◌<◌}
+use mathlib.Core.Path.{sym, ap, ◌∙◌}
 use native.Mathlib.Omega.{arith}
-use lib.ListN.{length, get_or}
+use lib.ListN.{length}
 use Rattle.environment.proofs.Links.{get_or-within}
 use Rattle.environment.proofs.RootTable.{table-start, table-end, name-fits, table-twice, table-on}
 use Rattle.book.proofs.Blank.{blank-length}

@@ -2,23 +2,16 @@
 -- more, a type two for each node: so every call weighs less. Assumes nothing.
 use mathlib.Core.Path.{sym, ap, ◌∙◌, refl}
 use mathlib.Core.Bool.{false}
-use Prim.Native.Nat.{◌-◌, ℕ, ◌+◌, ◌*◌, ◌<◌}
+use Prim.Native.Nat.{ℕ}
 use native.Mathlib.Omega.{arith}
 use Rattle.format.specs.Encode.{Row}
 use Rattle.environment.proofs.Trees.{ends-inside, one-at-least, this-tree, row-within, ended, method-label}
 use Rattle.typing.proofs.Walk.{walk-start, walk-end, walk-stop, walk-on, untested, func-start, func-end, func-stop, func-on, walk-method, method-refused, methods-start, methods-on}
 use Rattle.refusals.specs.declared.Verdict.TheVariants.{Refused}
-use mathlib.Core.List.{List}
-use borrow.Fn.PlainCycle.{is}
-use Rattle.format.specs.Book.{Definition}
 use Rattle.book.specs.Reading.{as_row}
-use Rattle.format.specs.Layout.{row_at}
-use Rattle.typing.specs.Walk.{Env}
 use Rattle.typing.proofs.Nodes.{RowRead, row-kind, row-name, row-few, row-kids, row-methods, row-weight, at-prim, at-var, at-func, at-service, at-class, at-fields}
 use Rattle.typing.proofs.+check_fields_check_func_check_meths_check_type.Goals as goal
 use Rattle.refusals.specs.declared.Refusal as refusal
-
--- more, a type two for each node: so every call weighs less. Assumes nothing.
 
 pub check_fields-loop-i-init : goal.check_fields-loop-i-init
 check_fields-loop-i-init t c = walk-start c.args.pre false c.requires.0

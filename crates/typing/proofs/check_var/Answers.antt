@@ -1,8 +1,7 @@
 -- `check_var` meets its contract. Assumes nothing.
-use mathlib.Core.Path.{◌≡◌, sym, ◌∙◌}
+use mathlib.Core.Path.{sym, ◌∙◌}
 use native.Mathlib.Omega.{arith}
 use borrow.Author.Tests.{ne_eqb}
-use lib.ListN.{get_or}
 use Rattle.environment.proofs.Links.{get_or-within}
 use Rattle.typing.specs.Walk.{bound_verdict}
 use Rattle.typing.proofs.check_var.Goals as goal

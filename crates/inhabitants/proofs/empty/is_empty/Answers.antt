@@ -9,9 +9,9 @@ use Rattle.format.specs.Layout.{row_at, siblings}
 use Rattle.book.specs.declared.read.Node.{Node}
 use Rattle.book.specs.Reading.{as_row}
 use Rattle.listing.specs.Empty.{visit_fields, is_empty}
-use Rattle.inhabitants.specs.Empty.{Environment, names_from, Fields, no_stack, Visited}
+use Rattle.inhabitants.specs.Empty.{Environment, names_from, Fields, Visited}
 use Rattle.inhabitants.proofs.empty.Visits as laws
-use Rattle.inhabitants.proofs.empty.Fields.{type-fields, type-visited, visiting-few, RowsLeft, rows-visiting, rows-marks, rows-next, rows-end}
+use Rattle.inhabitants.proofs.empty.Fields.{type-fields, type-visited, visiting-few, rows-visiting, rows-marks, rows-next, rows-end}
 use Rattle.inhabitants.proofs.empty.is_empty.Goals as goal
 
 pub bounds-marked-n : goal.bounds-marked-n

@@ -1,10 +1,8 @@
 -- `visit_fields` meets its contract: the rows that are left, and those that wait, answer as all of them do. Assumes nothing.
 use mathlib.Core.Path.{sym}
-use Prim.Native.Nat.{◌-◌}
 use native.Mathlib.Nat.{pos_of_ne-zero}
 use native.Mathlib.Omega.{arith}
-use Rattle.book.specs.Reading.{as_row}
-use Rattle.inhabitants.proofs.empty.Fields.{rows-start, rows-deep, rows-marks, rows-few, rows-stacked, rows-next, rows-end, Met, met, met-few, met-tabled, met-ends, met-fewer, rows-stop, rows-missing, root-few, body-within, body-few, rows-enter, last-on, last-few, last-end, last-within, last-small, last-size, last-fewer, rows-back, name-within}
+use Rattle.inhabitants.proofs.empty.Fields.{rows-start, rows-deep, rows-marks, rows-few, rows-stacked, rows-next, rows-end, met, met-few, met-tabled, met-ends, met-fewer, rows-stop, rows-missing, root-few, body-within, body-few, rows-enter, last-on, last-few, last-end, last-within, last-small, last-size, last-fewer, rows-back, name-within}
 use Rattle.inhabitants.proofs.empty.visit_fields.Goals as goal
 
 pub no_stack-stack-requires : goal.no_stack-stack-requires
