@@ -2,10 +2,10 @@
 # Proves and builds the static library or programs, and puts them where the other tools look for them:  tools/build.sh CRATE ..
 #
 #   exports      target/staticlib/libexports.a
-#   a program    target/bin/CRATE, and its own object target/obj/CRATE.o; it is run once, without input
+#   a program    target/bin/CRATE, and its own object target/obj/CRATE.o; what it writes on crates/CRATE/stdin has to be crates/CRATE/stdout
 #
 # Needs the Rattle kit, which leaves what it builds in crates/CRATE/out (`rt lib`, `rt run`). What has not changed is not proved again.
-set -eu
+set -euo pipefail
 [ $# -gt 0 ] || {
     sed -n '2,/^set/{/^set/d;s/^# \{0,1\}//;p}' "$0" >&2
     exit 2
@@ -19,6 +19,9 @@ for crate in "$@"; do
         (cd "crates/$crate" && rt run </dev/null >/dev/null)
         cp "$out/$crate" target/bin/
         cp "$out/$crate.o" target/obj/
+        input=crates/$crate/stdin
+        [ -f "$input" ] || input=/dev/null
+        "target/bin/$crate" <"$input" | cmp - "crates/$crate/stdout"
     else
         (cd "crates/$crate" && rt lib)
         cp "$out/lib$crate.a" target/staticlib/

@@ -20,8 +20,7 @@ EXAMPLE = re.compile(r"p0*(?P<number>[1-9][0-9]*)(?P<which>-[a-z]+)?\.did")
 HEAD = """\
 -- The bytes of document 01's examples, each made of the source in tests/layout that its comment names. Do not edit:
 -- `python3 tools/mksamples.py` makes this file anew. Definitions; assumes nothing.
-use mathlib.Core.List.{List, [], _∷_}
-use Prim.Native.Nat.{ℕ}
+use Rattle.std.specs.Prelude.{List, [], ◌∷◌, ℕ}
 """
 
 
