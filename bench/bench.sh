@@ -10,7 +10,7 @@ set -eu
 root=$(cd "$(dirname "$0")/.." && pwd)
 out=$root/target/oracle/bench
 tree=$root/target/oracle/tree
-(cd "$root" && rt staticlib exports) >/dev/null
+"$root/tools/build.sh" exports >/dev/null
 [ -d "$tree" ] || "$root/oracle/build.sh" "$@"
 mkdir -p "$out"
 export ORACLE_TREE=$tree

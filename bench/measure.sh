@@ -4,7 +4,7 @@
 # Without a source: a small book, a full-size one, and those that take the most stack or time. It needs what c/build.sh needs.
 set -eu
 cd "$(dirname "$0")/.."
-rt staticlib exports >&2
+tools/build.sh exports >&2
 mkdir -p target/bench
 "${CC:-cc}" -std=c99 -O2 -Wall -Wextra -Wpedantic -Werror -Iinclude -Ic bench/measure.c target/staticlib/libexports.a -o target/bench/measure
 if [ $# = 0 ]; then

@@ -4,7 +4,7 @@
 For each program (all if none is named) and each book of its own, a small one and the deepest and largest, prints the least
 limit on the stack, in KiB, under which the program writes what is right; then the most of a program's books. What is right
 comes from tools/layout.py, tools/answers.py and the sources, never from the program. What a deep book takes more than a
-small one is the library's own stack. `rt check` builds the programs. Addresses are not randomized, so that runs agree.
+small one is the library's own stack. `tools/build.sh` builds the programs. Addresses are not randomized, so that runs agree.
 """
 
 import os
@@ -73,7 +73,7 @@ def measure(program):
     folders, run = PROGRAMS[program]
     path, found = os.path.join(ROOT, "target", "bin", program), {}
     if not os.path.exists(path):
-        print(f"{program}: not built, `rt check {program}` builds it")
+        print(f"{program}: not built, `tools/build.sh {program}` builds it")
         return
     for folder in folders:
         for name, text in mkbatch.sources(folder):

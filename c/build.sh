@@ -1,11 +1,11 @@
 #!/usr/bin/env bash
 # Builds c/list.c and c/questions.c on the static library and compares what they write with what is right:  c/build.sh
 #
-# Needs the Rattle kit (`rt staticlib exports` proves what is not proved yet), Python 3 and a C compiler, `cc` or what CC names.
+# Needs the Rattle kit (tools/build.sh proves what is not proved yet), Python 3 and a C compiler, `cc` or what CC names.
 # All that it makes is in target/c.
 set -eu
 cd "$(dirname "$0")/.."
-rt staticlib exports
+tools/build.sh exports
 mkdir -p target/c
 for program in list questions; do
     "${CC:-cc}" -std=c99 -O2 -Wall -Wextra -Wpedantic -Werror -Iinclude "c/$program.c" target/staticlib/libexports.a -o "target/c/$program"

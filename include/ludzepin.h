@@ -1,4 +1,4 @@
-/* Declaration books for programs in C and C++. Link target/staticlib/libexports.a, which `rt staticlib exports` writes for x86-64 Linux.
+/* Declaration books for programs in C and C++. Link target/staticlib/libexports.a, which tools/build.sh makes for x86-64 Linux.
  *
  * A slice crosses as a pointer and a number of elements. Nothing is asked of a book's bytes or of limits. What a caller owes is what C cannot
  * say: that many elements are there, and `out` overlaps nothing else that is lent. An empty slice is never read, so its pointer may be NULL. The

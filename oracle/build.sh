@@ -1,7 +1,7 @@
 #!/bin/sh
 # Builds target/oracle/oracle from the customer's Rust sources:  oracle/build.sh [SOURCES]
 # SOURCES is the folder with rust/candid and rust/candid_parser; without it, shared/docs/src beside the repository or beside the folder it
-# lies in. The sources are compared with oracle/SHA256SUMS and read where they lie. If `rt staticlib exports` came before, the exported
+# lies in. The sources are compared with oracle/SHA256SUMS and read where they lie. If `tools/build.sh exports` came before, the exported
 # functions are linked and compared too.
 set -eu
 root=$(cd "$(dirname "$0")/.." && pwd)

@@ -2,7 +2,7 @@
 # Compares the reader with the customer's Rust on random books:  oracle/compare.sh SEED COUNT [damage]
 # or on all small books, or on parts of them:                    oracle/compare.sh all [PART ...]
 # or on a batch that is there:                                   oracle/compare.sh BATCH
-# oracle/build.sh comes first, and rt check answer_batch. The batch and the lines of both sides stay in target/oracle/run.
+# oracle/build.sh comes first, and tools/build.sh answer_batch. The batch and the lines of both sides stay in target/oracle/run.
 # If books differ, the smallest of them is made smaller still and printed, with its limits. ANSWER_BATCH names another program to compare than
 # target/bin/answer_batch, such as `python3 tools/replay.py answer`, which answers by tools/answers.py.
 set -eu

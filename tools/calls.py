@@ -1,11 +1,13 @@
 #!/usr/bin/env python3
 """Which functions can reach themselves:  python3 tools/calls.py [--stack] [--docs] [ROOT]
 
-The call graph is read from `rt mir` of every crate of crates.txt, private functions and those of the kit's libraries among them. It prints each
-circle of calls, with the measure that falls at each of its calls as the proof states it (the folder `+..` that the kit asks for), as a table.
+The call graph is read from what the kit makes of every crate of crates.txt for its proofs (`rt check --generated`): the code of each function,
+private ones too. It prints each circle of calls, with the measure that falls at each of its calls as the proof states it (the folder `+..` that the
+kit asks for), as a table. The kit's own libraries are not followed: a function of theirs calls what was handed to it, which counts as called by
+whoever handed it on, and nothing else of the crates.
 
-    --stack    also the bytes of stack that one level takes, from the machine code of `rt staticlib exports` and of the programs that `rt check`
-               built (tools/stacks.py); no call may lie on a circle there that lies on none in the MIR
+    --stack    also the bytes of stack that one level takes, from the machine code of the library and of the programs, as tools/build.sh makes it
+               (tools/stacks.py); no call may lie on a circle there that lies on none in the graph
     --docs     the table must be that of docs/FIGURES.md
 
 The exit status is 1 if a function that has to be a loop (`have_to_be_loops`) reaches a circle: the way is told. It is 1 too if the document has
@@ -18,6 +20,7 @@ import os
 import re
 import subprocess
 import sys
+import tempfile
 
 import stacks
 from graphs import Wrong, circles, expect, reached, way_round
@@ -35,102 +38,56 @@ LOOPS = (STEP, "environment::alias_end", "environment::no_ends", "environment::c
 ALL_OF, BUT = ("environment::", "analysis::", "inhabitants::"), "environment::merge::"
 
 
-# The MIR: `program FUNCTIONS MAIN`, where lists are `(lcons ITEM REST)` and `lnil`.
+# What the kit makes of a crate: for a function the module PATH/Code, with a line for each function that it names; for functions that reach
+# themselves one module PATH/+NAME/Code with the lines of all, and a module for each below it, which names those of the folder that it calls.
 
-TOKEN = re.compile(r'[()]|"[^"\\]*"|[^\s()"]+')
-# The statements, with the places of the statements inside; any other part of a statement may only name functions.
-STATEMENTS = {"seq": (1, 2), "if": (2, 3), "block": (1,), "loop": (1,), "switch": (2,), "arm": (2, 3), "noDefault": (), "default": (1,), "assign": (),
-              "call": (), "return": (), "exit": (), "skip": (), "foreign": ()}
+LINE = re.compile(r"^pub calls-(\S+) :", re.MULTILINE)
+USE = re.compile(r"^use Rattle\.(\S+)", re.MULTILINE)
 
-
-def parse(text):
-    """Nested lists of words."""
-    rest, stack = TOKEN.sub("", text).split(), [[]]
-    expect(not rest, f"the MIR has what is no word: {' '.join(rest)}")
-    for word in TOKEN.findall(text):
-        if word == "(":
-            stack.append([])
-        elif word == ")":
-            expect(len(stack) > 1, "the MIR closes a parenthesis that is not open")
-            inner = stack.pop()
-            stack[-1].append(inner)
-        else:
-            stack[-1].append(word)
-    expect(len(stack) == 1, "the MIR ends inside a parenthesis")
-    return stack[0]
+Function = collections.namedtuple("Function", "named")
 
 
-def items(chain):
-    while chain != "lnil":
-        expect(isinstance(chain, list) and len(chain) == 3 and chain[0] == "lcons", f"the MIR has another list than this tool knows: {head(chain)}")
-        yield chain[1]
-        chain = chain[2]
-
-
-def head(part):
-    return part[0] if isinstance(part, list) and part and isinstance(part[0], str) else part if isinstance(part, str) else "()"
-
-
-def references(part):
-    """The functions that a part of a statement names."""
-    parts = [part]
-    while parts:
-        part = parts.pop()
-        expect(isinstance(part, str) or head(part) != "call", "the MIR has a call where this tool knows no statement")
-        if head(part) == "fnRef":
-            expect(isinstance(part, list) and len(part) == 2 and is_name(part[1]), "the MIR has a reference to a function without a name")
-            yield part[1][1:-1]
-        elif isinstance(part, list):
-            parts.extend(part)
-
-
-def is_name(word):
-    return isinstance(word, str) and word.startswith('"')
-
-
-def calls_of(name, body):
-    """The functions that a body names, whether it calls them or not; and the C function that it stands for, if it does."""
-    named, foreign, parts = set(), None, [body]
-    while parts:
-        part = parts.pop()
-        word = head(part)
-        expect(word in STATEMENTS, f"{name}: `{word}` is no statement that this tool knows")
-        inside = STATEMENTS[word] if isinstance(part, list) else ()
-        expect(all(place < len(part) for place in inside), f"{name}: `{word}` has fewer parts than this tool knows")
-        parts.extend(part[place] for place in inside)
-        if word == "call":
-            callee = part[1] if len(part) > 1 else None
-            direct = head(callee) == "direct" and len(callee) == 2 and head(callee[1]) == "fnRef"
-            expect(direct, f"{name} has a call that is not direct: `{head(callee)}`")
-        if word == "foreign":
-            expect(part is body and len(part) > 1 and is_name(part[1]), f"{name}: a C function is not the whole body")
-            foreign = part[1][1:-1]
-        elif isinstance(part, list):
-            for place, inner in enumerate(part):
-                if place not in inside:
-                    named.update(references(inner))
-    return frozenset(named), foreign
-
-
-Function = collections.namedtuple("Function", "named foreign")
-
-
-def functions_of(text, crates):
-    """The functions of a program in MIR. All that it refers to is in it; C functions are the kit's alone."""
-    program = parse(text)
-    expect(len(program) == 3 and program[0] == "program", "the MIR is no program")
+def members_of(crate, module, folder, codes):
+    """The functions of a folder `+..`, each with those of the folder that it calls."""
     found = {}
-    for item in items(program[1]):
-        fine = head(item) == "fn-def" and len(item) > 2 and is_name(item[1]) and head(item[2]) == "fnItem" and len(item[2]) == 6
-        expect(fine, f"the MIR defines something else than a function, or otherwise than this tool knows: {head(item)}")
-        name = item[1][1:-1]
-        expect(name not in found, f"{name} is defined twice in one program")
-        expect(not any(True for part in item[2][1:5] + item[3:] for _ in references(part)), f"{name} refers to a function outside its body")
-        found[name] = Function(*calls_of(name, item[2][5]))
-        expect(found[name].foreign is None or name.split("::")[0] not in crates, f"{name} is a C function and not the kit's")
+    for path, text in codes.items():
+        if path.startswith(f"{folder}/Code/+"):
+            name = "::".join([crate, *module, path.removeprefix(f"{folder}/Code/+")])
+            keys = [use.removeprefix(f"{crate}.specs.contracts.").removesuffix(".Key") for use in USE.findall(text) if use.endswith(".Key")]
+            found[name] = {"::".join([crate, *key.split(".")]) for key in keys}
+    expect(found, f"{crate}: {folder} has no functions")
+    for name, named in found.items():
+        expect(named <= set(found), f"{name} has calls that this tool does not know: {', '.join(sorted(named - set(found)))}")
+    return found
+
+
+def functions_of(codes, crate, known, crates):
+    """The functions of a crate, from its modules. `known` has those of the crates below."""
+    found, passed_on = {}, {}
+    for path, text in codes.items():
+        folder = path.removesuffix("/Code")
+        if folder == path:
+            continue  # a part of another module
+        *module, last = folder.split("/")
+        named = frozenset(LINE.findall(text))
+        calls = text.count("\npub calls-")
+        expect(calls == len(named), f"{crate}: {folder} has {calls} calls, and {len(named)} are read")
+        within = [use for use in USE.findall(text) if use.startswith(f"{crate}.proofs.") and "+" in use.split(".")[-2] and use.endswith(".Code")]
+        if last.startswith("+"):
+            for name, others in members_of(crate, module, folder, codes).items():
+                expect(name not in found, f"{name} is there twice")
+                found[name] = Function(named | frozenset(others))
+        elif within and not named:
+            passed_on["::".join([crate, *module, last])] = within
+        else:
+            found["::".join([crate, *module, last])] = Function(named)
+    expect(found or not codes, f"{crate} has modules and no functions")
+    for name, folders in passed_on.items():
+        expect(name in found, f"{name} is said to be in {', '.join(folders)}, and is not")
     for name, function in found.items():
         for callee in sorted(function.named):
-            expect(callee in found, f"{name} calls {callee}, which is defined nowhere")
+            there = callee in found or callee in known or callee.split("::")[0] not in crates
+            expect(there, f"{name} calls {callee}, which is defined nowhere")
     return found
 
 
@@ -142,10 +99,21 @@ def crate_names(root):
     return [line[0].rstrip(":") for line in lines if line]
 
 
-def mir(root, crate):
-    done = subprocess.run(["rt", "mir", crate], cwd=root, capture_output=True, encoding="utf-8")
-    expect(done.returncode == 0, f"`rt mir {crate}` failed:\n{done.stderr.strip()}")
-    return done.stdout
+def generated(root, crate):
+    """The modules of code that the kit makes of a crate, by their paths. What is below the crate has to be proved."""
+    with tempfile.TemporaryDirectory() as folder:
+        made = os.path.join(folder, "made")
+        done = subprocess.run(["rt", "check", "--generated", made], cwd=os.path.join(root, "crates", crate), capture_output=True, encoding="utf-8")
+        written = re.search(r"^generated=[0-9]+$", done.stdout, re.MULTILINE)
+        expect(done.returncode == 0 and written, f"`rt check --generated` of {crate} failed:\n{(done.stdout + done.stderr).strip()}")
+        top, found = os.path.join(made, f"Rattle-{crate}-proofs"), {}
+        for path, _, names in os.walk(top):
+            for name in names:
+                place = os.path.relpath(os.path.join(path, name), top).removesuffix(".antt")
+                if "Code" in place.split(os.sep):
+                    with open(os.path.join(path, name), encoding="utf-8") as file:
+                        found[place.replace(os.sep, "/")] = file.read()
+        return found
 
 
 def source_files(root, crate):
@@ -158,8 +126,12 @@ def source_files(root, crate):
                 yield os.path.join(path, name), [crate] + [part for part in module if module not in (["lib"], ["main"])]
 
 
+# What the kit adds to the functions of the sources: what a derive, a closure, the end of a value's life and the start of `main` come to.
+ADDED = re.compile(r"::(fn::.*|\S*\+\S*::\w+|\w*(Clone::clone|Drop::drop)|main\+\w+)$")
+
+
 def check_whole(root, crate, functions):
-    """The MIR has the functions of the sources: in each module as many of each name, methods of all types together."""
+    """The graph has the functions of the sources: in each module as many of each name, methods of all types together."""
     sources, there, modules = collections.Counter(), collections.Counter(), set()
     for path, parts in source_files(root, crate):
         module = "::".join(parts)
@@ -167,11 +139,12 @@ def check_whole(root, crate, functions):
         with open(path, encoding="utf-8") as file:
             sources.update((module, name) for name in re.findall(r"\bfn (\w+)", re.sub("//.*", "", file.read())))
     for function in functions:
-        if function.split("::")[0] == crate:
-            module, _, name = function.rpartition("::")
-            there[module if module in modules else module.rpartition("::")[0], name] += 1
+        module, _, name = function.rpartition("::")
+        one = module if module in modules else module.rpartition("::")[0], name
+        if one in sources or not ADDED.search(function):
+            there[one] += 1
     for one in sorted(sources | there):
-        expect(sources[one] == there[one], f"{'::'.join(one)}: the sources have {sources[one]} and `rt mir {crate}` has {there[one]}")
+        expect(sources[one] == there[one], f"{'::'.join(one)}: the sources have {sources[one]} and what the kit makes has {there[one]}")
 
 
 def have_to_be_loops(graph):
@@ -181,27 +154,27 @@ def have_to_be_loops(graph):
 
 
 class Graph:
-    """Of all crates together: what each function names, the C functions, and those that the library has."""
+    """Of all crates together: what each function names, the kit's functions, which name nothing here, and those that the library has."""
 
     def __init__(self):
-        self.functions, self.library = {}, set()
+        self.functions, self.library, self.kit = {}, set(), set()
 
     def add(self, crate, found):
-        for name, function in found.items():
-            expect(self.functions.setdefault(name, function) == function, f"{name} calls one thing in one crate and another in {crate}")
+        self.functions.update(found)
+        self.kit |= {callee for one in found.values() for callee in one.named} - set(self.functions)
         if crate == "exports":
-            self.library = set(found)
+            self.library = reached(self.calls(), set(found)) - self.kit
 
     def calls(self):
-        return {name: function.named for name, function in self.functions.items()}
+        return {name: function.named for name, function in self.functions.items()} | {name: frozenset() for name in self.kit}
 
 
-def read(root, text_of):
+def read(root, codes_of):
     """The graph, and the way from a function that has to be a loop into a circle, if there is one. A crate calls what is below it alone, so each
-    is judged before what stands on it is read, for which `rt mir` would have it proved."""
+    is judged before what stands on it is read, for which the kit would have it proved."""
     graph, crates = Graph(), crate_names(root)
     for crate in crates:
-        found = functions_of(text_of(root, crate), set(crates))
+        found = functions_of(codes_of(root, crate), crate, graph.functions, set(crates))
         check_whole(root, crate, found)
         graph.add(crate, found)
         path = way_round(graph.calls(), have_to_be_loops(graph.calls()))
@@ -215,60 +188,50 @@ def read(root, text_of):
 
 # What falls at each call: the measures in the proofs.
 
+DECREASES = re.compile(r"^decreases-(\w+)(?: g)? l =((?: .*|\n +\S.*)+)$", re.MULTILINE)
+
+
 def folders(root):
-    """Each folder of a proof of a circle, by the functions' names."""
+    """Each folder of a proof of a circle, by the functions' names: those that a measure is stated for, but for those of loops."""
     found = {}
     for crate in crate_names(root):
         top = os.path.join(root, "crates", crate, "proofs")
         for path, names, _ in os.walk(top):
             for name in names:
                 if name.startswith("+"):
+                    file = os.path.join(path, name, "Invariants.antt")
                     module = [part for part in os.path.relpath(path, top).split(os.sep) if part != "."]
-                    members = tuple("::".join([crate, *module, member]) for member in name.split("+")[1:])
-                    found[members] = os.path.join(path, name, "Proof.antt")
+                    members = tuple("::".join([crate, *module, member]) for member in sorted(stated(file)))
+                    expect(members, f"{os.path.relpath(file, root)} states no measure of a function")
+                    expect(members not in found, f"{', '.join(members)} have two folders +")
+                    found[members] = file
     return found
 
 
-def parameters(root, name):
-    """The names of a function's parameters, from its source."""
-    crate, *_, last = name.split("::")
-    files = {"::".join(module): path for path, module in source_files(root, crate)}
-    module = name.rsplit("::", 1)[0]
-    path = files.get(module) or files.get(module.rsplit("::", 1)[0])  # without the type of a method
-    expect(path, f"{name} has no source")
-    with open(path, encoding="utf-8") as file:
-        found = re.findall(rf"\bfn {last}(?:<[^>]*>)?\(([^()]*)\)", file.read())
-    expect(len(found) == 1, f"{name}: the source has {len(found)} functions of that name, or its parameters are not read")
-    return [part.split(":")[0].removeprefix("mut ").strip() for part in found[0].split(",") if part.strip()]
-
-
-def in_words(name, argument, body, names):
-    """A measure, with the parameters' names for the places in the tuple of arguments, `a .1 .1 .0` the third."""
-    words, found = re.findall(r"[()]|[^\s()]+", body), []
-    while words:
-        word = words.pop(0)
-        if word == argument:
-            place = 0
-            while words[:1] == [".1"]:
-                place, words = place + 1, words[1:]
-            expect(words[:1] == [".0"] and place < len(names), f"{name}: the measure has a place that is no parameter: {body}")
-            words = words[2:] if words[1:2] == [".now"] else words[1:]  # what a slice holds
-            word = names[place]
-        found.append(word)
-    text = re.sub(r"\( | \)", lambda space: space[0].strip(), " ".join(found))
-    return re.sub(r"\((\w+)\)", r"\1", text)
-
-
-def measures(root, members, path):
-    """What falls at each call of each member. The kit's `close` takes the measures in the order of the members."""
+def stated(path):
+    """The measures of a file, by the functions' names. A loop's is named after the loop too, `decreases-FUNCTION-loop-i` or `decreases-loop-i`."""
+    expect(os.path.exists(path), f"{path} is not there")
     with open(path, encoding="utf-8") as file:
         text = file.read()
-    closed = re.findall(r"(?:=|^)\s*close((?:\s+μ\S*)+)", text, re.MULTILINE)
-    expect(len(closed) == 1 and len(closed[0].split()) == len(members), f"{path}: `close` has not a measure for each of {', '.join(members)}")
-    for name, measure in zip(members, closed[0].split()):
-        stated = re.findall(rf"^{re.escape(measure)} (\S+) (\S+) =((?: .*|\n +\S.*)+)$", text, re.MULTILINE)
-        expect(len(stated) == 1, f"{path}: {measure} is not stated once, of two arguments")
-        yield in_words(name, stated[0][1], stated[0][2], parameters(root, name))
+    found = {}
+    for name, body in DECREASES.findall(text):
+        expect(name not in found, f"{path}: decreases-{name} is stated twice")
+        found[name] = body
+    return found
+
+
+def in_words(name, body):
+    """A measure, with the parameters' names alone: `l.n` is `n`, and `l.rows.now`, what a slice holds, `rows`."""
+    text = re.sub(r"\bl\.(\w+)(\.now\b)?", r"\1", " ".join(body.split()))
+    expect(not re.search(r"\bl\b", text), f"{name}: the measure has what is no parameter: {' '.join(body.split())}")
+    return text
+
+
+def measures(members, path):
+    """What falls at each call of each member."""
+    found = stated(path)
+    for name in members:
+        yield in_words(name, found[name.rpartition("::")[2]])
 
 
 def check_proved(root, found):
@@ -283,7 +246,7 @@ def fallen(root, found):
     check_proved(root, found)
     for members in proofs:
         expect(list(members) in found, f"{os.path.relpath(proofs[members], root)} is there, and no circle of calls {', '.join(members)}")
-    return [list(measures(root, tuple(members), proofs[tuple(members)])) for members in found]
+    return [list(measures(members, proofs[tuple(members)])) for members in found]
 
 
 # The table.
@@ -313,19 +276,19 @@ def stored(root):
 
 def tell(root, options):
     """Prints what was found, and answers the exit status."""
-    graph, path = read(root, mir)
+    graph, path = read(root, generated)
     if path:
         print(f"{path[0]} has to be a loop, as what it calls, and reaches a function that reaches itself:\n{' -> '.join(path)}")
         return 1
     calls = graph.calls()
-    found, loops, foreign = circles(calls), have_to_be_loops(calls), [one.foreign for one in graph.functions.values() if one.foreign]
+    found, loops = circles(calls), have_to_be_loops(calls)
     falls, most, columns = fallen(root, found), [0] * len(found), len(HEAD) - 1
     members, others = sum(map(len, found)), reached(calls, loops) - loops
-    said = [f"{len(calls)} functions, {len(foreign)} of them C's; {len(found)} circles of calls, with {members} functions, each with its proof",
+    said = [f"{len(calls)} functions, {len(graph.kit)} of them the kit's; {len(found)} circles of calls, with {members} functions, each with its proof",
             f"{len(loops)} functions have to be loops, and reach {len(others)} others: none of them is on a circle"]
     if "--stack" in options:
         paths, columns = stacks.objects(root, crate_names(root)), len(HEAD)
-        most, count = stacks.stacks(root, paths, set(foreign), found)
+        most, count = stacks.stacks(root, paths, set(crate_names(root)), found)
         said.append(f"{count} functions in the machine code of {', '.join(map(os.path.basename, paths))}: no other circle")
     lines = [line[:columns] for line in [HEAD, *rows(graph, found, falls, most)]]
     differs = "--docs" in options and [line[:columns] for line in stored(root)] != lines

@@ -1,11 +1,12 @@
 """The stack that one level of a recursion takes, from the machine code: a part of tools/calls.py.
 
-The code is what `objdump` prints of the library and of the programs' own objects. Held: each call is direct, to a function of these or to a known
-one of C; data point into their own function alone; what names each other is a circle of the MIR too; each instruction has one length of the stack,
-by all ways to it, and no instruction moves the stack but as `added` knows.
+The code is what `objdump` prints of the library and of the programs' own objects. Held: each call is direct, to a function of these or to one of C,
+in the library to one that the compiler itself uses; data point into their own function alone; what names each other is a circle of the graph too, or
+the kit's own alone; each instruction has one length of the stack, by all ways to it, and no instruction moves the stack but as `added` knows.
 
-Assumed: a C function calls none of these back; linking changes no call; what only tables of jumps lead to has the stack that the function's jumps by
-table have, which have to agree; a function keeps its name, but for what the compiler adds after a dot.
+Assumed: a C function, which is what has no path for a name, calls none of these back; linking changes no call; what only tables of jumps lead to has
+the stack that the function's jumps by table have, which have to agree; a function keeps its name, but for what the compiler adds after a dot and the
+kit in `::<#..>`.
 """
 
 import collections
@@ -20,7 +21,7 @@ Instruction = collections.namedtuple("Instruction", "at word operands symbol")  
 
 
 def objdump(option, path):
-    expect(os.path.exists(path), f"{path} is not there: `rt staticlib exports` and `rt check` make the machine code")
+    expect(os.path.exists(path), f"{path} is not there: tools/build.sh makes the machine code")
     command = ["objdump", option, "--no-show-raw-insn", path]
     try:
         done = subprocess.run(command, capture_output=True, encoding="utf-8", env={**os.environ, "LC_ALL": "C"})
@@ -32,7 +33,7 @@ def objdump(option, path):
 
 def without_place(symbol):
     """A relocation's symbol without what is added, a section's as its function."""
-    return re.sub(r"[-+]0x[0-9a-f]+$", "", symbol).removeprefix(".text.")
+    return re.sub(r"[-+]0x[0-9a-f]+$", "", symbol).removeprefix(".text.").removeprefix("unlikely.")
 
 
 def machine_functions(path):
@@ -43,7 +44,7 @@ def machine_functions(path):
             section, code = line.removeprefix("Disassembly of section ").rstrip(":"), None
         elif re.match(r"[0-9a-f]+ <.*>:$", line):
             name = line[line.index("<") + 1:-2]
-            fine = section == f".text.{name}" and int(line.split()[0], 16) == 0 and name not in found
+            fine = re.fullmatch(r"\.text\.(unlikely\.)?" + re.escape(name), section) and int(line.split()[0], 16) == 0 and name not in found
             expect(fine, f"{path}: {name} has no section of its own")
             code = found[name] = []
         elif re.match(r"\s*[0-9a-f]+:\s", line):
@@ -72,7 +73,7 @@ def check_tables(path, functions):
             expect(name not in functions or section == f".rodata.{name}", f"{path}: {section} points to {name}")
 
 
-def machine_calls(path, functions, foreign):
+def machine_calls(path, functions):
     """What each function of the machine code names."""
     graph = {}
     for name, code in functions.items():
@@ -83,8 +84,9 @@ def machine_calls(path, functions, foreign):
                 named.add(one.symbol)
             elif table in functions and table != name:
                 named.add(table)
-            elif one.symbol and not re.match(r"\.(rodata|LCPI)", one.symbol):
-                expect(one.symbol in foreign | C_OF_COMPILER, f"{path}: {name} calls {one.symbol}, which is no function of the crates or of C")
+            elif one.symbol and not re.match(r"\.(rodata|LCPI|Lstatic)", one.symbol):
+                is_c = one.symbol in C_OF_COMPILER or not path.endswith(".a") and "::" not in one.symbol
+                expect(is_c, f"{path}: {name} calls {one.symbol}, which is no function of the crates or of C")
             if one.word.startswith("call") and not one.symbol:
                 expect(re.fullmatch(rf"0 <{re.escape(name)}>", one.operands), f"{path}: {name} has a call that is not direct: {one.operands}")
                 named.add(name)
@@ -180,16 +182,22 @@ def objects(root, crates):
     return [os.path.join("target", "staticlib", "libexports.a")] + [os.path.join("target", "obj", f"{program}.o") for program in programs]
 
 
-def stacks(root, paths, foreign, found):
-    """Of each circle of the MIR the most bytes a level in any machine code, 0 if it is a loop there; and how many functions the machine code has."""
+def without_addition(name):
+    return re.sub(r"(\.llvm)?\.[0-9]+$", "", re.sub(r"::<#[0-9a-f]+>", "", name))
+
+
+def stacks(root, paths, crates, found):
+    """Of each circle of the graph the most bytes a level in any machine code, 0 if it is a loop there; and how many functions the machine code has."""
     most, count = [0] * len(found), 0
     for path in paths:
         functions = machine_functions(os.path.join(root, path))
         check_tables(os.path.join(root, path), functions)
         count += len(functions)
-        for members, level in levels(functions, machine_calls(path, functions, foreign)).items():
-            names = {re.sub(r"(\.llvm)?\.[0-9]+$", "", member) for member in members}
+        for members, level in levels(functions, machine_calls(path, functions)).items():
+            names = {without_addition(member) for member in members}
+            if not any(name.split("::")[0] in crates for name in names):
+                continue
             place = next((place for place, circle in enumerate(found) if names <= set(circle)), None)
-            expect(place is not None, f"{path}: the machine code has a circle that the MIR has not: {', '.join(members)}")
+            expect(place is not None, f"{path}: the machine code has a circle that the graph has not: {', '.join(members)}")
             most[place] = max(most[place], level)
     return most, count

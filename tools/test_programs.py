@@ -1,7 +1,7 @@
 #!/usr/bin/env python3
 r"""Tests the built program `list`:  python3 tools/test_programs.py
 
-`rt check list` builds it and runs it on P1; here it reads every book of tests, books at the limits, bytes that are none, and files that cannot
+`tools/build.sh list` builds it, and the gate runs it on P1; here it reads every book of tests, books at the limits, bytes that are none, and files that cannot
 be read or written.
 What it must write comes from tools/answers.py, which reads the bytes by the paper alone, and in part from the paper by hand.
 Without the program all tests are skipped.
@@ -24,7 +24,7 @@ from mkgate import CHECK_SOURCES, LIMITS_SOURCES, LIST_SOURCES, ROOT, SOURCES
 
 PROGRAM = os.path.join(ROOT, "target", "bin", "list")
 MOST = 65536  # bytes of a book
-NOT_BUILT = None if os.path.exists(PROGRAM) else "target/bin/list is not built, nothing is tested: `rt check list` builds it"
+NOT_BUILT = None if os.path.exists(PROGRAM) else "target/bin/list is not built, nothing is tested: `tools/build.sh list` builds it"
 BROKEN = "refused 1 -\n"
 
 
@@ -161,6 +161,8 @@ class List(unittest.TestCase):
             self.runs([], b"", "list: standard input: Is a directory\n", stdin=descriptor)
             os.close(descriptor)
         self.runs([""], b"", "list: : No such file or directory\n")
+        found = subprocess.run([PROGRAM, b"\xff"], env={}, capture_output=True)
+        self.assertEqual((found.stdout, found.stderr, found.returncode), (b"", b"list: \xff: Not UTF-8\n", 0))
         for arguments in (["a", "b"], ["", "", ""]):
             self.runs(arguments, b"", "usage: list [FILE]\n")
 

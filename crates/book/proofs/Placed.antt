@@ -4,12 +4,12 @@
 --     place-small   a place fits 16 bits
 --     places-end    the table at its end
 use mathlib.Core.Path.{◌≡◌, sym, ap, subst, ◌∙◌}
-use mathlib.Core.List.{List, ◌++◌}
+use mathlib.Core.List.{List}
 use Prim.Native.Nat.{ℕ, ◌+◌, ◌-◌, ◌≤◌, ◌<◌}
 use native.Mathlib.Omega.{arith}
 use lib.ListN.{length, get_or, set, take, drop, length-take, length-drop, take-append-drop}
 use lib.Seq.{take-append-le, drop-append-le, get_or-take, get_or-drop, drop-drop}
-use Rattle.format.specs.Layout.{part, names_part, name_in}
+use Rattle.format.specs.Layout.{part, names_part}
 use Rattle.format.proofs.Encoded.{fit-parts}
 use Rattle.format.proofs.Theorems.{found}
 use Rattle.book.specs.declared.kinds.Contents.{Contents}

@@ -1,6 +1,6 @@
 -- A digital search tree over the places of a list, and what the functions that search say. Definitions; assumes nothing.
 -- A place has two links, by the lowest bit of what is left of a number; 0, the root, is linked from nowhere and stands for none.
-use Rattle.std.specs.Prelude.{◌≡◌, Bool, true, false, List, ℕ, ◌+◌, ◌*◌, ◌/◌, ◌%◌, ◌≤◌, ◌<◌, length, get_or, replicate}
+use Rattle.std.specs.Prelude.{Bool, true, false, List, ℕ, ◌+◌, ◌*◌, ◌/◌, ◌%◌, ◌≤◌, ◌<◌, length, get_or, replicate}
 use Rattle.duplicates.specs.Duplicate.{StandsBefore}
 
 -- So many links; none leads anywhere.

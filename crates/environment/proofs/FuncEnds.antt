@@ -10,7 +10,7 @@ use native.Mathlib.Decide.{ℕ_discrete}
 use native.Mathlib.Omega.{arith}
 use lib.Dec.{eqb}
 use lib.ListN.{length}
-use Rattle.format.specs.Forest.{Forest, tree}
+use Rattle.format.specs.Forest.{Forest}
 use Rattle.format.specs.Node.{Kind, Node}
 use Rattle.format.specs.Book.{Definition}
 use Rattle.format.specs.Layout.{row_at, kinds, kind_of, node_of}

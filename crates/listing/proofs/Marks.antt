@@ -30,7 +30,7 @@ use Rattle.format.proofs.Distinct.{pigeonhole, ascends-distinct}
 use Rattle.judgement.proofs.Books.{main-definitions-fit}
 use Rattle.judgement.proofs.Theorems.{check-typed}
 use Rattle.judgement.proofs.Rows.{check-numbers}
-use Rattle.listing.specs.Recursive.{Marks, marking, unbound, listed, infer_rec, sorted}
+use Rattle.listing.specs.Recursive.{Marks, marking, unbound, infer_rec, sorted}
 use Rattle.refusals.specs.Outcome.{refused, given, after, fit}
 use Rattle.listing.specs.Marks.{marked, marks_over, AtPlace, MarkedBy, MarksOver, AllDefined, FirstUnbound, MarksRow, marks_rows, checked, short}
 use Rattle.listing.specs.References.{Refers, onward, Way, last, step, Circle}

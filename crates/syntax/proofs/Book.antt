@@ -21,8 +21,7 @@ use lib.ListN.{length, get_or}
 use Rattle.format.specs.declared.Place.TheVariants.{Root}
 use Rattle.format.specs.Forest.{end, count}
 use Rattle.format.specs.Book.{Definition, Role, Main, TypeImport, ServiceImport, InitArgs, File, Book, trees}
-use Rattle.format.specs.Encode.{Entry, name_bytes}
-use Rattle.refusals.specs.Lists.{flat}
+use Rattle.format.specs.Encode.{Entry}
 use Rattle.format.specs.Fits.{is_init, is_init_role, is_main, forest_fits, definition_fits, files_rise, file_fits, imports_fit, roles_fit}
 use Rattle.format.specs.Layout.{entry_at, run, names_of, names_part, nodes_part, definitions_part, files_part, siblings, role_of, whole, layout}
 use Rattle.format.specs.Whole.{tree_at, definition_at, actor_at, file_at}
@@ -31,10 +30,10 @@ use Rattle.format.proofs.Lists.{All, run-append, made-passes}
 use Rattle.format.proofs.Entries.{main-role, init-role}
 use Rattle.format.proofs.Stored.{actor-none}
 use Rattle.format.proofs.Encoded.{all-fit}
-use Rattle.format.proofs.Admitted.{admitted-parts, names-laid, names-read, nodes-long, definitions-held, files-held as files-fill, trees-are, trees-whole, node-stored, definition-stored, definitions-are, file-stored, files-are}
+use Rattle.format.proofs.Admitted.{admitted-parts, names-read, nodes-long, definitions-held, files-held as files-fill, trees-are, trees-whole, node-stored, definition-stored, definitions-are, file-stored, files-are}
 use Rattle.book.specs.declared.kinds.Contents.{Contents}
 use Rattle.book.specs.Reading.{EntryWithin, Admitted}
-use Rattle.book.specs.Tables.{NamesIn, HashesAgree, HashesOf}
+use Rattle.book.specs.Tables.{HashesAgree, HashesOf}
 use Rattle.book.proofs.Opened.{names-count, nodes-count, definitions-count, files-count}
 use Rattle.judgement.specs.Environment.{role_at, keep, main_definitions, init_definitions}
 use Rattle.judgement.specs.Actor.{first_actor, main_actor, init_tree, NoInit}

@@ -1,5 +1,5 @@
 -- `ascends` meets its contract: the numbers passed are distinct, and the last of them is the greatest. Assumes nothing.
-use Prim.Native.Nat.{ℕ, ◌-◌}
+use Prim.Native.Nat.{ℕ}
 use mathlib.Core.Path.{◌≡◌}
 use native.Mathlib.Omega.{arith}
 use lib.Seq.{take_all}

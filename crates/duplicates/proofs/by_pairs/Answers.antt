@@ -1,5 +1,4 @@
 -- `by_pairs` meets its contract: no number stands twice before the place that the loop is at. Assumes nothing.
-use Prim.Native.Nat.{◌-◌}
 use native.Mathlib.Omega.{arith}
 use Rattle.format.specs.Distinct.{none}
 use Rattle.duplicates.proofs.Places.{distinct-on}

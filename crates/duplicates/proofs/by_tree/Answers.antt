@@ -1,5 +1,4 @@
 -- `by_tree` meets its contract: no number stands twice before the place that the loop is at, and the places before it are in the tree. Assumes nothing.
-use Prim.Native.Nat.{◌-◌}
 use mathlib.Core.Path.{refl, ◌∙◌}
 use native.Mathlib.Omega.{arith}
 use lib.Seq.{take_all}

@@ -1,6 +1,6 @@
 -- `meet` meets its contract: the links followed are those of the number, and lead on to each place before that has it. Assumes nothing.
 use mathlib.Core.Path.{refl}
-use Prim.Native.Nat.{◌+◌, ◌*◌, ◌-◌, ◌%◌}
+use Prim.Native.Nat.{◌+◌, ◌*◌, ◌%◌}
 use native.Mathlib.Omega.{arith}
 use lib.ListN.{length-set}
 use Rattle.duplicates.proofs.Places.{stands-at}

@@ -1,5 +1,4 @@
 -- `stands_before` meets its contract: the number is at none of the places passed. Assumes nothing.
-use Prim.Native.Nat.{◌-◌}
 use native.Mathlib.Omega.{arith}
 use borrow.Author.Count.{below_more}
 use Rattle.duplicates.proofs.Places.{stands-at, place-of}

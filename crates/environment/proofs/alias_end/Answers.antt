@@ -1,6 +1,6 @@
 -- `alias_end` meets its contract: what is left of the chain ends where all of it does. Assumes nothing.
 use native.Mathlib.Omega.{arith}
-use Rattle.environment.proofs.Links.{LinkSays, link-says, chain-start, chain-name, alias-ends, alias-unbound, alias-circle, chain-step}
+use Rattle.environment.proofs.Links.{link-says, chain-start, chain-name, alias-ends, alias-unbound, alias-circle, chain-step}
 use Rattle.environment.proofs.alias_end.Goals as goal
 
 pub var_at-n-requires : goal.var_at-n-requires
@@ -24,23 +24,23 @@ overflow_cast-result c =
 
 pub returns-then-s-eq-NONE : goal.returns-then-s-eq-NONE
 returns-then-s-eq-NONE c =
-    let link : (let a = c.args in LinkSays a.rows.now a.roots.now a.names a.nodes c.loop-n.n c.step-s.result) = link-says c.requires.0 c.requires.1 _ _ c.step-s.ensures in
+    let link = link-says c.requires.0 c.requires.1 _ _ c.step-s.ensures in
     let p = c.requires in
-    let a = alias-unbound p.0 c.loop-n.invariant c.loop-n-test.true (link) c.if-s-eq-NONE.true in
+    let a = alias-unbound p.0 c.loop-n.invariant c.loop-n-test.true link c.if-s-eq-NONE.true in
     record { within = a.within; is = a.is; crossed = a.crossed-is; few = a.few }
 
 pub returns-then-k-eq0 : goal.returns-then-k-eq0
 returns-then-k-eq0 c =
-    let link : (let a = c.args in LinkSays a.rows.now a.roots.now a.names a.nodes c.loop-n.n c.step-s.result) = link-says c.requires.0 c.requires.1 _ _ c.step-s.ensures in
+    let link = link-says c.requires.0 c.requires.1 _ _ c.step-s.ensures in
     let p = c.requires in
-    let a = alias-circle p.0 c.loop-n.invariant c.loop-n-test.true ((link).bound c.if-s-eq-NONE.false) c.if-k-eq0.true in
+    let a = alias-circle p.0 c.loop-n.invariant c.loop-n-test.true (link.bound c.if-s-eq-NONE.false) c.if-k-eq0.true in
     record { within = a.within; is = a.is; crossed = a.crossed-is; few = a.few }
 
 pub loop-n-preserved : goal.loop-n-preserved
 loop-n-preserved c =
-    let link : (let a = c.args in LinkSays a.rows.now a.roots.now a.names a.nodes c.loop-n.n c.step-s.result) = link-says c.requires.0 c.requires.1 _ _ c.step-s.ensures in
+    let link = link-says c.requires.0 c.requires.1 _ _ c.step-s.ensures in
     let p = c.requires in
-    chain-step p.0 c.loop-n.invariant c.loop-n-test.true ((link).bound c.if-s-eq-NONE.false) c.if-k-eq0.false
+    chain-step p.0 c.loop-n.invariant c.loop-n-test.true (link.bound c.if-s-eq-NONE.false) c.if-k-eq0.false
 
 pub overflow_sub-result-2 : goal.overflow_sub-result-2
 overflow_sub-result-2 c = omega (arith, c.loop-n.invariant.fewer)

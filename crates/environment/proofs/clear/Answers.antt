@@ -1,5 +1,4 @@
 -- `clear` meets its contract. Assumes nothing.
-use Prim.Native.Nat.{◌-◌}
 use native.Mathlib.Omega.{arith}
 use Rattle.book.specs.Tables.{blank_table}
 use Rattle.environment.proofs.BlankTable.{clear-start, clear-end, clear-on}

@@ -1,5 +1,4 @@
 -- `clear_ends` meets its contract. Assumes nothing.
-use Prim.Native.Nat.{◌-◌}
 use native.Mathlib.Omega.{arith}
 use Rattle.book.specs.Tables.{zero_table}
 use Rattle.environment.proofs.BlankTable.{clear-start, clear-end, clear-on}

@@ -1,8 +1,8 @@
 -- `enter` meets its contract: what the table lacks is found in the entries that are left. Assumes nothing.
-use Prim.Native.Nat.{◌-◌, ◌<◌}
-use mathlib.Core.Path.{◌≡◌, sym, ap, ◌∙◌}
+use Prim.Native.Nat.{◌<◌}
+use mathlib.Core.Path.{sym, ap, ◌∙◌}
 use native.Mathlib.Omega.{arith}
-use lib.ListN.{length, get_or}
+use lib.ListN.{length}
 use Rattle.environment.proofs.Links.{get_or-within}
 use Rattle.environment.proofs.RootTable.{table-start, table-end, name-fits, table-twice, table-on}
 use Rattle.book.proofs.Blank.{blank-length}
@@ -38,7 +38,7 @@ shape_of-roots-then-roots-n c = ap length (c.clear.ensures ∙ sym c.requires.3)
 pub returns-then-roots-n : goal.returns-then-roots-n
 returns-then-roots-n c =
     let named : c.at-e.result.name < 1024 = name-fits c.requires.0 c.requires.1 c.requires.2 c.loop-d.invariant c.loop-d-test.true _ c.at-e.ensures in
-    let in-table : get_or c.loop-d.roots c.at-e.result.name 0 ≡ get_or c.loop-d.roots c.at-e.result.name 65535 = get_or-within c.loop-d.roots c.at-e.result.name 0 65535 (omega (arith, named, c.loop-d.invariant.long)) in
+    let in-table = get_or-within c.loop-d.roots c.at-e.result.name 0 65535 (omega (arith, named, c.loop-d.invariant.long)) in
     let p = c.requires in
     table-twice p.0 p.1 p.2 c.loop-d.invariant c.loop-d-test.true _ c.at-e.ensures (λ e. c.if-roots-n.true (in-table ∙ e)) c.clear.ensures
 
@@ -61,8 +61,8 @@ loop-d-smaller c = omega (arith, c.loop-d-test.true)
 pub loop-d-preserved : goal.loop-d-preserved
 loop-d-preserved c =
     let named : c.at-e.result.name < 1024 = name-fits c.requires.0 c.requires.1 c.requires.2 c.loop-d.invariant c.loop-d-test.true _ c.at-e.ensures in
-    let in-table : get_or c.loop-d.roots c.at-e.result.name 0 ≡ get_or c.loop-d.roots c.at-e.result.name 65535 = get_or-within c.loop-d.roots c.at-e.result.name 0 65535 (omega (arith, named, c.loop-d.invariant.long)) in
-    table-on c.requires.0 c.requires.1 c.requires.2 c.loop-d.invariant c.loop-d-test.true _ c.at-e.ensures (sym (in-table) ∙ c.if-roots-n.false)
+    let in-table = get_or-within c.loop-d.roots c.at-e.result.name 0 65535 (omega (arith, named, c.loop-d.invariant.long)) in
+    table-on c.requires.0 c.requires.1 c.requires.2 c.loop-d.invariant c.loop-d-test.true _ c.at-e.ensures (sym in-table ∙ c.if-roots-n.false)
 
 pub shape_of-roots : goal.shape_of-roots
 shape_of-roots c = c.loop-d.invariant.long ∙ sym (ap length c.requires.3 ∙ blank-length)

@@ -40,21 +40,21 @@ pub overflow_sub-result : goal.overflow_sub-result
 overflow_sub-result c =
     let link : (let a = c.args in Bound a.rows.now a.roots.now a.names a.nodes c.loop-names.m c.step-s.result) = let p = c.requires in
     open-bound p.2 c.loop-names.invariant.inside c.if-known-ne-OPEN.false (link-says p.0 p.1 _ _ c.step-s.ensures) in
-    let root-small : c.step-s.result.root < 4096 = omega (arith, (link).inside, c.requires.0.few_nodes) in
+    let root-small : c.step-s.result.root < 4096 = omega (arith, link.inside, c.requires.0.few_nodes) in
     omega (arith, root-small)
 
 pub overflow_cast-result : goal.overflow_cast-result
 overflow_cast-result c =
     let link : (let a = c.args in Bound a.rows.now a.roots.now a.names a.nodes c.loop-names.m c.step-s.result) = let p = c.requires in
     open-bound p.2 c.loop-names.invariant.inside c.if-known-ne-OPEN.false (link-says p.0 p.1 _ _ c.step-s.ensures) in
-    let root-small : c.step-s.result.root < 4096 = omega (arith, (link).inside, c.requires.0.few_nodes) in
+    let root-small : c.step-s.result.root < 4096 = omega (arith, link.inside, c.requires.0.few_nodes) in
     omega (arith, root-small)
 
 pub overflow_add-result-then-s-eq-NONE : goal.overflow_add-result-then-s-eq-NONE
 overflow_add-result-then-s-eq-NONE c =
     let link : (let a = c.args in Bound a.rows.now a.roots.now a.names a.nodes c.loop-names.m c.step-s.result) = let p = c.requires in
     open-bound p.2 c.loop-names.invariant.inside c.if-known-ne-OPEN.false (link-says p.0 p.1 _ _ c.step-s.ensures) in
-    let root-small : c.step-s.result.root < 4096 = omega (arith, (link).inside, c.requires.0.few_nodes) in
+    let root-small : c.step-s.result.root < 4096 = omega (arith, link.inside, c.requires.0.few_nodes) in
     let p = c.requires in
     omega (arith, far-small p.0 p.2 c.loop-names.invariant p.5, root-small)
 
@@ -63,11 +63,11 @@ returns-then-s-eq-NONE c =
     let link : (let a = c.args in Bound a.rows.now a.roots.now a.names a.nodes c.loop-names.m c.step-s.result) = let p = c.requires in
     open-bound p.2 c.loop-names.invariant.inside c.if-known-ne-OPEN.false (link-says p.0 p.1 _ _ c.step-s.ensures) in
     let p = c.requires in
-    follow-ends p.0 p.2 c.loop-names.invariant (link) c.if-s-eq-NONE.true
+    follow-ends p.0 p.2 c.loop-names.invariant link c.if-s-eq-NONE.true
 
 pub loop-names-preserved : goal.loop-names-preserved
 loop-names-preserved c =
     let link : (let a = c.args in Bound a.rows.now a.roots.now a.names a.nodes c.loop-names.m c.step-s.result) = let p = c.requires in
     open-bound p.2 c.loop-names.invariant.inside c.if-known-ne-OPEN.false (link-says p.0 p.1 _ _ c.step-s.ensures) in
     let p = c.requires in
-    follow-on p.0 p.2 c.loop-names.invariant (link) c.if-s-eq-NONE.false c.if-k-eq0.false
+    follow-on p.0 p.2 c.loop-names.invariant link c.if-s-eq-NONE.false c.if-k-eq0.false

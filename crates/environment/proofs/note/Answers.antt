@@ -40,7 +40,7 @@ overflow_sub-e c =
     let l = c.loop-ends.invariant in
     open-bound l.table l.inside c.loop-ends-test.true (link-says p.0 p.1 _ _ c.step-s.ensures) in
     let more : 65536 ≤ c.loop-ends.e = let p = c.requires in
-    note-more p.0 c.loop-ends.invariant c.loop-ends-test.true (link) c.if-s-eq-NONE.false p.5.0 p.5.1 in
+    note-more p.0 c.loop-ends.invariant c.loop-ends-test.true link c.if-s-eq-NONE.false p.5.0 p.5.1 in
     omega (arith, more)
 
 pub loop-ends-smaller : goal.loop-ends-smaller
@@ -54,9 +54,9 @@ loop-ends-preserved c =
     let l = c.loop-ends.invariant in
     open-bound l.table l.inside c.loop-ends-test.true (link-says p.0 p.1 _ _ c.step-s.ensures) in
     let more : 65536 ≤ c.loop-ends.e = let p = c.requires in
-    note-more p.0 c.loop-ends.invariant c.loop-ends-test.true (link) c.if-s-eq-NONE.false p.5.0 p.5.1 in
+    note-more p.0 c.loop-ends.invariant c.loop-ends-test.true link c.if-s-eq-NONE.false p.5.0 p.5.1 in
     let p = c.requires in
-    note-on p.0 c.loop-ends.invariant c.loop-ends-test.true (link) c.if-s-eq-NONE.false (more)
+    note-on p.0 c.loop-ends.invariant c.loop-ends-test.true link c.if-s-eq-NONE.false more
 
 pub shape_of-ends : goal.shape_of-ends
 shape_of-ends c = c.loop-ends.invariant.table.long ∙ sym c.requires.2.long

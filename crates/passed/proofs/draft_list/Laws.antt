@@ -13,9 +13,9 @@ use Rattle.refusals.specs.declared.Refusal.TheVariants.{NoActor}
 use Rattle.refusals.specs.declared.Verdict.{Verdict}
 use Rattle.refusals.specs.declared.Verdict.TheVariants.{Passed, Refused}
 use Rattle.refusals.specs.Outcome.{refused, after}
-use Rattle.format.specs.Forest.{tree, count, no_trees}
+use Rattle.format.specs.Forest.{count, no_trees}
 use Rattle.format.specs.Book.{Definition, Book, trees}
-use Rattle.format.specs.Layout.{entry_at, nodes_part, definitions_part, files_part, whole}
+use Rattle.format.specs.Layout.{entry_at, nodes_part, definitions_part, files_part}
 use Rattle.format.specs.Whole.{definition_at, actor_at}
 use Rattle.format.proofs.Admitted.{trees-whole}
 use Rattle.format.proofs.Stored.{tree-opens, actor-none, actor-some}

@@ -2,23 +2,16 @@
 -- more, a type two for each node: so every call weighs less. Assumes nothing.
 use mathlib.Core.Path.{sym, ap, ◌∙◌, refl}
 use mathlib.Core.Bool.{false}
-use Prim.Native.Nat.{◌-◌, ℕ, ◌+◌, ◌*◌, ◌<◌}
+use Prim.Native.Nat.{ℕ}
 use native.Mathlib.Omega.{arith}
 use Rattle.format.specs.Encode.{Row}
 use Rattle.environment.proofs.Trees.{ends-inside, one-at-least, this-tree, row-within, ended, method-label}
 use Rattle.typing.proofs.Walk.{walk-start, walk-end, walk-stop, walk-on, untested, func-start, func-end, func-stop, func-on, walk-method, method-refused, methods-start, methods-on}
 use Rattle.refusals.specs.declared.Verdict.TheVariants.{Refused}
-use mathlib.Core.List.{List}
-use borrow.Fn.PlainCycle.{is}
-use Rattle.format.specs.Book.{Definition}
 use Rattle.book.specs.Reading.{as_row}
-use Rattle.format.specs.Layout.{row_at}
-use Rattle.typing.specs.Walk.{Env}
 use Rattle.typing.proofs.Nodes.{RowRead, row-kind, row-name, row-few, row-kids, row-methods, row-weight, at-prim, at-var, at-func, at-service, at-class, at-fields}
 use Rattle.typing.proofs.+check_fields_check_func_check_meths_check_type.Goals as goal
 use Rattle.refusals.specs.declared.Refusal as refusal
-
--- more, a type two for each node: so every call weighs less. Assumes nothing.
 
 pub check_fields-loop-i-init : goal.check_fields-loop-i-init
 check_fields-loop-i-init t c = walk-start c.args.pre false c.requires.0
@@ -142,74 +135,74 @@ check_type-at-t-requires t c = row-within c.requires.0 c.requires.1
 pub check_type-returns-then-t-lt-VAR : goal.check_type-returns-then-t-lt-VAR
 check_type-returns-then-t-lt-VAR t c =
     let row : (let a = c.args in RowRead a.rows.now a.roots.now a.ends.now a.n (as_row c.at-t.result)) = record { tree = c.requires.0; some = c.requires.1; is = c.at-t.ensures } in
-    λ ds e. at-prim _ ds _ _ _ (row).is c.if-t-lt-VAR.true
+    λ ds e. at-prim _ ds _ _ _ row.is c.if-t-lt-VAR.true
 
 pub check_type-check_var-requires : goal.check_type-check_var-requires
 check_type-check_var-requires t c =
     let row : (let a = c.args in RowRead a.rows.now a.roots.now a.ends.now a.n (as_row c.at-t.result)) = record { tree = c.requires.0; some = c.requires.1; is = c.at-t.ensures } in
-    row-name (row) c.if-t-eq-VAR.true
+    row-name row c.if-t-eq-VAR.true
 
 pub check_type-returns-then-t-eq-VAR : goal.check_type-returns-then-t-eq-VAR
 check_type-returns-then-t-eq-VAR t c =
     let row : (let a = c.args in RowRead a.rows.now a.roots.now a.ends.now a.n (as_row c.at-t.result)) = record { tree = c.requires.0; some = c.requires.1; is = c.at-t.ensures } in
-    λ ds e. c.check_var.ensures ∙ at-var _ ds _ _ _ (row).is c.args.roots.now e.binds c.if-t-eq-VAR.true
+    λ ds e. c.check_var.ensures ∙ at-var _ ds _ _ _ row.is c.args.roots.now e.binds c.if-t-eq-VAR.true
 
 pub check_type-overflow_add-from : goal.check_type-overflow_add-from
 check_type-overflow_add-from t c =
     let row : (let a = c.args in RowRead a.rows.now a.roots.now a.ends.now a.n (as_row c.at-t.result)) = record { tree = c.requires.0; some = c.requires.1; is = c.at-t.ensures } in
-    omega (arith, (row-few (row)).0)
+    omega (arith, (row-few row).0)
 
 pub check_type-overflow_add-until : goal.check_type-overflow_add-until
 check_type-overflow_add-until t c =
     let row : (let a = c.args in RowRead a.rows.now a.roots.now a.ends.now a.n (as_row c.at-t.result)) = record { tree = c.requires.0; some = c.requires.1; is = c.at-t.ensures } in
-    omega (arith, (row-few (row)).1)
+    omega (arith, (row-few row).1)
 
 pub check_type-check_func-requires : goal.check_type-check_func-requires
 check_type-check_func-requires t c =
     let row : (let a = c.args in RowRead a.rows.now a.roots.now a.ends.now a.n (as_row c.at-t.result)) = record { tree = c.requires.0; some = c.requires.1; is = c.at-t.ensures } in
-    let inner : (let a = c.args in RowRead a.rows.now a.roots.now a.ends.now a.n (as_row c.at-t.result)) = row in
-    let weight : (let a = c.args in 2 * (a.n + c.at-t.result.size - (a.n + 1)) + 1 < 2 * (row_at a.rows.now a.n).size) = row-weight (inner) _ refl in
-    let env : (let a = c.args in (ds : List Definition) × Env a.rows.now a.roots.now a.ends.now a.pre ds) = c.requires.2 in
-    (omega (arith, weight), (row-kids (inner), env))
+    let inner = row in
+    let weight = row-weight inner _ refl in
+    let env = c.requires.2 in
+    (omega (arith, weight), (row-kids inner, env))
 
 pub check_type-returns-then-t-eq-FUNC : goal.check_type-returns-then-t-eq-FUNC
 check_type-returns-then-t-eq-FUNC t c =
     let row : (let a = c.args in RowRead a.rows.now a.roots.now a.ends.now a.n (as_row c.at-t.result)) = record { tree = c.requires.0; some = c.requires.1; is = c.at-t.ensures } in
-    let inner : (let a = c.args in RowRead a.rows.now a.roots.now a.ends.now a.n (as_row c.at-t.result)) = row in
-    λ ds e. c.check_func.ensures ds e ∙ at-func _ ds _ _ _ (inner).is c.if-t-eq-FUNC.true
+    let inner = row in
+    λ ds e. c.check_func.ensures ds e ∙ at-func _ ds _ _ _ inner.is c.if-t-eq-FUNC.true
 
 pub check_type-check_meths-requires : goal.check_type-check_meths-requires
 check_type-check_meths-requires t c =
     let row : (let a = c.args in RowRead a.rows.now a.roots.now a.ends.now a.n (as_row c.at-t.result)) = record { tree = c.requires.0; some = c.requires.1; is = c.at-t.ensures } in
-    let inner : (let a = c.args in RowRead a.rows.now a.roots.now a.ends.now a.n (as_row c.at-t.result)) = row in
-    let weight : (let a = c.args in 2 * (a.n + c.at-t.result.size - (a.n + 1)) + 1 < 2 * (row_at a.rows.now a.n).size) = row-weight (inner) _ refl in
-    let env : (let a = c.args in (ds : List Definition) × Env a.rows.now a.roots.now a.ends.now a.pre ds) = c.requires.2 in
-    (omega (arith, weight), (row-methods (inner) c.if-t-eq-SERVICE.true, env))
+    let inner = row in
+    let weight = row-weight inner _ refl in
+    let env = c.requires.2 in
+    (omega (arith, weight), (row-methods inner c.if-t-eq-SERVICE.true, env))
 
 pub check_type-returns-then-t-eq-SERVICE : goal.check_type-returns-then-t-eq-SERVICE
 check_type-returns-then-t-eq-SERVICE t c =
     let row : (let a = c.args in RowRead a.rows.now a.roots.now a.ends.now a.n (as_row c.at-t.result)) = record { tree = c.requires.0; some = c.requires.1; is = c.at-t.ensures } in
-    let inner : (let a = c.args in RowRead a.rows.now a.roots.now a.ends.now a.n (as_row c.at-t.result)) = row in
-    λ ds e. c.check_meths.ensures ds e ∙ at-service _ ds _ _ _ (inner).is c.if-t-eq-SERVICE.true
+    let inner = row in
+    λ ds e. c.check_meths.ensures ds e ∙ at-service _ ds _ _ _ inner.is c.if-t-eq-SERVICE.true
 
 pub check_type-returns-then-t-eq-CLASS : goal.check_type-returns-then-t-eq-CLASS
 check_type-returns-then-t-eq-CLASS t c =
     let row : (let a = c.args in RowRead a.rows.now a.roots.now a.ends.now a.n (as_row c.at-t.result)) = record { tree = c.requires.0; some = c.requires.1; is = c.at-t.ensures } in
-    let inner : (let a = c.args in RowRead a.rows.now a.roots.now a.ends.now a.n (as_row c.at-t.result)) = row in
-    λ ds e. at-class _ ds _ _ _ (inner).is c.if-t-eq-CLASS.true
+    let inner = row in
+    λ ds e. at-class _ ds _ _ _ inner.is c.if-t-eq-CLASS.true
 
 pub check_type-check_fields-requires : goal.check_type-check_fields-requires
 check_type-check_fields-requires t c =
     let row : (let a = c.args in RowRead a.rows.now a.roots.now a.ends.now a.n (as_row c.at-t.result)) = record { tree = c.requires.0; some = c.requires.1; is = c.at-t.ensures } in
-    let inner : (let a = c.args in RowRead a.rows.now a.roots.now a.ends.now a.n (as_row c.at-t.result)) = row in
-    let weight : (let a = c.args in 2 * (a.n + c.at-t.result.size - (a.n + 1)) + 1 < 2 * (row_at a.rows.now a.n).size) = row-weight (inner) _ refl in
-    let env : (let a = c.args in (ds : List Definition) × Env a.rows.now a.roots.now a.ends.now a.pre ds) = c.requires.2 in
-    (omega (arith, weight), (row-kids (inner), env))
+    let inner = row in
+    let weight = row-weight inner _ refl in
+    let env = c.requires.2 in
+    (omega (arith, weight), (row-kids inner, env))
 
 pub check_type-returns : goal.check_type-returns
 check_type-returns t c =
     let row : (let a = c.args in RowRead a.rows.now a.roots.now a.ends.now a.n (as_row c.at-t.result)) = record { tree = c.requires.0; some = c.requires.1; is = c.at-t.ensures } in
-    let inner : (let a = c.args in RowRead a.rows.now a.roots.now a.ends.now a.n (as_row c.at-t.result)) = row in
+    let inner = row in
     λ ds e.
     c.check_fields.ensures ds e
-    ∙ at-fields _ ds _ _ _ (inner).is (row-kind (inner)) c.if-t-lt-VAR.false c.if-t-eq-VAR.false c.if-t-eq-FUNC.false c.if-t-eq-SERVICE.false c.if-t-eq-CLASS.false
+    ∙ at-fields _ ds _ _ _ inner.is (row-kind inner) c.if-t-lt-VAR.false c.if-t-eq-VAR.false c.if-t-eq-FUNC.false c.if-t-eq-SERVICE.false c.if-t-eq-CLASS.false

@@ -10,7 +10,7 @@ use Prim.Native.Nat.{ℕ}
 use native.Mathlib.Nat.{sub-zero}
 use native.Mathlib.Omega.{arith}
 use lib.ListN.{length}
-use Rattle.format.specs.Forest.{Forest, end, tree, count, no_trees}
+use Rattle.format.specs.Forest.{Forest, end, tree, no_trees}
 use Rattle.format.specs.Node.{Node}
 use Rattle.format.specs.Book.{Definition, Book}
 use Rattle.format.specs.Layout.{nodes_part, definitions_part, files_part}

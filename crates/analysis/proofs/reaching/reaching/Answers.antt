@@ -74,7 +74,7 @@ overflow_sub-n c = omega (arith, pos_of_ne-zero c.if-o-eq0.false)
 pub bounds-flagged-n : goal.bounds-flagged-n
 bounds-flagged-n c =
     let one : get_or c.args.owner.now (c.loop-x.x - 1) 0 ≡ suc (get_or c.args.owner.now (c.loop-x.x - 1) 0 - 1) = omega (arith, pos_of_ne-zero c.if-o-eq0.false) in
-    let small : get_or c.args.owner.now (c.loop-x.x - 1) 0 - 1 < 1024 = let y = c.requires.0 in owner-small y.book y.owned (c.loop-x.x - 1) _ (one) in
+    let small : get_or c.args.owner.now (c.loop-x.x - 1) 0 - 1 < 1024 = let y = c.requires.0 in owner-small y.book y.owned (c.loop-x.x - 1) _ one in
     let y = c.requires.0 in omega (arith, small, (c.loop-x.invariant y).left.work.long)
 
 pub loop-x-smaller-then-flagged-n-eq1 : goal.loop-x-smaller-then-flagged-n-eq1
@@ -83,37 +83,37 @@ loop-x-smaller-then-flagged-n-eq1 c = let y = c.requires.0 in omega (arith, next
 pub loop-x-preserved-then-flagged-n-eq1 : goal.loop-x-preserved-then-flagged-n-eq1
 loop-x-preserved-then-flagged-n-eq1 c =
     let one : get_or c.args.owner.now (c.loop-x.x - 1) 0 ≡ suc (get_or c.args.owner.now (c.loop-x.x - 1) 0 - 1) = omega (arith, pos_of_ne-zero c.if-o-eq0.false) in
-    λ y. name-met y.book y.owned y.links (c.loop-x.invariant y) (c.loop-x.x - 1) (omega (arith, c.loop-x-test.true)) _ (one) c.if-flagged-n-eq1.true
+    λ y. name-met y.book y.owned y.links (c.loop-x.invariant y) (c.loop-x.x - 1) (omega (arith, c.loop-x-test.true)) _ one c.if-flagged-n-eq1.true
 
 pub bounds-flagged-n-in-loop-x : goal.bounds-flagged-n-in-loop-x
 bounds-flagged-n-in-loop-x c =
     let one : get_or c.args.owner.now (c.loop-x.x - 1) 0 ≡ suc (get_or c.args.owner.now (c.loop-x.x - 1) 0 - 1) = omega (arith, pos_of_ne-zero c.if-o-eq0.false) in
-    let small : get_or c.args.owner.now (c.loop-x.x - 1) 0 - 1 < 1024 = let y = c.requires.0 in owner-small y.book y.owned (c.loop-x.x - 1) _ (one) in
+    let small : get_or c.args.owner.now (c.loop-x.x - 1) 0 - 1 < 1024 = let y = c.requires.0 in owner-small y.book y.owned (c.loop-x.x - 1) _ one in
     let y = c.requires.0 in omega (arith, small, (c.loop-x.invariant y).left.work.long)
 
 pub overflow_cast-queue-in-loop-x : goal.overflow_cast-queue-in-loop-x
 overflow_cast-queue-in-loop-x c =
     let one : get_or c.args.owner.now (c.loop-x.x - 1) 0 ≡ suc (get_or c.args.owner.now (c.loop-x.x - 1) 0 - 1) = omega (arith, pos_of_ne-zero c.if-o-eq0.false) in
-    let small : get_or c.args.owner.now (c.loop-x.x - 1) 0 - 1 < 1024 = let y = c.requires.0 in owner-small y.book y.owned (c.loop-x.x - 1) _ (one) in
+    let small : get_or c.args.owner.now (c.loop-x.x - 1) 0 - 1 < 1024 = let y = c.requires.0 in owner-small y.book y.owned (c.loop-x.x - 1) _ one in
     omega (arith, small)
 
 pub offset_bounds-queue-len : goal.offset_bounds-queue-len
 offset_bounds-queue-len c =
     let one : get_or c.args.owner.now (c.loop-x.x - 1) 0 ≡ suc (get_or c.args.owner.now (c.loop-x.x - 1) 0 - 1) = omega (arith, pos_of_ne-zero c.if-o-eq0.false) in
-    let small : get_or c.args.owner.now (c.loop-x.x - 1) 0 - 1 < 1024 = let y = c.requires.0 in owner-small y.book y.owned (c.loop-x.x - 1) _ (one) in
-    omega (arith, work-room (c.loop-x.invariant c.requires.0).left.work _ (small) c.if-flagged-n-eq1.false)
+    let small : get_or c.args.owner.now (c.loop-x.x - 1) 0 - 1 < 1024 = let y = c.requires.0 in owner-small y.book y.owned (c.loop-x.x - 1) _ one in
+    omega (arith, work-room (c.loop-x.invariant c.requires.0).left.work _ small c.if-flagged-n-eq1.false)
 
 pub bounds-queue-len : goal.bounds-queue-len
 bounds-queue-len c =
     let one : get_or c.args.owner.now (c.loop-x.x - 1) 0 ≡ suc (get_or c.args.owner.now (c.loop-x.x - 1) 0 - 1) = omega (arith, pos_of_ne-zero c.if-o-eq0.false) in
-    let small : get_or c.args.owner.now (c.loop-x.x - 1) 0 - 1 < 1024 = let y = c.requires.0 in owner-small y.book y.owned (c.loop-x.x - 1) _ (one) in
-    work-room (c.loop-x.invariant c.requires.0).left.work _ (small) c.if-flagged-n-eq1.false
+    let small : get_or c.args.owner.now (c.loop-x.x - 1) 0 - 1 < 1024 = let y = c.requires.0 in owner-small y.book y.owned (c.loop-x.x - 1) _ one in
+    work-room (c.loop-x.invariant c.requires.0).left.work _ small c.if-flagged-n-eq1.false
 
 pub overflow_add-len : goal.overflow_add-len
 overflow_add-len c =
     let one : get_or c.args.owner.now (c.loop-x.x - 1) 0 ≡ suc (get_or c.args.owner.now (c.loop-x.x - 1) 0 - 1) = omega (arith, pos_of_ne-zero c.if-o-eq0.false) in
-    let small : get_or c.args.owner.now (c.loop-x.x - 1) 0 - 1 < 1024 = let y = c.requires.0 in owner-small y.book y.owned (c.loop-x.x - 1) _ (one) in
-    omega (arith, work-room (c.loop-x.invariant c.requires.0).left.work _ (small) c.if-flagged-n-eq1.false)
+    let small : get_or c.args.owner.now (c.loop-x.x - 1) 0 - 1 < 1024 = let y = c.requires.0 in owner-small y.book y.owned (c.loop-x.x - 1) _ one in
+    omega (arith, work-room (c.loop-x.invariant c.requires.0).left.work _ small c.if-flagged-n-eq1.false)
 
 pub loop-x-smaller : goal.loop-x-smaller
 loop-x-smaller c = let y = c.requires.0 in omega (arith, next-most y.book y.owned y.links (c.loop-x.invariant y) (c.loop-x.x - 1) (omega (arith, c.loop-x-test.true)), c.loop-x-test.true)
@@ -121,7 +121,7 @@ loop-x-smaller c = let y = c.requires.0 in omega (arith, next-most y.book y.owne
 pub loop-x-preserved : goal.loop-x-preserved
 loop-x-preserved c =
     let one : get_or c.args.owner.now (c.loop-x.x - 1) 0 ≡ suc (get_or c.args.owner.now (c.loop-x.x - 1) 0 - 1) = omega (arith, pos_of_ne-zero c.if-o-eq0.false) in
-    λ y. name-new y.book y.owned y.links (c.loop-x.invariant y) (c.loop-x.x - 1) (omega (arith, c.loop-x-test.true)) _ (one) c.if-flagged-n-eq1.false
+    λ y. name-new y.book y.owned y.links (c.loop-x.invariant y) (c.loop-x.x - 1) (omega (arith, c.loop-x-test.true)) _ one c.if-flagged-n-eq1.false
 
 pub overflow_add-q : goal.overflow_add-q
 overflow_add-q c = let y = c.requires.0 in omega (arith, (c.loop-x.invariant y).inside, work-most (c.loop-x.invariant y).left.work)

@@ -1,6 +1,6 @@
 -- The proof of the cycle of calls {trees}: its measure is the number of nodes. What is left is good just where all of it is. Assumes nothing.
 use mathlib.Core.Path.{sym, subst, ◌∙◌}
-use Prim.Native.Nat.{ℕ, ◌+◌, ◌-◌}
+use Prim.Native.Nat.{ℕ, ◌+◌}
 use native.Mathlib.Omega.{arith}
 use mathlib.Core.List.{List}
 use mathlib.Core.Path.{◌≡◌}

@@ -1,7 +1,6 @@
 -- `rules::before` meets its contract: what is left of the names is compared. Assumes nothing.
 use mathlib.Core.Path.{refl, sym, ◌∙◌}
 use native.Mathlib.Numerals.{add-one}
-use Prim.Native.Nat.{◌-◌}
 use Rattle.book.proofs.Tests.{before-longer, before-differs, before-on, before-ends}
 use Rattle.book.proofs.rules.before.Goals as goal
 

@@ -1,5 +1,4 @@
 -- `rules::definitions` meets its contract: the entries that are left are judged as all of them. Assumes nothing.
-use Prim.Native.Nat.{◌-◌}
 use mathlib.Core.Path.{subst}
 use native.Mathlib.Omega.{arith}
 use Rattle.book.specs.Reading.{as_entry}

@@ -1,5 +1,5 @@
 -- `rules::files` meets its contract: the entries that are left are judged as all of them. Assumes nothing.
-use Prim.Native.Nat.{◌+◌, ◌-◌}
+use Prim.Native.Nat.{◌+◌}
 use mathlib.Core.Path.{subst}
 use native.Mathlib.Omega.{arith}
 use lib.Dec.{eqb}

@@ -1,5 +1,4 @@
 -- `rules::names_fine` meets its contract: what is left of the bytes is names just where all of it is. Assumes nothing.
-use Prim.Native.Nat.{◌-◌}
 use mathlib.Core.Path.{refl, sym, ◌∙◌}
 use native.Mathlib.Omega.{arith}
 use Rattle.book.proofs.Names.{names-start, names-short, names-fall, names-on, names-end}

@@ -1,5 +1,4 @@
 -- `merge::merge` meets its contract: the names that are left give the verdict of all. Assumes nothing.
-use Prim.Native.Nat.{◌-◌}
 use native.Mathlib.Omega.{arith}
 use Rattle.environment.proofs.merge.Tables.{merge-start, merge-end, roots-at, merge-differs, merge-on}
 use Rattle.environment.proofs.merge.merge.Goals as goal

@@ -1,5 +1,4 @@
 -- `merge::merged` meets its contract. Assumes nothing.
-use Prim.Native.Nat.{◌-◌}
 use native.Mathlib.Omega.{arith}
 use Rattle.environment.proofs.merge.Tables.{merged-start, merged-end, merged-on}
 use Rattle.environment.proofs.merge.merged.Goals as goal

@@ -1,4 +1,3 @@
-use Prim.Native.Nat.{◌-◌}
 use Rattle.inhabitants.proofs.empty.Fields.{EmptyLeft}
 use Rattle.inhabitants.proofs.empty.all_empty.Given as goal
 

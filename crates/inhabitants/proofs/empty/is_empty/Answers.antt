@@ -9,9 +9,9 @@ use Rattle.format.specs.Layout.{row_at, siblings}
 use Rattle.book.specs.declared.read.Node.{Node}
 use Rattle.book.specs.Reading.{as_row}
 use Rattle.listing.specs.Empty.{visit_fields, is_empty}
-use Rattle.inhabitants.specs.Empty.{Environment, names_from, Fields, no_stack, Visited}
+use Rattle.inhabitants.specs.Empty.{Environment, names_from, Fields, Visited}
 use Rattle.inhabitants.proofs.empty.Visits as laws
-use Rattle.inhabitants.proofs.empty.Fields.{type-fields, type-visited, visiting-few, RowsLeft, rows-visiting, rows-marks, rows-next, rows-end}
+use Rattle.inhabitants.proofs.empty.Fields.{type-fields, type-visited, visiting-few, rows-visiting, rows-marks, rows-next, rows-end}
 use Rattle.inhabitants.proofs.empty.is_empty.Goals as goal
 
 pub bounds-marked-n : goal.bounds-marked-n
@@ -80,15 +80,15 @@ pub slice_bounds-next_name-end : goal.slice_bounds-next_name-end
 slice_bounds-next_name-end c =
     let types : (let a = c.args in let until = get_or a.roots.now a.n 0 + c.at-t.result.size in Fields a.rows.now a.roots.now a.names c.names_from-from.result until) = let s = c.requires in
     type-fields s.0 (laws.root-inside s.0 s.1 c.if-root.false) _ c.at-t.ensures c.names_from-from.ensures in
-    let left : (let a = c.args in let until = get_or a.roots.now a.n 0 + c.at-t.result.size in RowsLeft a.rows.now a.roots.now a.names c.names_from-from.result until (set a.marks a.n 2) no_stack no_stack 0 c.names_from-from.result until (set a.marks a.n 2)) = rows-visiting (types) c.requires.1 c.args.marks c.well_formed.1.1.1.1.0.1.0.1 c.if-mark-ne-UNVISITED.false in
-    sym (left).long
+    let left = rows-visiting types c.requires.1 c.args.marks c.well_formed.1.1.1.1.0.1.0.1 c.if-mark-ne-UNVISITED.false in
+    sym left.long
 
 pub next_name-requires : goal.next_name-requires
 next_name-requires c =
     let types : (let a = c.args in let until = get_or a.roots.now a.n 0 + c.at-t.result.size in Fields a.rows.now a.roots.now a.names c.names_from-from.result until) = let s = c.requires in
     type-fields s.0 (laws.root-inside s.0 s.1 c.if-root.false) _ c.at-t.ensures c.names_from-from.ensures in
-    let left : (let a = c.args in let until = get_or a.roots.now a.n 0 + c.at-t.result.size in RowsLeft a.rows.now a.roots.now a.names c.names_from-from.result until (set a.marks a.n 2) no_stack no_stack 0 c.names_from-from.result until (set a.marks a.n 2)) = rows-visiting (types) c.requires.1 c.args.marks c.well_formed.1.1.1.1.0.1.0.1 c.if-mark-ne-UNVISITED.false in
-    ((left).whole, rows-marks (left))
+    let left = rows-visiting types c.requires.1 c.args.marks c.well_formed.1.1.1.1.0.1.0.1 c.if-mark-ne-UNVISITED.false in
+    (left.whole, rows-marks left)
 
 pub bounds-marked-n-then-next_name-until : goal.bounds-marked-n-then-next_name-until
 bounds-marked-n-then-next_name-until c =
@@ -98,7 +98,7 @@ pub returns-then-next_name-until : goal.returns-then-next_name-until
 returns-then-next_name-until c =
     let types : (let a = c.args in let until = get_or a.roots.now a.n 0 + c.at-t.result.size in Fields a.rows.now a.roots.now a.names c.names_from-from.result until) = let s = c.requires in
     type-fields s.0 (laws.root-inside s.0 s.1 c.if-root.false) _ c.at-t.ensures c.names_from-from.ensures in
-    let left : (let a = c.args in let until = get_or a.roots.now a.n 0 + c.at-t.result.size in RowsLeft a.rows.now a.roots.now a.names c.names_from-from.result until (set a.marks a.n 2) no_stack no_stack 0 c.names_from-from.result until (set a.marks a.n 2)) = rows-visiting (types) c.requires.1 c.args.marks c.well_formed.1.1.1.1.0.1.0.1 c.if-mark-ne-UNVISITED.false in
+    let left = rows-visiting types c.requires.1 c.args.marks c.well_formed.1.1.1.1.0.1.0.1 c.if-mark-ne-UNVISITED.false in
     let l = left in
     answered c.at-t.result c.names_from-from.result c.requires.0 c.requires.1 c.if-mark-ne-UNVISITED.false c.if-root.false c.at-t.ensures c.names_from-from.ensures (rows-end (rows-next l c.next_name.ensures) c.if-next_name-until.true refl) 3 (laws.mark-not-empty refl)
 

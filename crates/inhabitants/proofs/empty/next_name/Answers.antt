@@ -1,5 +1,4 @@
 -- `next_name` meets its contract: the types before are no names, or not empty. Assumes nothing.
-use Prim.Native.Nat.{◌-◌}
 use mathlib.Core.Path.{sym, ◌∙◌}
 use native.Mathlib.Omega.{arith}
 use Rattle.inhabitants.proofs.empty.Fields.{names-start, names-end, name-found, name-within, name-size, names-on}

@@ -1,9 +1,9 @@
 -- `replace_empty` meets its contract: what is left of the names leaves the marks that all of them do. Assumes nothing.
-use Prim.Native.Nat.{ℕ, ◌-◌}
+use Prim.Native.Nat.{ℕ}
 use mathlib.Core.Path.{sym, subst, ◌∙◌}
 use mathlib.Core.List.{List}
 use native.Mathlib.Omega.{arith}
-use Rattle.inhabitants.proofs.empty.Visits.{KeysLeft, keys-start, keys-on, keys-end, root-small, key-settled, key-open, key-visited, plain-length}
+use Rattle.inhabitants.proofs.empty.Visits.{KeysLeft, keys-start, keys-on, keys-end, root-small, key-settled, key-open, key-visited}
 use Rattle.inhabitants.proofs.empty.replace_empty.Goals as goal
 
 pub no_flags-marks-requires : goal.no_flags-marks-requires

@@ -1,10 +1,8 @@
 -- `visit_fields` meets its contract: the rows that are left, and those that wait, answer as all of them do. Assumes nothing.
 use mathlib.Core.Path.{sym}
-use Prim.Native.Nat.{◌-◌}
 use native.Mathlib.Nat.{pos_of_ne-zero}
 use native.Mathlib.Omega.{arith}
-use Rattle.book.specs.Reading.{as_row}
-use Rattle.inhabitants.proofs.empty.Fields.{rows-start, rows-deep, rows-marks, rows-few, rows-stacked, rows-next, rows-end, Met, met, met-few, met-tabled, met-ends, met-fewer, rows-stop, rows-missing, root-few, body-within, body-few, rows-enter, last-on, last-few, last-end, last-within, last-small, last-size, last-fewer, rows-back, name-within}
+use Rattle.inhabitants.proofs.empty.Fields.{rows-start, rows-deep, rows-marks, rows-few, rows-stacked, rows-next, rows-end, met, met-few, met-tabled, met-ends, met-fewer, rows-stop, rows-missing, root-few, body-within, body-few, rows-enter, last-on, last-few, last-end, last-within, last-small, last-size, last-fewer, rows-back, name-within}
 use Rattle.inhabitants.proofs.empty.visit_fields.Goals as goal
 
 pub no_stack-stack-requires : goal.no_stack-stack-requires
@@ -28,18 +26,18 @@ at-t-requires c = name-within c.next_name-i.ensures.passed c.if-i-end.true
 
 pub overflow_cast-n : goal.overflow_cast-n
 overflow_cast-n c =
-    let here : (let a = c.args in let k = c.loop-end in Met a.rows.now a.roots.now a.names a.from a.until a.marks k.stack k.ends k.depth c.next_name-i.result k.end k.marked (as_row c.at-t.result)) = met c.loop-end.invariant c.next_name-i.ensures c.if-i-end.true _ c.at-t.ensures in
-    omega (arith, met-few (here))
+    let here = met c.loop-end.invariant c.next_name-i.ensures c.if-i-end.true _ c.at-t.ensures in
+    omega (arith, met-few here)
 
 pub bounds-marked-n : goal.bounds-marked-n
 bounds-marked-n c =
-    let here : (let a = c.args in let k = c.loop-end in Met a.rows.now a.roots.now a.names a.from a.until a.marks k.stack k.ends k.depth c.next_name-i.result k.end k.marked (as_row c.at-t.result)) = met c.loop-end.invariant c.next_name-i.ensures c.if-i-end.true _ c.at-t.ensures in
-    met-few (here)
+    let here = met c.loop-end.invariant c.next_name-i.ensures c.if-i-end.true _ c.at-t.ensures in
+    met-few here
 
 pub bounds-marked-n-then-marked-n-ne-UNVISITED : goal.bounds-marked-n-then-marked-n-ne-UNVISITED
 bounds-marked-n-then-marked-n-ne-UNVISITED c =
-    let here : (let a = c.args in let k = c.loop-end in Met a.rows.now a.roots.now a.names a.from a.until a.marks k.stack k.ends k.depth c.next_name-i.result k.end k.marked (as_row c.at-t.result)) = met c.loop-end.invariant c.next_name-i.ensures c.if-i-end.true _ c.at-t.ensures in
-    met-few (here)
+    let here = met c.loop-end.invariant c.next_name-i.ensures c.if-i-end.true _ c.at-t.ensures in
+    met-few here
 
 pub slice_bounds-all_empty-end : goal.slice_bounds-all_empty-end
 slice_bounds-all_empty-end c = sym c.loop-end.invariant.stack-long
@@ -49,43 +47,43 @@ all_empty-emptied-requires c = rows-stacked c.loop-end.invariant
 
 pub returns-then-marked-n-ne-UNVISITED : goal.returns-then-marked-n-ne-UNVISITED
 returns-then-marked-n-ne-UNVISITED c =
-    let here : (let a = c.args in let k = c.loop-end in Met a.rows.now a.roots.now a.names a.from a.until a.marks k.stack k.ends k.depth c.next_name-i.result k.end k.marked (as_row c.at-t.result)) = met c.loop-end.invariant c.next_name-i.ensures c.if-i-end.true _ c.at-t.ensures in
-    rows-stop (here) c.if-marked-n-ne-UNVISITED.true c.all_empty-emptied.ensures
+    let here = met c.loop-end.invariant c.next_name-i.ensures c.if-i-end.true _ c.at-t.ensures in
+    rows-stop here c.if-marked-n-ne-UNVISITED.true c.all_empty-emptied.ensures
 
 pub offset_bounds-roots-n : goal.offset_bounds-roots-n
 offset_bounds-roots-n c =
-    let here : (let a = c.args in let k = c.loop-end in Met a.rows.now a.roots.now a.names a.from a.until a.marks k.stack k.ends k.depth c.next_name-i.result k.end k.marked (as_row c.at-t.result)) = met c.loop-end.invariant c.next_name-i.ensures c.if-i-end.true _ c.at-t.ensures in
-    omega (arith, met-few (here))
+    let here = met c.loop-end.invariant c.next_name-i.ensures c.if-i-end.true _ c.at-t.ensures in
+    omega (arith, met-few here)
 
 pub bounds-roots-n : goal.bounds-roots-n
 bounds-roots-n c =
-    let here : (let a = c.args in let k = c.loop-end in Met a.rows.now a.roots.now a.names a.from a.until a.marks k.stack k.ends k.depth c.next_name-i.result k.end k.marked (as_row c.at-t.result)) = met c.loop-end.invariant c.next_name-i.ensures c.if-i-end.true _ c.at-t.ensures in
-    met-tabled (here)
+    let here = met c.loop-end.invariant c.next_name-i.ensures c.if-i-end.true _ c.at-t.ensures in
+    met-tabled here
 
 pub bounds-marked-n-then-root : goal.bounds-marked-n-then-root
 bounds-marked-n-then-root c =
-    let here : (let a = c.args in let k = c.loop-end in Met a.rows.now a.roots.now a.names a.from a.until a.marks k.stack k.ends k.depth c.next_name-i.result k.end k.marked (as_row c.at-t.result)) = met c.loop-end.invariant c.next_name-i.ensures c.if-i-end.true _ c.at-t.ensures in
-    met-few (here)
+    let here = met c.loop-end.invariant c.next_name-i.ensures c.if-i-end.true _ c.at-t.ensures in
+    met-few here
 
 pub overflow_add-at : goal.overflow_add-at
 overflow_add-at c =
-    let here : (let a = c.args in let k = c.loop-end in Met a.rows.now a.roots.now a.names a.from a.until a.marks k.stack k.ends k.depth c.next_name-i.result k.end k.marked (as_row c.at-t.result)) = met c.loop-end.invariant c.next_name-i.ensures c.if-i-end.true _ c.at-t.ensures in
-    omega (arith, met-ends (here))
+    let here = met c.loop-end.invariant c.next_name-i.ensures c.if-i-end.true _ c.at-t.ensures in
+    omega (arith, met-ends here)
 
 pub loop-end-smaller-then-root : goal.loop-end-smaller-then-root
 loop-end-smaller-then-root c =
-    let here : (let a = c.args in let k = c.loop-end in Met a.rows.now a.roots.now a.names a.from a.until a.marks k.stack k.ends k.depth c.next_name-i.result k.end k.marked (as_row c.at-t.result)) = met c.loop-end.invariant c.next_name-i.ensures c.if-i-end.true _ c.at-t.ensures in
-    omega (arith, met-fewer (here) c.if-marked-n-ne-UNVISITED.false 3 (λ e. absurd (omega arith)))
+    let here = met c.loop-end.invariant c.next_name-i.ensures c.if-i-end.true _ c.at-t.ensures in
+    omega (arith, met-fewer here c.if-marked-n-ne-UNVISITED.false 3 (λ e. absurd (omega arith)))
 
 pub loop-end-preserved-then-root : goal.loop-end-preserved-then-root
 loop-end-preserved-then-root c =
-    let here : (let a = c.args in let k = c.loop-end in Met a.rows.now a.roots.now a.names a.from a.until a.marks k.stack k.ends k.depth c.next_name-i.result k.end k.marked (as_row c.at-t.result)) = met c.loop-end.invariant c.next_name-i.ensures c.if-i-end.true _ c.at-t.ensures in
-    rows-missing (here) c.if-marked-n-ne-UNVISITED.false c.if-root.true
+    let here = met c.loop-end.invariant c.next_name-i.ensures c.if-i-end.true _ c.at-t.ensures in
+    rows-missing here c.if-marked-n-ne-UNVISITED.false c.if-root.true
 
 pub bounds-marked-n-then-i-end : goal.bounds-marked-n-then-i-end
 bounds-marked-n-then-i-end c =
-    let here : (let a = c.args in let k = c.loop-end in Met a.rows.now a.roots.now a.names a.from a.until a.marks k.stack k.ends k.depth c.next_name-i.result k.end k.marked (as_row c.at-t.result)) = met c.loop-end.invariant c.next_name-i.ensures c.if-i-end.true _ c.at-t.ensures in
-    met-few (here)
+    let here = met c.loop-end.invariant c.next_name-i.ensures c.if-i-end.true _ c.at-t.ensures in
+    met-few here
 
 pub overflow_cast-stack : goal.overflow_cast-stack
 overflow_cast-stack c =
@@ -111,33 +109,33 @@ overflow_add-depth c = omega (arith, rows-deep c.loop-end.invariant)
 
 pub overflow_cast-node : goal.overflow_cast-node
 overflow_cast-node c =
-    let here : (let a = c.args in let k = c.loop-end in Met a.rows.now a.roots.now a.names a.from a.until a.marks k.stack k.ends k.depth c.next_name-i.result k.end k.marked (as_row c.at-t.result)) = met c.loop-end.invariant c.next_name-i.ensures c.if-i-end.true _ c.at-t.ensures in
-    omega (arith, root-few (here) c.if-marked-n-ne-UNVISITED.false c.if-root.false)
+    let here = met c.loop-end.invariant c.next_name-i.ensures c.if-i-end.true _ c.at-t.ensures in
+    omega (arith, root-few here c.if-marked-n-ne-UNVISITED.false c.if-root.false)
 
 pub at-u-requires : goal.at-u-requires
 at-u-requires c =
-    let here : (let a = c.args in let k = c.loop-end in Met a.rows.now a.roots.now a.names a.from a.until a.marks k.stack k.ends k.depth c.next_name-i.result k.end k.marked (as_row c.at-t.result)) = met c.loop-end.invariant c.next_name-i.ensures c.if-i-end.true _ c.at-t.ensures in
-    body-within (here) c.if-marked-n-ne-UNVISITED.false c.if-root.false
+    let here = met c.loop-end.invariant c.next_name-i.ensures c.if-i-end.true _ c.at-t.ensures in
+    body-within here c.if-marked-n-ne-UNVISITED.false c.if-root.false
 
 pub overflow_add-end : goal.overflow_add-end
 overflow_add-end c =
-    let here : (let a = c.args in let k = c.loop-end in Met a.rows.now a.roots.now a.names a.from a.until a.marks k.stack k.ends k.depth c.next_name-i.result k.end k.marked (as_row c.at-t.result)) = met c.loop-end.invariant c.next_name-i.ensures c.if-i-end.true _ c.at-t.ensures in
-    omega (arith, body-few (here) c.if-marked-n-ne-UNVISITED.false c.if-root.false _ c.at-u.ensures)
+    let here = met c.loop-end.invariant c.next_name-i.ensures c.if-i-end.true _ c.at-t.ensures in
+    omega (arith, body-few here c.if-marked-n-ne-UNVISITED.false c.if-root.false _ c.at-u.ensures)
 
 pub names_from-at-requires : goal.names_from-at-requires
 names_from-at-requires c =
-    let here : (let a = c.args in let k = c.loop-end in Met a.rows.now a.roots.now a.names a.from a.until a.marks k.stack k.ends k.depth c.next_name-i.result k.end k.marked (as_row c.at-t.result)) = met c.loop-end.invariant c.next_name-i.ensures c.if-i-end.true _ c.at-t.ensures in
-    body-within (here) c.if-marked-n-ne-UNVISITED.false c.if-root.false
+    let here = met c.loop-end.invariant c.next_name-i.ensures c.if-i-end.true _ c.at-t.ensures in
+    body-within here c.if-marked-n-ne-UNVISITED.false c.if-root.false
 
 pub loop-end-smaller-then-i-end : goal.loop-end-smaller-then-i-end
 loop-end-smaller-then-i-end c =
-    let here : (let a = c.args in let k = c.loop-end in Met a.rows.now a.roots.now a.names a.from a.until a.marks k.stack k.ends k.depth c.next_name-i.result k.end k.marked (as_row c.at-t.result)) = met c.loop-end.invariant c.next_name-i.ensures c.if-i-end.true _ c.at-t.ensures in
-    omega (arith, met-fewer (here) c.if-marked-n-ne-UNVISITED.false 2 (λ e. absurd (omega arith)))
+    let here = met c.loop-end.invariant c.next_name-i.ensures c.if-i-end.true _ c.at-t.ensures in
+    omega (arith, met-fewer here c.if-marked-n-ne-UNVISITED.false 2 (λ e. absurd (omega arith)))
 
 pub loop-end-preserved-then-i-end : goal.loop-end-preserved-then-i-end
 loop-end-preserved-then-i-end c =
-    let here : (let a = c.args in let k = c.loop-end in Met a.rows.now a.roots.now a.names a.from a.until a.marks k.stack k.ends k.depth c.next_name-i.result k.end k.marked (as_row c.at-t.result)) = met c.loop-end.invariant c.next_name-i.ensures c.if-i-end.true _ c.at-t.ensures in
-    rows-enter (here) c.if-marked-n-ne-UNVISITED.false c.if-root.false _ c.at-u.ensures c.names_from-at.ensures
+    let here = met c.loop-end.invariant c.next_name-i.ensures c.if-i-end.true _ c.at-t.ensures in
+    rows-enter here c.if-marked-n-ne-UNVISITED.false c.if-root.false _ c.at-u.ensures c.names_from-at.ensures
 
 pub returns-then-depth-eq0 : goal.returns-then-depth-eq0
 returns-then-depth-eq0 c =

@@ -1,4 +1,4 @@
-use Prim.Native.Nat.{◌+◌, ◌-◌}
+use Prim.Native.Nat.{◌+◌}
 use Rattle.inhabitants.specs.Empty.{new_marks}
 use Rattle.inhabitants.proofs.empty.Fields.{RowsLeft}
 use Rattle.inhabitants.proofs.empty.visit_fields.Given as goal

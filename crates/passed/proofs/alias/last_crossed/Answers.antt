@@ -1,5 +1,4 @@
 -- `alias::last_crossed` meets its contract: each turn goes on to the next name. Assumes nothing.
-use Prim.Native.Nat.{◌-◌}
 use native.Mathlib.Omega.{arith}
 use Rattle.passed.proofs.alias.Laws.{going-start, name-small, going-end, going-on}
 use Rattle.passed.proofs.alias.last_crossed.Goals as goal

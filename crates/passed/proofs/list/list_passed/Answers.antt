@@ -6,7 +6,7 @@ use Prim.Native.Nat.{ℕ}
 use lib.Dec.{eqb}
 use Rattle.refusals.specs.declared.Refusal.TheVariants.{NoActor}
 use Rattle.refusals.specs.Outcome.{refused}
-use Rattle.format.specs.Forest.{Forest, count}
+use Rattle.format.specs.Forest.{Forest}
 use Rattle.format.specs.Node.{Node}
 use Rattle.format.specs.Layout.{nodes_part}
 use Rattle.book.specs.declared.kinds.Contents.{Contents}

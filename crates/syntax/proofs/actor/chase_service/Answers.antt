@@ -17,23 +17,23 @@ service_at-requires c =
     let found : AliasAs (nodes_part c.args.book.now) c.args.roots.now c.args.c.nodes c.args.main c.args.node c.alias_end-chain.result = let e = c.alias_end-chain.ensures in
     record { within = e.within; is = rw c.nodes-rows.ensures at e.is; crossed-is = rw c.nodes-rows.ensures at e.crossed; few = e.few } in
     let t = (all-trees c.requires.0).nodes in
-    let i = chase-inside t c.args.other (found) c.in-Ends.is in
+    let i = chase-inside t c.args.other found c.in-Ends.is in
     rw c.nodes-rows.ensures (record { held = omega (arith, i, t.within.held); few = t.within.few }, omega (arith, i, t.few_nodes))
 
 pub returns-in-Unbound : goal.returns-in-Unbound
 returns-in-Unbound c =
     let found : AliasAs (nodes_part c.args.book.now) c.args.roots.now c.args.c.nodes c.args.main c.args.node c.alias_end-chain.result = let e = c.alias_end-chain.ensures in
     record { within = e.within; is = rw c.nodes-rows.ensures at e.is; crossed-is = rw c.nodes-rows.ensures at e.crossed; few = e.few } in
-    chase-unbound (all-trees c.requires.0).nodes c.args.other (found) c.in-Unbound.is
+    chase-unbound (all-trees c.requires.0).nodes c.args.other found c.in-Unbound.is
 
 pub returns-in-Circle : goal.returns-in-Circle
 returns-in-Circle c =
     let found : AliasAs (nodes_part c.args.book.now) c.args.roots.now c.args.c.nodes c.args.main c.args.node c.alias_end-chain.result = let e = c.alias_end-chain.ensures in
     record { within = e.within; is = rw c.nodes-rows.ensures at e.is; crossed-is = rw c.nodes-rows.ensures at e.crossed; few = e.few } in
-    chase-circle (all-trees c.requires.0).nodes c.args.other (found) c.in-Circle.is
+    chase-circle (all-trees c.requires.0).nodes c.args.other found c.in-Circle.is
 
 pub returns-in-Ends : goal.returns-in-Ends
 returns-in-Ends c =
     let found : AliasAs (nodes_part c.args.book.now) c.args.roots.now c.args.c.nodes c.args.main c.args.node c.alias_end-chain.result = let e = c.alias_end-chain.ensures in
     record { within = e.within; is = rw c.nodes-rows.ensures at e.is; crossed-is = rw c.nodes-rows.ensures at e.crossed; few = e.few } in
-    rw (c.service_at.ensures, c.nodes-rows.ensures) (chase-ends (all-trees c.requires.0).nodes c.args.other (found) c.in-Ends.is)
+    rw (c.service_at.ensures, c.nodes-rows.ensures) (chase-ends (all-trees c.requires.0).nodes c.args.other found c.in-Ends.is)

@@ -1,7 +1,6 @@
 -- `actor::import_services` meets its contract: the imports that are left give the verdict and the methods. Assumes nothing.
 use mathlib.Core.Path.{sym, ap, ◌∙◌}
 use mathlib.Core.Bool.{true≢false}
-use Prim.Native.Nat.{◌-◌}
 use native.Mathlib.Omega.{arith}
 use lib.ListN.{length}
 use Rattle.syntax.proofs.Lists.{no-long}

@@ -1,7 +1,6 @@
 -- `files::list_imports` meets its contract: the files that are left give the verdict. Assumes nothing.
 use mathlib.Core.Path.{sym, ◌∙◌}
 use mathlib.Core.Bool.{true≢false, false≢true}
-use Prim.Native.Nat.{◌-◌}
 use native.Mathlib.Omega.{arith}
 use Rattle.syntax.proofs.files.Laws.{imports-start, imports-room, imports-end, imports-listed, imports-stop, count-one, imports-on}
 use Rattle.syntax.proofs.files.list_imports.Goals as goal

@@ -1,4 +1,3 @@
-use Prim.Native.Nat.{◌-◌}
 use Rattle.syntax.proofs.hashes.Buckets.{Sought}
 use Rattle.syntax.proofs.hashes.has.Given as goal
 

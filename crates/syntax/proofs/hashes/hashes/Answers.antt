@@ -1,5 +1,5 @@
 -- `hashes::hashes` meets its contract: the methods that are left give the verdict. Assumes nothing.
-use Prim.Native.Nat.{◌-◌, ◌<◌, ◌≤◌}
+use Prim.Native.Nat.{◌<◌, ◌≤◌}
 use mathlib.Core.Path.{sym, ap}
 use native.Mathlib.Omega.{arith}
 use lib.ListN.{length}
@@ -72,7 +72,7 @@ slice_bounds-met-end c =
 pub slice_bounds-has-end : goal.slice_bounds-has-end
 slice_bounds-has-end c =
     let few : c.loop-i.k ≤ length c.loop-i.met = omega (arith, hashes-few c.requires.1 c.loop-i.invariant.left, c.loop-i.invariant.left.long) in
-    sym (length-take-le _ _ (few))
+    sym (length-take-le _ _ few)
 
 pub slice_bounds-has-end-in-loop-i : goal.slice_bounds-has-end-in-loop-i
 slice_bounds-has-end-in-loop-i c = sym c.loop-i.invariant.left.buckets.nexts

@@ -1,6 +1,5 @@
 -- `check_services` meets its contract: the services that are left give the verdict. Assumes nothing.
 use mathlib.Core.Path.{sym, ◌∙◌}
-use Prim.Native.Nat.{◌-◌}
 use native.Mathlib.Omega.{arith}
 use Rattle.typing.proofs.actor.Laws.{merged-start, merged-stop, merged-on, merged-end, service-stored, service-whole}
 use Rattle.typing.proofs.actor.check_services.Goals as goal

@@ -1,39 +1,10 @@
 -- The proof of the cycle of calls {validate_type}: its measure is the number of nodes. What is left fits just where all does. Assumes nothing.
 use mathlib.Core.Path.{ap}
-use Prim.Native.Nat.{ℕ, ◌-◌, ◌<◌}
 use native.Mathlib.Omega.{arith}
 use Rattle.format.specs.Encode.{Row}
 use Rattle.environment.proofs.Trees.{ends-inside, one-at-least, kids-trees, row-within, ended}
 use Rattle.typing.proofs.defs.Fits.{fit-start, fit-end, fit-own, fit-below, fit-on}
-use borrow.Fn.Kinds.{In}
-use borrow.Fn.PlainCycle.{Measures, is, falls, and}
-use Rattle.typing.proofs.defs.validate_type.Reads as validate-type
-use Rattle.typing.proofs.defs.validate_type.Kinds as kinds
-use Rattle.typing.proofs.defs.+validate_type.Lts-validate_type as lts
-use Rattle.book.proofs.read.Node.at.Reads as at_reads
-use Rattle.typing.proofs.method_fits.Reads as method-fits-reads
 use Rattle.typing.proofs.defs.+validate_type.Goals as goal
-
-abbrev μ-validate-type : Measures 2 kinds.ps ℕ
-μ-validate-type κs a = a.1.1.1.1.0 - a.1.1.1.0
-
-abbrev validate-type-at : ℕ → In 2 kinds.ps
-validate-type-at t =
-    and 2 kinds.ps (is 2 kinds.ps μ-validate-type t) validate-type.Pre
-
-abbrev validate-type-below : ℕ → In 2 kinds.ps
-validate-type-below t =
-    and 2 kinds.ps (falls 2 kinds.ps ◌<◌ μ-validate-type t) validate-type.Pre
-
-abbrev calls : ℕ → lts.Claims
-calls t = (
-  method-fits-reads.Asked,
-  method-fits-reads.Learnt,
-  at_reads.Asked,
-  at_reads.Learnt,
-  validate-type-below t,
-  validate-type.Post,
-)
 
 pub loop-i-init : goal.loop-i-init
 loop-i-init t c = fit-start c.args.tested c.requires.1

@@ -1,5 +1,4 @@
 -- `check_defs` meets its contract: the bodies that are left give the verdict. Assumes nothing.
-use Prim.Native.Nat.{◌-◌}
 use mathlib.Core.Path.{sym, ◌∙◌}
 use native.Mathlib.Omega.{arith}
 use Rattle.typing.proofs.defs.Entries.{left-start, entry-within, body-trees, body-some, bodies-end, bodies-stop, bodies-on}

@@ -1,5 +1,4 @@
 -- `validate_decs` meets its contract: the bodies that are left fit just where all do. Assumes nothing.
-use Prim.Native.Nat.{◌-◌}
 use mathlib.Core.Path.{ap}
 use native.Mathlib.Omega.{arith}
 use Rattle.format.specs.Encode.{Row}

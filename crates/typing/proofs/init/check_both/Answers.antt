@@ -1,12 +1,6 @@
 -- `check_both` meets its contract. Assumes nothing.
 use mathlib.Core.Path.{sym, ◌∙◌}
-use mathlib.Core.List.{List}
-use Prim.Native.Nat.{ℕ}
-use borrow.Author.Tests.{not-false}
 use Rattle.book.proofs.Blank.{blank-length}
-use Rattle.environment.specs.Merging.{MergedAs}
-use Rattle.typing.specs.Init.{OwnPassed, Merged}
-use Rattle.typing.specs.Passing.{PassedBook}
 use Rattle.typing.proofs.init.Laws.{own-table, main-table, init-differs, init-merged, init-found, init-cleared}
 use Rattle.typing.proofs.init.check_both.Goals as goal
 

@@ -1,7 +1,5 @@
 -- `merged_count` meets its contract. Assumes nothing.
-use Prim.Native.Nat.{◌-◌}
 use mathlib.Core.Path.{sym, ap, ◌∙◌}
-use mathlib.Core.Logic.{⊎_elim}
 use native.Mathlib.Omega.{arith}
 use Rattle.format.specs.Encode.{Entry}
 use Rattle.typing.proofs.init.Laws.{table-read, count-start, count-end, count-more, count-same}
