@@ -153,13 +153,16 @@ class SmallCrates(InFolder):
         """, *(["at_end"], ["in_argument"], ["in_arm"], ["in_condition"], ["in_default"], ["in_else"], ["in_loop"], ["in_while"]))
 
     def test_method(self):
+        """Of one type, and with a function of none."""
         self.has("""
             #[derive(Clone, Copy)] pub struct Number { pub n: u64 }
             impl Number {
                 #[cycle(turn)] pub fn half(self) -> u64 { if self.n == 0 { return 0; } Number::other(self.n / 2) }
                 #[cycle(turn)] fn other(n: u64) -> u64 { Number { n: n }.half() }
+                #[cycle(both)] pub fn third(self) -> u64 { if self.n == 0 { return 0; } last(self.n / 3) }
             }
-        """, ["Number::half", "Number::other"])
+            #[cycle(both)] fn last(n: u64) -> u64 { Number { n: n }.third() }
+        """, ["Number::half", "Number::other"], ["Number::third", "last"])
 
     def test_other_crate(self):
         """A recursion is found from the crate above, and what falls is told."""
@@ -387,13 +390,22 @@ class Planted(InFolder):
         self.assertNotEqual(change(text), text)
         write(path, change(text))
 
+    def without_proof(self, path, name):
+        """The kit wants the proof of a function that is in a circle, or is no more, nowhere else."""
+        for folder, names, _ in os.walk(os.path.join(self.root, "crates", path.split("/")[0], "proofs")):
+            if name in names:
+                shutil.rmtree(os.path.join(folder, name))
+                names.remove(name)
+
     def plant(self, path, caller, call):
         """A call as the first statement of a function."""
+        self.without_proof(path, caller)
         self.edit(path, lambda text: re.sub(rf"(\bfn {caller}\(.*?\n{{\n)", rf"\1    {call};\n", text, count=1, flags=re.DOTALL))
 
     def in_cycle(self, path, *names):
         """The kit asks for a word at each of several functions that call one another."""
         for name in names:
+            self.without_proof(path, name)
             self.edit(path, lambda text: re.sub(rf"^( *)((pub )?fn {name}\()", r"\1#[cycle(turn)]\n\1\2", text, count=1, flags=re.MULTILINE))
 
     def last_name(self, module, lines):
@@ -459,6 +471,7 @@ class Planted(InFolder):
     def test_renamed(self):
         self.copy("environment")
         self.edit("environment/src/lib.rt", lambda text: text.replace("fn names_crossed", "fn crossed_names"))
+        self.without_proof("environment/src/lib.rt", "names_crossed")
         self.is_wrong("environment::names_crossed has to be a loop and is not there")
 
     def test_follower(self):
