@@ -1,9 +1,9 @@
 #!/usr/bin/env python3
 """Tests tools/calls.py with graphs.py and stacks.py, and by it the crates:  python3 tools/test_calls.py
 
-Small crates and copies of the real ones, into which a recursion is planted, go through `rt mir`; words that the kit does not print, and machine
-code, are written here. `rt staticlib exports` and `rt check` must have run: what a copy stands on is not proved again, and the crates' own table has
-the stack.
+Small crates and copies of the real ones, into which a recursion is planted, go through `rt check --generated`; modules that the kit does not make,
+and machine code, are written here. tools/build.sh must have made the library and the programs: what a copy stands on is not proved again, and the
+crates' own table has the stack.
 """
 
 import contextlib
@@ -35,31 +35,10 @@ pub fn down(n: u64) -> u64 {
     n
 }
 """
-DOWN_PROOF = """
-use native.Mathlib.Omega.{arith}
-use Prim.Native.Nat.{ℕ, _<_}
-use borrow.Fn.Kinds.{In}
-use borrow.Fn.PlainCycle.{Measures, is, falls, and}
-use Rattle·low·proofs.proofs.down.Reads as down
-use Rattle·low·proofs.proofs.down.Kinds as kinds
-use Rattle·low·proofs.proofs.+down.Lts-down as lts
-use Rattle·low·proofs.proofs.+down.{statement}
-use Rattle·low·proofs.proofs.+down.Tie.{close}
+DOWN_PROOF = """use Rattle.low.proofs.+down.Given as goal
 
-abbrev μ-down : Measures 0 kinds.ps ℕ
-μ-down κs a = a .0
-
-abbrev at : ℕ → In 0 kinds.ps
-at t = and 0 kinds.ps (is 0 kinds.ps μ-down t) down.Pre
-
-abbrev below : ℕ → In 0 kinds.ps
-below t = and 0 kinds.ps (falls 0 kinds.ps _<_ μ-down t) down.Pre
-
-requires : (t : ℕ) → lts.Need-down-requires (below t, down.Post) (at t) down.Post
-requires t c κs = (omega (arith, c .if1 .taken, c .before .pre .0), tt)
-
-pub +down-spec : {M : Type 1} → statement M
-+down-spec = close μ-down λ t. lts.spec (below t, down.Post) (at t) down.Post (requires t) (λ c. tt) (λ c. tt)
+abbrev pub decreases-down : goal.decreases-down
+decreases-down l = l.n
 """
 
 
@@ -75,7 +54,7 @@ def crate(root, name, source, below="", folders=None):
         file.write(f"{name}: {below}\n")
     write(os.path.join(root, "crates", name, "src", "lib.rt"), source)
     for folder, proof in (folders or {}).items():
-        write(os.path.join(root, "crates", name, "proofs", folder, "Proof.antt"), proof)
+        write(os.path.join(root, "crates", name, "proofs", folder, "Invariants.antt"), proof)
 
 
 def told(*arguments):
@@ -85,12 +64,12 @@ def told(*arguments):
     return status, out.getvalue(), err.getvalue()
 
 
-MIR = calls.mir
+GENERATED = calls.generated
 
 
 @functools.cache
 def real(name):
-    return MIR(calls.ROOT, name)
+    return GENERATED(calls.ROOT, name)
 
 
 class InFolder(unittest.TestCase):
@@ -113,11 +92,11 @@ class InFolder(unittest.TestCase):
 
 
 class SmallCrates(InFolder):
-    """Through `rt mir`."""
+    """Through the kit."""
 
     def circles(self):
         with mock.patch.object(calls, "check_proved"):
-            graph, path = calls.read(self.root, calls.mir)
+            graph, path = calls.read(self.root, calls.generated)
         self.assertIsNone(path)
         return calls.circles(graph.calls())
 
@@ -133,17 +112,17 @@ class SmallCrates(InFolder):
         """Of three that call each other, with one that calls them and one that they call."""
         self.has("""
             fn leaf(n: u64) -> u64 { n }
-            fn one(n: u64) -> u64 { if n == 0 { return leaf(n); } two(n / 2) }
-            fn two(n: u64) -> u64 { three(n) }
-            fn three(n: u64) -> u64 { one(n) }
+            #[cycle(turn)] fn one(n: u64) -> u64 { if n == 0 { return leaf(n); } two(n / 2) }
+            #[cycle(turn)] fn two(n: u64) -> u64 { three(n) }
+            #[cycle(turn)] fn three(n: u64) -> u64 { one(n) }
             pub fn start(n: u64) -> u64 { two(n) }
         """, ["one", "three", "two"])
 
     def test_two_circles(self):
         """One of which calls the other."""
         self.has("""
-            fn one(n: u64) -> u64 { if n == 0 { return three(n); } two(n / 2) }
-            fn two(n: u64) -> u64 { one(n) }
+            #[cycle(turn)] fn one(n: u64) -> u64 { if n == 0 { return three(n); } two(n / 2) }
+            #[cycle(turn)] fn two(n: u64) -> u64 { one(n) }
             fn three(n: u64) -> u64 { if n == 0 { return 0; } three(n / 2) }
         """, ["one", "two"], ["three"])
 
@@ -162,8 +141,8 @@ class SmallCrates(InFolder):
         """Calls in every kind of statement."""
         self.has("""
             pub enum Kind { One, Two, Three }
-            fn kind(n: u64) -> Kind { if n == 0 { return Kind::One; } Kind::Two }
-            fn in_arm(n: u64) -> u64 { match kind(n) { Kind::One => 0, Kind::Two => in_arm(n), Kind::Three => 1 } }
+            fn kind_of(n: u64) -> Kind { if n == 0 { return Kind::One; } if n == 1 { return Kind::Three; } Kind::Two }
+            fn in_arm(n: u64) -> u64 { match kind_of(n) { Kind::One => 0, Kind::Two => in_arm(n), Kind::Three => 1 } }
             fn in_default(n: u64) -> u64 { match n { 0 => 0, _ => in_default(n) } }
             fn in_else(n: u64) -> u64 { if n == 0 { 0 } else { in_else(n) } }
             fn in_argument(n: u64) -> u64 { if n == 0 { return 0; } in_arm(in_argument(n)) }
@@ -174,13 +153,16 @@ class SmallCrates(InFolder):
         """, *(["at_end"], ["in_argument"], ["in_arm"], ["in_condition"], ["in_default"], ["in_else"], ["in_loop"], ["in_while"]))
 
     def test_method(self):
+        """Of one type, and with a function of none."""
         self.has("""
-            pub struct Number { pub n: u64 }
+            #[derive(Clone, Copy)] pub struct Number { pub n: u64 }
             impl Number {
-                pub fn half(self) -> u64 { if self.n == 0 { return 0; } Number::other(self.n / 2) }
-                fn other(n: u64) -> u64 { Number { n: n }.half() }
+                #[cycle(turn)] pub fn half(self) -> u64 { if self.n == 0 { return 0; } Number::other(self.n / 2) }
+                #[cycle(turn)] fn other(n: u64) -> u64 { Number { n: n }.half() }
+                #[cycle(both)] pub fn third(self) -> u64 { if self.n == 0 { return 0; } last(self.n / 3) }
             }
-        """, ["Number::half", "Number::other"])
+            #[cycle(both)] fn last(n: u64) -> u64 { Number { n: n }.third() }
+        """, ["Number::half", "Number::other"], ["Number::third", "last"])
 
     def test_other_crate(self):
         """A recursion is found from the crate above, and what falls is told."""
@@ -200,7 +182,7 @@ class SmallCrates(InFolder):
         self.assertIn("\nenvironment::helper -> top::start -> low::down -> low::down\n", out)
 
     def test_every_function(self):
-        """The MIR has the functions of the sources, of two types and two modules too, and no other."""
+        """The graph has the functions of the sources, of two types and two modules too, and no other."""
         self.no_loops()
         crate(self.root, "planted", """
             pub mod inner;  // fn of
@@ -211,17 +193,18 @@ class SmallCrates(InFolder):
         write(os.path.join(self.root, "crates", "planted", "src", "inner.rt"), "fn up() { }")
         whole = ["A::at", "B::at", "up", "inner::up"]
         for names, sentence in (
-            (whole[1:], "planted::at: the sources have 2 and `rt mir planted` has 1"), (whole[:3], "planted::inner::up: the sources have 1 and"),
+            (whole[1:], "planted::at: the sources have 2 and what the kit makes has 1"), (whole[:3], "planted::inner::up: the sources have 1 and"),
             (whole[:2] + whole[3:], "planted::up: the sources have 1 and"), (whole + ["of"], "planted::of: the sources have 0 and"),
         ):
-            with self.subTest(names), mock.patch.object(calls, "mir", lambda *_: program(*(function(f"planted::{name}") for name in names))):
+            with self.subTest(names), mock.patch.object(calls, "generated", lambda *_: codes(*(function(f"planted::{name}") for name in names))):
                 self.is_wrong(sentence)
-        with mock.patch.object(calls, "mir", lambda *_: program(*(function(f"planted::{name}") for name in whole), function("kit::of"))):
+        made = [*whole, "AClone::clone", "fn::up::map+FnMut::call_mut", "Destruct++none::drop"]
+        with mock.patch.object(calls, "generated", lambda *_: codes(*(function(f"planted::{name}", "core::of") for name in made))):
             self.assertEqual(told(self.root)[0], 0)
 
     def test_not_read(self):
         crate(self.root, "planted", "pub fn f() { g(); }")
-        self.is_wrong("`rt mir planted` failed")
+        self.is_wrong("`rt check --generated` of planted failed")
 
     def test_named(self):
         source = "pub fn alias_end(n: u64) -> u64 { n }\npub fn no_end() { }\n"
@@ -249,127 +232,112 @@ class Proofs(InFolder):
 
     def test_no_circle(self):
         crate(self.root, "planted", "pub fn down(n: u64) -> u64 { n }", folders={"+down": DOWN_PROOF})
-        self.is_wrong("crates/planted/proofs/+down/Proof.antt is there, and no circle of calls planted::down")
+        """The kit refuses that; and so does the tool."""
+        self.is_wrong("`planted` has no cycle of calls `+down` for this file to be the proof of")
+        with mock.patch.object(calls, "generated", lambda *_: codes(function("planted::down"))):
+            self.is_wrong("crates/planted/proofs/+down/Invariants.antt is there, and no circle of calls planted::down")
 
     def test_other_members(self):
-        source = "fn one(n: u64) -> u64 { two(n) }\nfn two(n: u64) -> u64 { one(n) }"
+        source = "#[cycle(one)]\nfn one(n: u64) -> u64 { two(n) }\n#[cycle(one)]\nfn two(n: u64) -> u64 { one(n) }"
         crate(self.root, "planted", source, folders={"+one": DOWN_PROOF})
         self.is_wrong("no folder + has a proof of the circle of calls planted::one, planted::two")
 
     def test_other_module(self):
         crate(self.root, "planted", "pub mod inner;\n" + DOWN, folders={"inner/+down": DOWN_PROOF})
         write(os.path.join(self.root, "crates", "planted", "src", "inner.rt"), DOWN.replace("return down(n / 2)", "return n"))
-        self.is_wrong("no folder + has a proof of the circle of calls planted::down")
+        made = codes(("+down/Code", ""), ("+down/Code/+down", "use Rattle.planted.specs.contracts.down.Key\n"), function("planted::inner::down"))
+        with mock.patch.object(calls, "generated", lambda *_: made):
+            self.is_wrong("no folder + has a proof of the circle of calls planted::down")
 
-    def measured(self, *lines, close="close μ-one μ-two λ t."):
-        one = "fn one(rows: &[u8], from: usize,\n    until: usize) -> u64 { two(rows, from) }\n"
-        two = "fn two(rows: &[u8], n: usize) -> u64 { one(rows, n, n) }\n"
-        crate(self.root, "planted", one + two, folders={"+one+two": "\n".join(lines) + f"\n+one+two-spec =\n    {close}\n"})
+    def measured(self, *lines):
+        one = "#[cycle(both)]\nfn one(rows: &[u8], from: usize,\n    until: usize) -> u64 { two(rows, from) }\n"
+        two = "#[cycle(both)]\nfn two(rows: &[u8], n: usize) -> u64 { one(rows, n, n) }\n"
+        crate(self.root, "planted", one + two, folders={"+both": "\n".join(lines) + "\n"})
 
     def test_measures(self):
-        """Each parameter by its name, in the order of the members, whatever the measures are called."""
-        self.measured("μ-b κs a = 2 * (a .1 .1 .0 - a .1 .0) + 1", "μ-a κ x =", "    length (x .0 .now) * rowAt (x .0 .now) (x .1 .0) .size",
-                      close="close μ-b μ-a λ t.")
+        """Each parameter by its name, of each member, and not of a loop."""
+        self.measured("decreases-two l =", "    length l.rows.now * (row_at l.rows.now l.n).size", "decreases-loop-i l = l.until - l.i",
+                      "decreases-one-loop-i l = l.i", "decreases-one l = 2 * (l.until - l.from) + 1")
         status, out, _ = told(self.root)
         self.assertEqual(status, 0)
         self.assertIn("| `planted::one` | programs alone | `2 * (until - from) + 1` |\n"
-                      "| with `planted::two` | programs alone | `length rows * rowAt rows n .size` |\n", out)
+                      "| with `planted::two` | programs alone | `length rows * (row_at rows n).size` |\n", out)
 
-    def test_no_such_parameter(self):
-        self.measured("μ-one κs a = a .1 .1 .1 .0", "μ-two κs a = a .1 .0")
-        self.is_wrong("planted::one: the measure has a place that is no parameter")
+    def test_no_parameter(self):
+        self.measured("decreases-one l = depth l", "decreases-two l = l.n")
+        self.is_wrong("planted::one: the measure has what is no parameter: depth l")
 
     def test_measure_missing(self):
-        self.measured("μ-one κs a = a .1 .0")
-        self.is_wrong("μ-two is not stated once")
+        self.measured("decreases-one l = l.from")
+        self.is_wrong("no folder + has a proof of the circle of calls planted::one, planted::two")
 
-    def test_one_measure(self):
-        self.measured("μ-one κs a = a .1 .0", close="close μ-one λ t.")
-        self.is_wrong("`close` has not a measure for each of planted::one, planted::two")
+    def test_no_measure(self):
+        self.measured("decreases-loop-i l = l.from")
+        self.is_wrong("crates/planted/proofs/+both/Invariants.antt states no measure of a function")
 
-
-PLACE = "(place 0 lnil)"
-
-
-def function(name, *callees, body=None):
-    statement = "return"
-    for callee in callees:
-        statement = f'(seq (call (direct (fnRef "{callee}")) lnil {PLACE}) {statement})'
-    return f'(fn-def "{name}" (fnItem 0 lnil 0 lnil {body or statement}))'
+    def test_measure_twice(self):
+        self.measured("decreases-one l = l.from", "decreases-one l = l.until", "decreases-two l = l.n")
+        self.is_wrong("decreases-one is stated twice")
 
 
-def program(*functions):
-    chain = "lnil"
-    for one in reversed(functions):
-        chain = f"(lcons {one} {chain})"
-    return f'program {chain} (fnRef "main")\n'
+def function(name, *callees):
+    """A module as the kit makes it, with its path."""
+    lines = "".join(f"\npub calls-{callee} :\n    Wired γ code\n" for callee in callees)
+    return "/".join(name.split("::")[1:]) + "/Code", f"abbrev pub function : Syntax.Fn\n{lines}"
 
 
-class Words(unittest.TestCase):
-    """MIR as the kit does not print it."""
+def codes(*functions):
+    return dict(functions)
 
-    def read(self, *functions):
-        return calls.functions_of(program(*functions), {"a", "b"})
+
+def member(folder, name, *keys):
+    """A module of a function in a folder `+..` of the crate a, which calls these of the folder."""
+    return f"{folder}/Code/+{name}", "".join(f"use Rattle.a.specs.contracts.{key}.Key as Key'\n" for key in keys)
+
+
+class Modules(unittest.TestCase):
+    """What the kit makes, and what it does not."""
+
+    def read(self, *functions, name="a", known=()):
+        return {one: set(found.named) for one, found in calls.functions_of(codes(*functions), name, dict.fromkeys(known), {"a", "b"}).items()}
 
     def is_wrong(self, sentence, *functions):
         with self.assertRaisesRegex(calls.Wrong, re.escape(sentence)):
             self.read(*functions)
 
     def test_read(self):
-        found = self.read(function("a::f", "a::g", "kit::c"), function("a::g"), function("kit::c", body='(foreign "c" lnil)'))
-        self.assertEqual({name: (set(one.named), one.foreign) for name, one in found.items()},
-                         {"a::f": ({"a::g", "kit::c"}, None), "a::g": (set(), None), "kit::c": (set(), "c")})
+        found = self.read(function("a::f", "a::m::g", "core::c"), function("a::m::g"), ("f/Code/Mir", "\npub calls-a::f :"), ("n/+h/Code", "\npub calls-core::d :"),
+                          member("n/+h", "h", "n.h"))
+        self.assertEqual(found, {"a::f": {"a::m::g", "core::c"}, "a::m::g": set(), "a::n::h": {"a::n::h", "core::d"}})
 
-    def test_named_not_called(self):
-        found = self.read(function("a::f", body=f'(assign {PLACE} (rvOpd (fnRef "a::f")))'))
-        self.assertEqual(found["a::f"].named, {"a::f"})
+    def test_passed_on(self):
+        """A member's own module says where the member is."""
+        own = ("h/Code", "use Rattle.a.proofs.+h.Code\n")
+        self.assertEqual(self.read(function("a::f", "a::h"), ("+h/Code", ""), member("+h", "h", "h"), own), {"a::f": {"a::h"}, "a::h": {"a::h"}})
+        self.is_wrong("a::h is said to be in a.proofs.+h.Code, and is not", function("a::f"), own)
 
-    def test_undefined(self):
+    def test_known(self):
+        self.assertEqual(self.read(function("b::f", "a::g"), name="b", known=["a::g"]), {"b::f": {"a::g"}})
         self.is_wrong("a::f calls a::g, which is defined nowhere", function("a::f", "a::g"))
 
-    def test_indirect(self):
-        self.is_wrong("a::f has a call that is not direct: `indirect`", function("a::f", body=f"(call (indirect (copy {PLACE})) lnil {PLACE})"))
-        self.is_wrong("a::f has a call that is not direct: `copy`", function("a::f", body=f"(call (copy {PLACE}) lnil {PLACE})"))
-        self.is_wrong("a::f has a call that is not direct: `direct`", function("a::f", body=f"(call (direct (copy {PLACE})) lnil {PLACE})"))
-
-    def test_unknown_statement(self):
-        self.is_wrong("a::f: `become` is no statement that this tool knows", function("a::f", body='(become (fnRef "a::f"))'))
-        self.is_wrong("a::f: `drop` is no statement", function("a::f", body=f"(seq (drop {PLACE}) return)"))
-
-    def test_call_in_a_value(self):
-        self.is_wrong("a call where this tool knows no statement", function("a::f", body=f'(assign {PLACE} (call (direct (fnRef "a::f")) lnil))'))
-
-    def test_own_c(self):
-        self.is_wrong("a::c is a C function and not the kit's", function("a::c", body='(foreign "c" lnil)'))
-
-    def test_outside_a_body(self):
-        text = function("a::f")
-        self.is_wrong("a::f refers to a function outside its body", text[:-1] + ' (lcons (fnRef "a::f") lnil))')
-        self.is_wrong("a::f refers to a function outside its body", text.replace("0 lnil 0 lnil", '0 (lcons (fnRef "a::f") lnil) 0 lnil'))
+    def test_unknown_calls(self):
+        self.is_wrong("a: f has 1 calls, and 0 are read", ("f/Code", "\npub calls-a::f(γ)\n"))
+        self.is_wrong("a::h has calls that this tool does not know: a::g", ("+h/Code", ""), member("+h", "h", "g"))
+        self.is_wrong("a::h has calls that this tool does not know: a::b::specs::contracts::g", ("+h/Code", ""), ("+h/Code/+h", "use Rattle.b.specs.contracts.g.Key\n"))
 
     def test_twice(self):
-        self.is_wrong("a::f is defined twice", function("a::f"), function("a::f"))
+        self.is_wrong("a::h is there twice", ("+h/Code", ""), member("+h", "h"), ("+g/Code", ""), member("+g", "h"))
 
-    def test_broken(self):
-        for text, sentence in ((program(function("a::f"))[:-20], "inside a parenthesis"), ("program lnil)", "not open"), ("lnil", "no program"),
-                               (program("(static)"), "something else than a function"), ("program (list) x", "another list"),
-                               (program(function("a::f"))[:-3], "what is no word")):
-            with self.subTest(text), self.assertRaisesRegex(calls.Wrong, sentence):
-                calls.functions_of(text, set())
-
-    def test_two_bodies(self):
-        graph = calls.Graph()
-        graph.add("a", self.read(function("a::f", "a::g"), function("a::g")))
-        graph.add("b", self.read(function("a::f", "a::g"), function("a::g"), function("b::h", "a::f")))
-        with self.assertRaisesRegex(calls.Wrong, "a::f calls one thing in one crate and another in b"):
-            graph.add("b", self.read(function("a::f")))
+    def test_nothing(self):
+        self.is_wrong("a: +h has no functions", ("+h/Code", ""))
+        self.is_wrong("a has modules and no functions", ("f/Code/Mir", ""))
 
     def test_through_crates(self):
         """A circle that goes from crate to crate and back."""
         graph = calls.Graph()
-        graph.add("a", self.read(function("a::f", "b::g"), function("b::g", "b::h"), function("b::h", "a::f")))
-        graph.add("b", self.read(function("b::i", "b::g"), function("b::g", "b::h"), function("b::h", "a::f"), function("a::f", "b::g")))
-        self.assertEqual(calls.circles(graph.calls()), [["a::f", "b::g", "b::h"]])
+        graph.add("a", {"a::f": calls.Function({"b::g"}), "b::g": calls.Function({"b::h"}), "b::h": calls.Function({"a::f", "core::c"})})
+        graph.add("b", {"b::i": calls.Function({"b::g"})})
+        self.assertEqual((calls.circles(graph.calls()), graph.kit), ([["a::f", "b::g", "b::h"]], {"core::c"}))
         self.assertEqual(graphs.way_round(graph.calls(), {"b::i"}), ["b::i", "b::g", "b::h", "a::f", "b::g"])
 
     def test_who_calls_step(self):
@@ -403,7 +371,7 @@ class Planted(InFolder):
 
     def copy(self, name):
         """The crate and what it stands on, which is proved, and as it was."""
-        patch = mock.patch.object(calls, "mir", lambda root, one: MIR(root, one) if one == name else real(one))
+        patch = mock.patch.object(calls, "generated", lambda root, one: GENERATED(root, one) if one == name else real(one))
         patch.start()
         self.addCleanup(patch.stop)
         with open(os.path.join(calls.ROOT, "crates.txt"), encoding="utf-8") as file:
@@ -412,14 +380,8 @@ class Planted(InFolder):
         with open(os.path.join(calls.ROOT, "crates.txt"), encoding="utf-8") as file:
             write(os.path.join(self.root, "crates.txt"), "".join(line for line in file if line.split(":")[0] in needed))
         for one in needed:
-            shutil.copytree(os.path.join(calls.ROOT, "crates", one), os.path.join(self.root, "crates", one))
-        target = os.path.abspath(os.path.join(calls.ROOT, "target"))
-        os.mkdir(os.path.join(self.root, "target"))
-        for part in ("stamp", "log"):
-            shutil.copytree(os.path.join(target, part), os.path.join(self.root, "target", part))
-        os.mkdir(os.path.join(self.root, "target", "rlib"))
-        for one in needed[:-1]:
-            os.symlink(os.path.join(target, "rlib", f"{one}.rlib"), os.path.join(self.root, "target", "rlib", f"{one}.rlib"))
+            source = os.path.abspath(os.path.join(calls.ROOT, "crates", one))
+            shutil.copytree(source, os.path.join(self.root, "crates", one), ignore=lambda path, _: ["incremental"] if path == f"{source}/out" else [])
 
     def edit(self, path, change):
         path = os.path.join(self.root, "crates", path)
@@ -428,9 +390,23 @@ class Planted(InFolder):
         self.assertNotEqual(change(text), text)
         write(path, change(text))
 
+    def without_proof(self, path, name):
+        """The kit wants the proof of a function that is in a circle, or is no more, nowhere else."""
+        for folder, names, _ in os.walk(os.path.join(self.root, "crates", path.split("/")[0], "proofs")):
+            if name in names:
+                shutil.rmtree(os.path.join(folder, name))
+                names.remove(name)
+
     def plant(self, path, caller, call):
         """A call as the first statement of a function."""
+        self.without_proof(path, caller)
         self.edit(path, lambda text: re.sub(rf"(\bfn {caller}\(.*?\n{{\n)", rf"\1    {call};\n", text, count=1, flags=re.DOTALL))
+
+    def in_cycle(self, path, *names):
+        """The kit asks for a word at each of several functions that call one another."""
+        for name in names:
+            self.without_proof(path, name)
+            self.edit(path, lambda text: re.sub(rf"^( *)((pub )?fn {name}\()", r"\1#[cycle(turn)]\n\1\2", text, count=1, flags=re.MULTILINE))
 
     def last_name(self, module, lines):
         """A recursion along names, with a proof folder as the tool asks for."""
@@ -438,7 +414,7 @@ class Planted(InFolder):
         self.copy(crate_name)
         self.edit(f"{crate_name}/src/{file}.rt", lambda text: text + "\n".join(lines) + "\n")
         folder = os.path.join(self.root, "crates", crate_name, "proofs", file, "+last_name")
-        write(os.path.join(folder, "Proof.antt"), "μ-last_name κs a = a .1 .1 .1 .0\n+last_name-spec = close μ-last_name λ t.\n")
+        write(os.path.join(folder, "Invariants.antt"), "decreases-last_name l = l.k\n")
         self.goes(f"{module}::last_name", f"{module}::last_name")
 
     def goes(self, *way):
@@ -461,7 +437,9 @@ class Planted(InFolder):
     def test_find_ends(self):
         """From a function that it calls back to it."""
         self.copy("environment")
-        arguments = ", ".join(calls.parameters(self.root, "environment::find_ends"))
+        with open(os.path.join(self.root, "crates", "environment", "src", "lib.rt"), encoding="utf-8") as file:
+            signature = re.search(r"\bfn find_ends\(([^()]*)\)", file.read())[1]
+        arguments = ", ".join(part.split(":")[0].strip() for part in signature.split(",") if part.strip())
 
         def with_turn(text):
             signature = re.search(r"pub (fn find_ends\(.*?\n\)[^\n]*\n)", text, re.DOTALL)[1].replace("find_ends", "turn")
@@ -469,11 +447,13 @@ class Planted(InFolder):
 
         self.edit("environment/src/lib.rt", with_turn)
         self.plant("environment/src/lib.rt", "find_ends", f"turn({arguments})")
+        self.in_cycle("environment/src/lib.rt", "find_ends", "turn")
         self.goes("environment::find_ends", "environment::turn", "environment::find_ends")
 
     def test_as_func(self):
         self.copy("environment")
         self.plant("environment/src/lib.rt", "look_up", "as_func(rows, ends, node)")
+        self.in_cycle("environment/src/lib.rt", "look_up", "as_func")
         self.goes("environment::as_func", "environment::look_up", "environment::as_func")
 
     def test_new_function(self):
@@ -491,6 +471,7 @@ class Planted(InFolder):
     def test_renamed(self):
         self.copy("environment")
         self.edit("environment/src/lib.rt", lambda text: text.replace("fn names_crossed", "fn crossed_names"))
+        self.without_proof("environment/src/lib.rt", "names_crossed")
         self.is_wrong("environment::names_crossed has to be a loop and is not there")
 
     def test_follower(self):
@@ -535,15 +516,20 @@ class Planted(InFolder):
         """In the reader of nodes, without a proof: no crate above is read."""
         self.copy("book")
         self.plant("book/src/read.rt", "half", "Node::at(bytes, at)")
+        self.in_cycle("book/src/read.rt", "half", "at")
         self.is_wrong("no folder + has a proof of the circle of calls book::read::Node::at, book::read::half")
 
     def test_far_below(self):
-        """In the reader of nodes, by the MIR of each crate that has it: `rt mir` of a crate above would have the reader proved first."""
-        def text(_, name):
-            before, found, after = real(name).partition('(fn-def "book::read::half" ')
-            return before + found + (after.replace('"book::read::wide"', '"book::read::Node::at"', 1) if found else "")
+        """In the reader of nodes, as if the kit made the crates above of it."""
+        def made(_, name):
+            found = real(name)
+            if name == "book":
+                place, half = "read/half/Code", found["read/half/Code"]
+                found = {**found, place: half.replace("\npub calls-book::read::wide :", "\npub calls-book::read::Node::at :")}
+                self.assertNotEqual(found[place], half)
+            return found
 
-        with mock.patch.object(calls, "mir", text), mock.patch.object(calls, "check_proved"):
+        with mock.patch.object(calls, "generated", made), mock.patch.object(calls, "check_proved"):
             status, out, _ = told()
         self.assertEqual(status, 1)
         self.assertRegex(out, r"\nenvironment::\w+ -> book::read::Node::at -> book::read::half -> book::read::Node::at\n$")
@@ -566,7 +552,7 @@ class MachineCode(unittest.TestCase):
         with mock.patch.object(stacks, "objdump", lambda option, path: lines[option]):
             found = stacks.machine_functions("a.o")
             stacks.check_tables("a.o", found)
-            return stacks.levels(found, stacks.machine_calls("a.o", found, {"write"}))
+            return stacks.levels(found, stacks.machine_calls("a.a", found))
 
     def is_wrong(self, sentence, *functions, tables=()):
         with self.assertRaisesRegex(calls.Wrong, sentence):
@@ -579,7 +565,7 @@ class MachineCode(unittest.TestCase):
 
     def test_no_circle(self):
         self.assertEqual(self.levels(code("f", "push   %rbx", "call   9 <f+0x9> @g", "call   9 <f+0x9> @memset", "pop    %rbx", "ret"),
-                                     code("g", "call   0 <g+0x5> @write", "jmp    0 <g>")), {})
+                                     code("g", "call   0 <g+0x5> @memcpy", "jmp    0 <g>")), {})
 
     def test_frame_of_128(self):
         self.assertEqual(self.levels(code("f", "sub    $0xffffffffffffff80,%rsp", "call   0 <f>", "sub    $0x80,%rsp", "call   0 <f>",
@@ -639,7 +625,7 @@ class MachineCode(unittest.TestCase):
         """Of objects with these functions."""
         lines = {f"{number}.o": text for number, text in enumerate(texts)}
         with mock.patch.object(stacks, "objdump", lambda option, path: lines[path] if option == "-dr" else []):
-            return stacks.stacks("", list(lines), set(), found)
+            return stacks.stacks("", list(lines), {"a"}, found)
 
     def test_most(self):
         """Of two objects the one with the longer stack, whichever comes first."""
@@ -648,10 +634,14 @@ class MachineCode(unittest.TestCase):
             self.assertEqual(self.stacks([["a::f"]], *objects), ([16], 2))
 
     def test_other_circle(self):
-        """A circle of the machine code that the MIR has not; and one by another name, as the compiler makes them."""
+        """A circle of the machine code that the graph has not; one by another name, as the compiler makes them; and one of the kit's alone."""
+        for name in ("a::f.llvm.12", "a::f::<#0a1b>", "a::f::<#0a1b>.llvm.12"):
+            lines = code(name, f"call   0 <{name}>", "ret")
+            self.assertEqual(self.stacks([["a::e"], ["a::f", "a::g"]], lines), ([0, 8], 1))
+        lines = code("core::f", "call   0 <core::f>", "ret")
+        self.assertEqual(self.stacks([["a::e"]], lines), ([0], 1))
         lines = code("a::f.llvm.12", "call   0 <a::f.llvm.12>", "ret")
-        self.assertEqual(self.stacks([["a::e"], ["a::f", "a::g"]], lines), ([0, 8], 1))
-        with self.assertRaisesRegex(calls.Wrong, "0.o: the machine code has a circle that the MIR has not: a::f.llvm.12"):
+        with self.assertRaisesRegex(calls.Wrong, "0.o: the machine code has a circle that the graph has not: a::f.llvm.12"):
             self.stacks([["a::e"]], lines)
 
 
@@ -677,8 +667,8 @@ class Crates(unittest.TestCase):
 
     def test_loops(self):
         """What has to be a loop is read, and reaches what it is known to reach."""
-        with mock.patch.object(calls, "mir", lambda root, name: real(name)):
-            graph, path = calls.read(calls.ROOT, calls.mir)
+        with mock.patch.object(calls, "generated", lambda root, name: real(name)):
+            graph, path = calls.read(calls.ROOT, calls.generated)
         self.assertIsNone(path)
         found = graph.calls()
         loops = calls.have_to_be_loops(found)
@@ -687,11 +677,11 @@ class Crates(unittest.TestCase):
         self.assertNotIn("environment::merge::same_trees", loops)
         known = {"book::read::Node::at", "book::read::half", "book::tables::zeros", "syntax::actor::service_at"}
         self.assertLessEqual(known, calls.reached(found, loops))
-        self.assertLessEqual({"exports::ludzepin_check", "list::main", "answer_batch::main", "libc::write"}, set(found))
+        self.assertLessEqual({"exports::ludzepin_check", "list::main", "answer_batch::main", "std_io::io::LibcRuntimePrint::write_all"}, set(found))
 
     def test_other_document(self):
         """A measure, a row or a number that is not the tool's."""
-        with tempfile.TemporaryDirectory() as folder, mock.patch.object(calls, "mir", lambda root, name: real(name)), \
+        with tempfile.TemporaryDirectory() as folder, mock.patch.object(calls, "generated", lambda root, name: real(name)), \
                 mock.patch.object(calls, "DOCUMENT", os.path.join(folder, "document")):
             for old, new, options, status in (
                 ("", "", ["--stack"], 0), ("| 112 |", "| 113 |", ["--stack"], 1), ("| 112 |", "| 113 |", [], 0),
