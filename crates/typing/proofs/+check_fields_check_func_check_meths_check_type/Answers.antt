@@ -8,7 +8,11 @@ use Rattle.format.specs.Encode.{Row}
 use Rattle.environment.proofs.Trees.{ends-inside, one-at-least, this-tree, row-within, ended, method-label}
 use Rattle.typing.proofs.Walk.{walk-start, walk-end, walk-stop, walk-on, untested, func-start, func-end, func-stop, func-on, walk-method, method-refused, methods-start, methods-on}
 use Rattle.refusals.specs.declared.Verdict.TheVariants.{Refused}
-use Rattle.book.specs.Reading.{as_row}
+use Rattle.format.specs.Layout.{row_at}
+use Rattle.environment.specs.Trees.{Trees}
+use mathlib.Core.List.{List}
+use mathlib.Core.Path.{◌≡◌}
+use Prim.Native.Nat.{◌+◌, ◌<◌}
 use Rattle.typing.proofs.Nodes.{RowRead, row-kind, row-name, row-few, row-kids, row-methods, row-weight, at-prim, at-var, at-func, at-service, at-class, at-fields}
 use Rattle.typing.proofs.+check_fields_check_func_check_meths_check_type.Goals as goal
 use Rattle.refusals.specs.declared.Refusal as refusal
@@ -42,8 +46,6 @@ check_fields-loop-i-preserved t c = rw (ap (λ (q : Row). q.size) c.at-t.ensures
 
 pub check_fields-returns : goal.check_fields-returns
 check_fields-returns t c = walk-end c.loop-i.invariant c.loop-i-test.false
-
--- more, a type two for each node: so every call weighs less. Assumes nothing.
 
 pub check_func-loop-i-init : goal.check_func-loop-i-init
 check_func-loop-i-init t c = func-start c.args.pre c.requires.0
@@ -80,8 +82,6 @@ check_func-check_modes-requires t c = tt
 
 pub check_func-returns : goal.check_func-returns
 check_func-returns t c = func-end c.loop-i.invariant c.loop-i-test.false c.args.value _ c.check_modes.ensures
-
--- more, a type two for each node: so every call weighs less. Assumes nothing.
 
 pub check_meths-loop-i-init : goal.check_meths-loop-i-init
 check_meths-loop-i-init t c = methods-start c.args.pre c.requires.0
@@ -127,82 +127,78 @@ check_meths-loop-i-preserved t c = rw (ap (λ (q : Row). q.size) c.at-t.ensures)
 pub check_meths-returns : goal.check_meths-returns
 check_meths-returns t c = walk-end c.loop-i.invariant.walk c.loop-i-test.false
 
--- more, a type two for each node: so every call weighs less. Assumes nothing.
+-- The row of a type is read.
+read : {ns roots ends' : List ℕ} {n : ℕ} {r : Row} → Trees ns roots ends' n (n + (row_at ns n).size) → n < n + (row_at ns n).size → r ≡ row_at ns n →
+    RowRead ns roots ends' n r
+read tree some is = record { tree = tree; some = some; is = is }
 
 pub check_type-at-t-requires : goal.check_type-at-t-requires
 check_type-at-t-requires t c = row-within c.requires.0 c.requires.1
 
 pub check_type-returns-then-t-lt-VAR : goal.check_type-returns-then-t-lt-VAR
 check_type-returns-then-t-lt-VAR t c =
-    let row : (let a = c.args in RowRead a.rows.now a.roots.now a.ends.now a.n (as_row c.at-t.result)) = record { tree = c.requires.0; some = c.requires.1; is = c.at-t.ensures } in
+    let row = read c.requires.0 c.requires.1 c.at-t.ensures in
     λ ds e. at-prim _ ds _ _ _ row.is c.if-t-lt-VAR.true
 
 pub check_type-check_var-requires : goal.check_type-check_var-requires
 check_type-check_var-requires t c =
-    let row : (let a = c.args in RowRead a.rows.now a.roots.now a.ends.now a.n (as_row c.at-t.result)) = record { tree = c.requires.0; some = c.requires.1; is = c.at-t.ensures } in
+    let row = read c.requires.0 c.requires.1 c.at-t.ensures in
     row-name row c.if-t-eq-VAR.true
 
 pub check_type-returns-then-t-eq-VAR : goal.check_type-returns-then-t-eq-VAR
 check_type-returns-then-t-eq-VAR t c =
-    let row : (let a = c.args in RowRead a.rows.now a.roots.now a.ends.now a.n (as_row c.at-t.result)) = record { tree = c.requires.0; some = c.requires.1; is = c.at-t.ensures } in
+    let row = read c.requires.0 c.requires.1 c.at-t.ensures in
     λ ds e. c.check_var.ensures ∙ at-var _ ds _ _ _ row.is c.args.roots.now e.binds c.if-t-eq-VAR.true
 
 pub check_type-overflow_add-from : goal.check_type-overflow_add-from
 check_type-overflow_add-from t c =
-    let row : (let a = c.args in RowRead a.rows.now a.roots.now a.ends.now a.n (as_row c.at-t.result)) = record { tree = c.requires.0; some = c.requires.1; is = c.at-t.ensures } in
+    let row = read c.requires.0 c.requires.1 c.at-t.ensures in
     omega (arith, (row-few row).0)
 
 pub check_type-overflow_add-until : goal.check_type-overflow_add-until
 check_type-overflow_add-until t c =
-    let row : (let a = c.args in RowRead a.rows.now a.roots.now a.ends.now a.n (as_row c.at-t.result)) = record { tree = c.requires.0; some = c.requires.1; is = c.at-t.ensures } in
+    let row = read c.requires.0 c.requires.1 c.at-t.ensures in
     omega (arith, (row-few row).1)
 
 pub check_type-check_func-requires : goal.check_type-check_func-requires
 check_type-check_func-requires t c =
-    let row : (let a = c.args in RowRead a.rows.now a.roots.now a.ends.now a.n (as_row c.at-t.result)) = record { tree = c.requires.0; some = c.requires.1; is = c.at-t.ensures } in
-    let inner = row in
-    let weight = row-weight inner _ refl in
+    let row = read c.requires.0 c.requires.1 c.at-t.ensures in
+    let weight = row-weight row _ refl in
     let env = c.requires.2 in
-    (omega (arith, weight), (row-kids inner, env))
+    (omega (arith, weight), (row-kids row, env))
 
 pub check_type-returns-then-t-eq-FUNC : goal.check_type-returns-then-t-eq-FUNC
 check_type-returns-then-t-eq-FUNC t c =
-    let row : (let a = c.args in RowRead a.rows.now a.roots.now a.ends.now a.n (as_row c.at-t.result)) = record { tree = c.requires.0; some = c.requires.1; is = c.at-t.ensures } in
-    let inner = row in
-    λ ds e. c.check_func.ensures ds e ∙ at-func _ ds _ _ _ inner.is c.if-t-eq-FUNC.true
+    let row = read c.requires.0 c.requires.1 c.at-t.ensures in
+    λ ds e. c.check_func.ensures ds e ∙ at-func _ ds _ _ _ row.is c.if-t-eq-FUNC.true
 
 pub check_type-check_meths-requires : goal.check_type-check_meths-requires
 check_type-check_meths-requires t c =
-    let row : (let a = c.args in RowRead a.rows.now a.roots.now a.ends.now a.n (as_row c.at-t.result)) = record { tree = c.requires.0; some = c.requires.1; is = c.at-t.ensures } in
-    let inner = row in
-    let weight = row-weight inner _ refl in
+    let row = read c.requires.0 c.requires.1 c.at-t.ensures in
+    let weight = row-weight row _ refl in
     let env = c.requires.2 in
-    (omega (arith, weight), (row-methods inner c.if-t-eq-SERVICE.true, env))
+    (omega (arith, weight), (row-methods row c.if-t-eq-SERVICE.true, env))
 
 pub check_type-returns-then-t-eq-SERVICE : goal.check_type-returns-then-t-eq-SERVICE
 check_type-returns-then-t-eq-SERVICE t c =
-    let row : (let a = c.args in RowRead a.rows.now a.roots.now a.ends.now a.n (as_row c.at-t.result)) = record { tree = c.requires.0; some = c.requires.1; is = c.at-t.ensures } in
-    let inner = row in
-    λ ds e. c.check_meths.ensures ds e ∙ at-service _ ds _ _ _ inner.is c.if-t-eq-SERVICE.true
+    let row = read c.requires.0 c.requires.1 c.at-t.ensures in
+    λ ds e. c.check_meths.ensures ds e ∙ at-service _ ds _ _ _ row.is c.if-t-eq-SERVICE.true
 
 pub check_type-returns-then-t-eq-CLASS : goal.check_type-returns-then-t-eq-CLASS
 check_type-returns-then-t-eq-CLASS t c =
-    let row : (let a = c.args in RowRead a.rows.now a.roots.now a.ends.now a.n (as_row c.at-t.result)) = record { tree = c.requires.0; some = c.requires.1; is = c.at-t.ensures } in
-    let inner = row in
-    λ ds e. at-class _ ds _ _ _ inner.is c.if-t-eq-CLASS.true
+    let row = read c.requires.0 c.requires.1 c.at-t.ensures in
+    λ ds e. at-class _ ds _ _ _ row.is c.if-t-eq-CLASS.true
 
 pub check_type-check_fields-requires : goal.check_type-check_fields-requires
 check_type-check_fields-requires t c =
-    let row : (let a = c.args in RowRead a.rows.now a.roots.now a.ends.now a.n (as_row c.at-t.result)) = record { tree = c.requires.0; some = c.requires.1; is = c.at-t.ensures } in
-    let inner = row in
-    let weight = row-weight inner _ refl in
+    let row = read c.requires.0 c.requires.1 c.at-t.ensures in
+    let weight = row-weight row _ refl in
     let env = c.requires.2 in
-    (omega (arith, weight), (row-kids inner, env))
+    (omega (arith, weight), (row-kids row, env))
 
 pub check_type-returns : goal.check_type-returns
 check_type-returns t c =
-    let row : (let a = c.args in RowRead a.rows.now a.roots.now a.ends.now a.n (as_row c.at-t.result)) = record { tree = c.requires.0; some = c.requires.1; is = c.at-t.ensures } in
-    let inner = row in
+    let row = read c.requires.0 c.requires.1 c.at-t.ensures in
     λ ds e.
     c.check_fields.ensures ds e
-    ∙ at-fields _ ds _ _ _ inner.is (row-kind inner) c.if-t-lt-VAR.false c.if-t-eq-VAR.false c.if-t-eq-FUNC.false c.if-t-eq-SERVICE.false c.if-t-eq-CLASS.false
+    ∙ at-fields _ ds _ _ _ row.is (row-kind row) c.if-t-lt-VAR.false c.if-t-eq-VAR.false c.if-t-eq-FUNC.false c.if-t-eq-SERVICE.false c.if-t-eq-CLASS.false

@@ -27,38 +27,38 @@ at-t-requires c = row-within c.loop-end.invariant _ c.if-i-end.true
 
 pub overflow_cast-name : goal.overflow_cast-name
 overflow_cast-name c =
-    let here : (let a = c.args in let k = c.loop-end in Named a.rows.now a.roots.now a.from a.until (walking a.w.seen a.w.list a.w.len) k.stack k.ends k.depth c.next_new-i.result k.end (walking k.seen k.list k.len) c.at-t.result.value) = named c.loop-end.invariant c.next_new-i.ensures c.if-i-end.true _
+    let here = named c.loop-end.invariant c.next_new-i.ensures c.if-i-end.true _
     c.at-t.ensures in
     omega (arith, name-small here)
 
 pub offset_bounds-roots-name : goal.offset_bounds-roots-name
 offset_bounds-roots-name c =
-    let here : (let a = c.args in let k = c.loop-end in Named a.rows.now a.roots.now a.from a.until (walking a.w.seen a.w.list a.w.len) k.stack k.ends k.depth c.next_new-i.result k.end (walking k.seen k.list k.len) c.at-t.result.value) = named c.loop-end.invariant c.next_new-i.ensures c.if-i-end.true _
+    let here = named c.loop-end.invariant c.next_new-i.ensures c.if-i-end.true _
     c.at-t.ensures in
     omega (arith, name-small here)
 
 pub bounds-roots-name : goal.bounds-roots-name
 bounds-roots-name c =
-    let here : (let a = c.args in let k = c.loop-end in Named a.rows.now a.roots.now a.from a.until (walking a.w.seen a.w.list a.w.len) k.stack k.ends k.depth c.next_new-i.result k.end (walking k.seen k.list k.len) c.at-t.result.value) = named c.loop-end.invariant c.next_new-i.ensures c.if-i-end.true _
+    let here = named c.loop-end.invariant c.next_new-i.ensures c.if-i-end.true _
     c.at-t.ensures in
     name-tabled here
 
 pub overflow_cast-result : goal.overflow_cast-result
 overflow_cast-result c =
-    let here : (let a = c.args in let k = c.loop-end in Named a.rows.now a.roots.now a.from a.until (walking a.w.seen a.w.list a.w.len) k.stack k.ends k.depth c.next_new-i.result k.end (walking k.seen k.list k.len) c.at-t.result.value) = named c.loop-end.invariant c.next_new-i.ensures c.if-i-end.true _
+    let here = named c.loop-end.invariant c.next_new-i.ensures c.if-i-end.true _
     c.at-t.ensures in
     omega (arith, name-small here)
 
 pub returns-then-root : goal.returns-then-root
 returns-then-root c =
-    let here : (let a = c.args in let k = c.loop-end in Named a.rows.now a.roots.now a.from a.until (walking a.w.seen a.w.list a.w.len) k.stack k.ends k.depth c.next_new-i.result k.end (walking k.seen k.list k.len) c.at-t.result.value) = named c.loop-end.invariant c.next_new-i.ensures c.if-i-end.true _
+    let here = named c.loop-end.invariant c.next_new-i.ensures c.if-i-end.true _
     c.at-t.ensures in
     let g = c.if-w.false in
     rows-unbound _ g here c.if-root.true _ refl refl
 
 pub bounds-seen-name : goal.bounds-seen-name
 bounds-seen-name c =
-    let here : (let a = c.args in let k = c.loop-end in Named a.rows.now a.roots.now a.from a.until (walking a.w.seen a.w.list a.w.len) k.stack k.ends k.depth c.next_new-i.result k.end (walking k.seen k.list k.len) c.at-t.result.value) = named c.loop-end.invariant c.next_new-i.ensures c.if-i-end.true _
+    let here = named c.loop-end.invariant c.next_new-i.ensures c.if-i-end.true _
     c.at-t.ensures in
     name-small here
 
@@ -68,13 +68,13 @@ overflow_cast-stack c =
 
 pub offset_bounds-stack-depth : goal.offset_bounds-stack-depth
 offset_bounds-stack-depth c =
-    let here : (let a = c.args in let k = c.loop-end in Named a.rows.now a.roots.now a.from a.until (walking a.w.seen a.w.list a.w.len) k.stack k.ends k.depth c.next_new-i.result k.end (walking k.seen k.list k.len) c.at-t.result.value) = named c.loop-end.invariant c.next_new-i.ensures c.if-i-end.true _
+    let here = named c.loop-end.invariant c.next_new-i.ensures c.if-i-end.true _
     c.at-t.ensures in
     omega (arith, enter-room here c.if-root.false)
 
 pub bounds-stack-depth : goal.bounds-stack-depth
 bounds-stack-depth c =
-    let here : (let a = c.args in let k = c.loop-end in Named a.rows.now a.roots.now a.from a.until (walking a.w.seen a.w.list a.w.len) k.stack k.ends k.depth c.next_new-i.result k.end (walking k.seen k.list k.len) c.at-t.result.value) = named c.loop-end.invariant c.next_new-i.ensures c.if-i-end.true _
+    let here = named c.loop-end.invariant c.next_new-i.ensures c.if-i-end.true _
     c.at-t.ensures in
     omega (arith, enter-room here c.if-root.false)
 
@@ -83,49 +83,49 @@ overflow_cast-ends c = omega (arith, rows-few c.loop-end.invariant)
 
 pub offset_bounds-ends-depth : goal.offset_bounds-ends-depth
 offset_bounds-ends-depth c =
-    let here : (let a = c.args in let k = c.loop-end in Named a.rows.now a.roots.now a.from a.until (walking a.w.seen a.w.list a.w.len) k.stack k.ends k.depth c.next_new-i.result k.end (walking k.seen k.list k.len) c.at-t.result.value) = named c.loop-end.invariant c.next_new-i.ensures c.if-i-end.true _
+    let here = named c.loop-end.invariant c.next_new-i.ensures c.if-i-end.true _
     c.at-t.ensures in
     omega (arith, enter-room here c.if-root.false)
 
 pub bounds-ends-depth : goal.bounds-ends-depth
 bounds-ends-depth c =
-    let here : (let a = c.args in let k = c.loop-end in Named a.rows.now a.roots.now a.from a.until (walking a.w.seen a.w.list a.w.len) k.stack k.ends k.depth c.next_new-i.result k.end (walking k.seen k.list k.len) c.at-t.result.value) = named c.loop-end.invariant c.next_new-i.ensures c.if-i-end.true _
+    let here = named c.loop-end.invariant c.next_new-i.ensures c.if-i-end.true _
     c.at-t.ensures in
     omega (arith, enter-room here c.if-root.false)
 
 pub overflow_add-depth : goal.overflow_add-depth
 overflow_add-depth c =
-    let here : (let a = c.args in let k = c.loop-end in Named a.rows.now a.roots.now a.from a.until (walking a.w.seen a.w.list a.w.len) k.stack k.ends k.depth c.next_new-i.result k.end (walking k.seen k.list k.len) c.at-t.result.value) = named c.loop-end.invariant c.next_new-i.ensures c.if-i-end.true _
+    let here = named c.loop-end.invariant c.next_new-i.ensures c.if-i-end.true _
     c.at-t.ensures in
     omega (arith, enter-room here c.if-root.false)
 
 pub overflow_cast-at : goal.overflow_cast-at
 overflow_cast-at c =
-    let here : (let a = c.args in let k = c.loop-end in Named a.rows.now a.roots.now a.from a.until (walking a.w.seen a.w.list a.w.len) k.stack k.ends k.depth c.next_new-i.result k.end (walking k.seen k.list k.len) c.at-t.result.value) = named c.loop-end.invariant c.next_new-i.ensures c.if-i-end.true _
+    let here = named c.loop-end.invariant c.next_new-i.ensures c.if-i-end.true _
     c.at-t.ensures in
     omega (arith, root-few here c.if-root.false)
 
 pub at-u-requires : goal.at-u-requires
 at-u-requires c =
-    let here : (let a = c.args in let k = c.loop-end in Named a.rows.now a.roots.now a.from a.until (walking a.w.seen a.w.list a.w.len) k.stack k.ends k.depth c.next_new-i.result k.end (walking k.seen k.list k.len) c.at-t.result.value) = named c.loop-end.invariant c.next_new-i.ensures c.if-i-end.true _
+    let here = named c.loop-end.invariant c.next_new-i.ensures c.if-i-end.true _
     c.at-t.ensures in
     body-within here c.if-root.false
 
 pub overflow_add-end : goal.overflow_add-end
 overflow_add-end c =
-    let here : (let a = c.args in let k = c.loop-end in Named a.rows.now a.roots.now a.from a.until (walking a.w.seen a.w.list a.w.len) k.stack k.ends k.depth c.next_new-i.result k.end (walking k.seen k.list k.len) c.at-t.result.value) = named c.loop-end.invariant c.next_new-i.ensures c.if-i-end.true _
+    let here = named c.loop-end.invariant c.next_new-i.ensures c.if-i-end.true _
     c.at-t.ensures in
     omega (arith, body-small here c.if-root.false _ c.at-u.ensures)
 
 pub loop-end-smaller-then-i-end : goal.loop-end-smaller-then-i-end
 loop-end-smaller-then-i-end c =
-    let here : (let a = c.args in let k = c.loop-end in Named a.rows.now a.roots.now a.from a.until (walking a.w.seen a.w.list a.w.len) k.stack k.ends k.depth c.next_new-i.result k.end (walking k.seen k.list k.len) c.at-t.result.value) = named c.loop-end.invariant c.next_new-i.ensures c.if-i-end.true _
+    let here = named c.loop-end.invariant c.next_new-i.ensures c.if-i-end.true _
     c.at-t.ensures in
     omega (arith, enter-room here c.if-root.false)
 
 pub loop-end-preserved-then-i-end : goal.loop-end-preserved-then-i-end
 loop-end-preserved-then-i-end c =
-    let here : (let a = c.args in let k = c.loop-end in Named a.rows.now a.roots.now a.from a.until (walking a.w.seen a.w.list a.w.len) k.stack k.ends k.depth c.next_new-i.result k.end (walking k.seen k.list k.len) c.at-t.result.value) = named c.loop-end.invariant c.next_new-i.ensures c.if-i-end.true _
+    let here = named c.loop-end.invariant c.next_new-i.ensures c.if-i-end.true _
     c.at-t.ensures in
     rows-enter here c.if-root.false _ c.at-u.ensures
 

@@ -51,12 +51,12 @@ overflow_cast-k c = omega (arith, c.root_of-root.type_inv)
 
 pub at-t-requires : goal.at-t-requires
 at-t-requires c =
-    let node : NodeIn c.args.rows.now c.root_of-root.result = root-node c.loop-i.invariant c.loop-i-test.true _ refl _ c.root_of-root.ensures c.requires.0 c.if-root.false in
+    let node = root-node c.loop-i.invariant c.loop-i-test.true _ refl _ c.root_of-root.ensures c.requires.0 c.if-root.false in
     root-in node
 
 pub overflow_add-until : goal.overflow_add-until
 overflow_add-until c =
-    let node : NodeIn c.args.rows.now c.root_of-root.result = root-node c.loop-i.invariant c.loop-i-test.true _ refl _ c.root_of-root.ensures c.requires.0 c.if-root.false in
+    let node = root-node c.loop-i.invariant c.loop-i-test.true _ refl _ c.root_of-root.ensures c.requires.0 c.if-root.false in
     omega (arith, ap (λ (x : Row). x.size) c.at-t.ensures, ends-in node, node.all.nodes.few_nodes)
 
 pub loop-k-init : goal.loop-k-init
@@ -64,12 +64,12 @@ loop-k-init c = go-start _ c.at-t.ensures refl
 
 pub at-row-requires : goal.at-row-requires
 at-row-requires c =
-    let node : NodeIn c.args.rows.now c.root_of-root.result = root-node c.loop-i.invariant c.loop-i-test.true _ refl _ c.root_of-root.ensures c.requires.0 c.if-root.false in
+    let node = root-node c.loop-i.invariant c.loop-i-test.true _ refl _ c.root_of-root.ensures c.requires.0 c.if-root.false in
     row-in node c.loop-k.k _ c.loop-k.invariant.ends c.loop-k-test.true
 
 pub overflow_add-k : goal.overflow_add-k
 overflow_add-k c =
-    let node : NodeIn c.args.rows.now c.root_of-root.result = root-node c.loop-i.invariant c.loop-i-test.true _ refl _ c.root_of-root.ensures c.requires.0 c.if-root.false in
+    let node = root-node c.loop-i.invariant c.loop-i-test.true _ refl _ c.root_of-root.ensures c.requires.0 c.if-root.false in
     omega (arith, c.loop-k-test.true, c.loop-k.invariant.ends, ends-in node, node.all.nodes.few_nodes)
 
 pub loop-k-smaller-then-row-ne-VAR : goal.loop-k-smaller-then-row-ne-VAR
@@ -80,13 +80,13 @@ loop-k-preserved-then-row-ne-VAR c = go-other c.loop-k.invariant c.loop-k-test.t
 
 pub overflow_cast-met : goal.overflow_cast-met
 overflow_cast-met c =
-    let node : NodeIn c.args.rows.now c.root_of-root.result = root-node c.loop-i.invariant c.loop-i-test.true _ refl _ c.root_of-root.ensures c.requires.0 c.if-root.false in
+    let node = root-node c.loop-i.invariant c.loop-i-test.true _ refl _ c.root_of-root.ensures c.requires.0 c.if-root.false in
     let named : c.at-row.result.value < 1024 = small node c.loop-k.k _ c.loop-k.invariant.ends c.loop-k-test.true _ c.at-row.ensures c.if-row-ne-VAR.false in
     omega (arith, named)
 
 pub bounds-seen-met : goal.bounds-seen-met
 bounds-seen-met c =
-    let node : NodeIn c.args.rows.now c.root_of-root.result = root-node c.loop-i.invariant c.loop-i-test.true _ refl _ c.root_of-root.ensures c.requires.0 c.if-root.false in
+    let node = root-node c.loop-i.invariant c.loop-i-test.true _ refl _ c.root_of-root.ensures c.requires.0 c.if-root.false in
     let named : c.at-row.result.value < 1024 = small node c.loop-k.k _ c.loop-k.invariant.ends c.loop-k-test.true _ c.at-row.ensures c.if-row-ne-VAR.false in
     named
 
@@ -95,19 +95,19 @@ loop-k-smaller-then-seen-met-eq1 c = omega (arith, c.loop-k-test.true)
 
 pub loop-k-preserved-then-seen-met-eq1 : goal.loop-k-preserved-then-seen-met-eq1
 loop-k-preserved-then-seen-met-eq1 c =
-    let node : NodeIn c.args.rows.now c.root_of-root.result = root-node c.loop-i.invariant c.loop-i-test.true _ refl _ c.root_of-root.ensures c.requires.0 c.if-root.false in
+    let node = root-node c.loop-i.invariant c.loop-i-test.true _ refl _ c.root_of-root.ensures c.requires.0 c.if-root.false in
     let named : c.at-row.result.value < 1024 = small node c.loop-k.k _ c.loop-k.invariant.ends c.loop-k-test.true _ c.at-row.ensures c.if-row-ne-VAR.false in
     go-again c.loop-k.invariant c.loop-k-test.true _ c.at-row.ensures c.if-row-ne-VAR.false named c.if-seen-met-eq1.true
 
 pub bounds-seen-met-in-loop-k : goal.bounds-seen-met-in-loop-k
 bounds-seen-met-in-loop-k c =
-    let node : NodeIn c.args.rows.now c.root_of-root.result = root-node c.loop-i.invariant c.loop-i-test.true _ refl _ c.root_of-root.ensures c.requires.0 c.if-root.false in
+    let node = root-node c.loop-i.invariant c.loop-i-test.true _ refl _ c.root_of-root.ensures c.requires.0 c.if-root.false in
     let named : c.at-row.result.value < 1024 = small node c.loop-k.k _ c.loop-k.invariant.ends c.loop-k-test.true _ c.at-row.ensures c.if-row-ne-VAR.false in
     named
 
 pub bounds-marked-met : goal.bounds-marked-met
 bounds-marked-met c =
-    let node : NodeIn c.args.rows.now c.root_of-root.result = root-node c.loop-i.invariant c.loop-i-test.true _ refl _ c.root_of-root.ensures c.requires.0 c.if-root.false in
+    let node = root-node c.loop-i.invariant c.loop-i-test.true _ refl _ c.root_of-root.ensures c.requires.0 c.if-root.false in
     let named : c.at-row.result.value < 1024 = small node c.loop-k.k _ c.loop-k.invariant.ends c.loop-k-test.true _ c.at-row.ensures c.if-row-ne-VAR.false in
     named
 
@@ -116,7 +116,7 @@ loop-k-smaller c = omega (arith, c.loop-k-test.true)
 
 pub loop-k-preserved : goal.loop-k-preserved
 loop-k-preserved c =
-    let node : NodeIn c.args.rows.now c.root_of-root.result = root-node c.loop-i.invariant c.loop-i-test.true _ refl _ c.root_of-root.ensures c.requires.0 c.if-root.false in
+    let node = root-node c.loop-i.invariant c.loop-i-test.true _ refl _ c.root_of-root.ensures c.requires.0 c.if-root.false in
     let named : c.at-row.result.value < 1024 = small node c.loop-k.k _ c.loop-k.invariant.ends c.loop-k-test.true _ c.at-row.ensures c.if-row-ne-VAR.false in
     go-anew c.loop-k.invariant c.loop-k-test.true _ c.at-row.ensures c.if-row-ne-VAR.false named c.if-seen-met-eq1.false
 
@@ -135,7 +135,7 @@ loop-i-smaller c = omega (arith, c.loop-i-test.true)
 
 pub loop-i-preserved : goal.loop-i-preserved
 loop-i-preserved c =
-    let node : NodeIn c.args.rows.now c.root_of-root.result = root-node c.loop-i.invariant c.loop-i-test.true _ refl _ c.root_of-root.ensures c.requires.0 c.if-root.false in
+    let node = root-node c.loop-i.invariant c.loop-i-test.true _ refl _ c.root_of-root.ensures c.requires.0 c.if-root.false in
     infer-on c.loop-i.invariant c.loop-i-test.true _ refl _ c.root_of-root.ensures c.requires.0 c.if-root.false _ (go-end c.loop-k.invariant node c.loop-k-test.false)
 
 pub returns : goal.returns
