@@ -1,5 +1,4 @@
 -- `is_marked` meets its contract: the name is among the marked ones exactly if it is among those that are left. Assumes nothing.
-use Prim.Native.Nat.{◌-◌}
 use native.Mathlib.Omega.{arith}
 use Rattle.list.proofs.Listed.{left-start, left-on, left-here, left-none}
 use Rattle.list.proofs.is_marked.Goals as goal

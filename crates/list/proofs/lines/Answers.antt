@@ -1,5 +1,4 @@
 -- `lines` meets its contract: the lines of the names so far are laid. Assumes nothing.
-use Prim.Native.Nat.{◌-◌}
 use native.Mathlib.Omega.{arith}
 use Rattle.print.proofs.Laid.{same}
 use Rattle.list.proofs.Listed.{lines-start, lines-on, lines-end}

@@ -2,8 +2,8 @@
 use mathlib.Core.Path.{refl, sym}
 use native.Mathlib.Omega.{arith}
 use native.Mathlib.Nat.{pos_of_ne-zero}
-use Rattle.analysis.proofs.chase.Rows.{walking, chase-stopped, rows-start, rows-scanned, row-within, rows-few, rows-next, rows-end}
-use Rattle.analysis.proofs.chase.Rows.{Named, named, name-small, name-tabled, rows-unbound}
+use Rattle.analysis.proofs.chase.Rows.{chase-stopped, rows-start, rows-scanned, row-within, rows-few, rows-next, rows-end}
+use Rattle.analysis.proofs.chase.Rows.{named, name-small, name-tabled, rows-unbound}
 use Rattle.analysis.proofs.chase.Rows.{root-few, body-within, body-small, enter-room, rows-enter}
 use Rattle.analysis.proofs.chase.Rows.{last-on, last-few, last-end, last-within, list-room, last-small, rows-back}
 use Rattle.analysis.proofs.chase.chase.Goals as goal

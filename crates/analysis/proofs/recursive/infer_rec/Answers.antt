@@ -5,7 +5,7 @@ use mathlib.Core.Path.{refl, ap}
 use native.Mathlib.Omega.{arith}
 use lib.ListN.{get_or}
 use Rattle.format.specs.Encode.{Row}
-use Rattle.analysis.proofs.recursive.Rows.{NodeIn, ends-in, row-in, root-in, small, go-start, go-end, go-other, go-again, go-anew}
+use Rattle.analysis.proofs.recursive.Rows.{ends-in, row-in, root-in, small, go-start, go-end, go-other, go-again, go-anew}
 use Rattle.analysis.proofs.recursive.Laws.{from-held, infer-start, infer-end, infer-stop, name-in, root-node, infer-again, infer-on}
 use Rattle.analysis.proofs.recursive.infer_rec.Goals as goal
 

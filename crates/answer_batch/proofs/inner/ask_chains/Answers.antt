@@ -1,7 +1,6 @@
 -- `ask_chains` is safe: chains are asked of an admitted book. Assumes nothing.
 use mathlib.Core.Path.{sym, ◌∙◌}
 use Rattle.admission.proofs.Admitting.{admission-gives}
-use borrow.Author.Rules.{rules}
 use Rattle.answer_batch.proofs.inner.ask_chains.Goals as goal
 
 pub say_chains-requires : goal.say_chains-requires

@@ -1,5 +1,4 @@
 -- `ask_lookups` is safe: lookups are asked of a book that passed. Assumes nothing.
-use borrow.Author.Rules.{rules}
 use Rattle.answer_batch.proofs.inner.ask_lookups.Goals as goal
 
 pub say_lookups-requires : goal.say_lookups-requires

@@ -1,6 +1,5 @@
 -- `print_actor` is safe: what stands below the top of main's actor is a node. Assumes nothing.
 use Rattle.answer_batch.proofs.inner.Laws.{actor-trees, actor-ended}
-use borrow.Author.Rules.{rules}
 use Rattle.answer_batch.proofs.inner.print_actor.Goals as goal
 
 pub top_of-top-requires : goal.top_of-top-requires

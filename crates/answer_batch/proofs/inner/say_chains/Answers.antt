@@ -2,7 +2,6 @@
 use native.Mathlib.Omega.{arith}
 use Rattle.syntax.proofs.Book.{all-trees, entries-of}
 use Rattle.answer_batch.proofs.inner.Laws.{roots-of}
-use borrow.Author.Rules.{rules}
 use Rattle.answer_batch.proofs.inner.say_chains.Goals as goal
 
 pub enter-twice-requires : goal.enter-twice-requires
