@@ -29,11 +29,12 @@ ROOT = os.path.join(os.path.dirname(os.path.abspath(__file__)), "..")
 DOCUMENT = os.path.join("docs", "FIGURES.md")
 MARK, END = "<!-- calls -->\n", "<!-- end -->"
 
-# The one function that follows a name to the next.
-STEP = "environment::step"
+# What follows a name to the next: the one function that does, and a scope's, which hands on to it.
+STEPS = ("environment::step", "environment::scope::Scope::step")
 # What these reach must reach itself nowhere: that step, the alias end, the tables of ends, the lookups, and who looks a service up.
-LOOPS = (STEP, "environment::alias_end", "environment::no_ends", "environment::clear_ends", "environment::find_ends", "environment::end_of",
-         "environment::names_crossed", "environment::as_func", "environment::as_service", "syntax::actor::chase_service")
+LOOPS = (*STEPS, "environment::scope::Scope::alias_end", "environment::no_ends", "environment::clear_ends", "environment::find_ends",
+         "environment::scope::Scope::find_ends", "environment::end_of", "environment::names_crossed", "environment::as_func",
+         "environment::as_service", "syntax::actor::Resolver::chase_service")
 # And whatever else goes from name to definition, but for the comparison of trees.
 ALL_OF, BUT = ("environment::", "analysis::", "inhabitants::"), "environment::merge::"
 
@@ -126,8 +127,10 @@ def source_files(root, crate):
                 yield os.path.join(path, name), [crate] + [part for part in module if module not in (["lib"], ["main"])]
 
 
-# What the kit adds to the functions of the sources: what a derive, a closure, the end of a value's life and the start of `main` come to.
-ADDED = re.compile(r"::(fn::.*|\S*\+\S*::\w+|\w*(Clone::clone|Drop::drop)|main\+\w+)$")
+# What the kit adds to the functions of the sources: what a derive, a closure, a trait's own method, the end of a value's life and the start of `main`
+# come to.
+DERIVED = "Clone::clone|Default::default|PartialEq::eq|PartialOrd::partial_cmp|Ord::cmp|Debug::fmt"
+ADDED = re.compile(rf"::(fn::.*|\S*\+\S*::\w+|\w*({DERIVED}|Iterator::size_hint|Drop::drop)|main\+\w+)$")
 
 
 def check_whole(root, crate, functions):
@@ -148,9 +151,10 @@ def check_whole(root, crate, functions):
 
 
 def have_to_be_loops(graph):
-    """The functions that must reach no circle: LOOPS, ALL_OF, whoever calls STEP, and a circle from which it is reached through others."""
-    again = {name for members in circles(graph) if STEP in reached(graph, members) for name in members}
-    return again | {name for name in graph if name in LOOPS or STEP in graph[name] or name.startswith(ALL_OF) and not name.startswith(BUT)}
+    """The functions that must reach no circle: LOOPS, ALL_OF, whoever calls one of STEPS, and a circle from which one is reached through others."""
+    again = {name for members in circles(graph) if not reached(graph, members).isdisjoint(STEPS) for name in members}
+    callers = {name for name in graph if not graph[name].isdisjoint(STEPS)}
+    return again | callers | {name for name in graph if name in LOOPS or name.startswith(ALL_OF) and not name.startswith(BUT)}
 
 
 class Graph:
@@ -221,8 +225,8 @@ def stated(path):
 
 
 def in_words(name, body):
-    """A measure, with the parameters' names alone: `l.n` is `n`, and `l.rows.now`, what a slice holds, `rows`."""
-    text = re.sub(r"\bl\.(\w+)(\.now\b)?", r"\1", " ".join(body.split()))
+    """A measure, with the names of parameters and fields alone: `l.n` is `n`; `l.rows.now`, what a slice holds, `rows`; `l.self.now.n` `self.n`."""
+    text = re.sub(r"\bl\.(\w+(?:\.\w+)*)", lambda path: re.sub(r"\.now\b", "", path[1]), " ".join(body.split()))
     expect(not re.search(r"\bl\b", text), f"{name}: the measure has what is no parameter: {' '.join(body.split())}")
     return text
 

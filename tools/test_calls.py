@@ -23,8 +23,8 @@ import graphs
 import stacks
 
 # The circles of the crates.
-CIRCLES = [["book::rules::trees"], ["environment::merge::same_trees"], ["print::decimal"],
-           ["typing::check_fields", "typing::check_func", "typing::check_meths", "typing::check_type"], ["typing::defs::validate_type"]]
+CIRCLES = [["book::rules::trees"], ["environment::merge::Comparison::same_trees"],
+           ["typing::types::Walk::check_type", "typing::types::Walk::check_types"], ["typing::types::Walk::services_fit"]]
 
 # A recursion with its proof, so that crates can stand on it.
 DOWN = """
@@ -195,10 +195,12 @@ class SmallCrates(InFolder):
         for names, sentence in (
             (whole[1:], "planted::at: the sources have 2 and what the kit makes has 1"), (whole[:3], "planted::inner::up: the sources have 1 and"),
             (whole[:2] + whole[3:], "planted::up: the sources have 1 and"), (whole + ["of"], "planted::of: the sources have 0 and"),
+            (whole + ["A::eq"], "planted::eq: the sources have 0 and"),
         ):
             with self.subTest(names), mock.patch.object(calls, "generated", lambda *_: codes(*(function(f"planted::{name}") for name in names))):
                 self.is_wrong(sentence)
-        made = [*whole, "AClone::clone", "fn::up::map+FnMut::call_mut", "Destruct++none::drop"]
+        derived = ["AClone::clone", "APartialEq::eq", "BPartialOrd::partial_cmp", "BOrd::cmp", "inner::CDebug::fmt", "inner::CDefault::default"]
+        made = [*whole, *derived, "BIterator::size_hint", "fn::up::map+FnMut::call_mut", "Destruct++none::drop"]
         with mock.patch.object(calls, "generated", lambda *_: codes(*(function(f"planted::{name}", "core::of") for name in made))):
             self.assertEqual(told(self.root)[0], 0)
 
@@ -262,6 +264,11 @@ class Proofs(InFolder):
         self.assertEqual(status, 0)
         self.assertIn("| `planted::one` | programs alone | `2 * (until - from) + 1` |\n"
                       "| with `planted::two` | programs alone | `length rows * (row_at rows n).size` |\n", out)
+
+    def test_measure_of_method(self):
+        """A field by its own name, of what the method has."""
+        self.assertEqual(calls.in_words("a::A::f", " 2 * (row_at l.self.now.rows.now l.n).size"), "2 * (row_at self.rows n).size")
+        self.assertEqual(calls.in_words("a::A::f", " l.a_until - l.self.a.now"), "a_until - self.a")
 
     def test_no_parameter(self):
         self.measured("decreases-one l = depth l", "decreases-two l = l.n")
@@ -342,12 +349,14 @@ class Modules(unittest.TestCase):
 
     def test_who_calls_step(self):
         """It reaches no circle, on which it is or not; who calls it may."""
-        graph = {calls.STEP: set(), "a::loop": {calls.STEP}, "a::turn": {"a::turn"}, "a::top": {"a::loop", "a::turn"}}
-        self.assertIsNone(graphs.way_round(graph, calls.have_to_be_loops(graph)))
-        graph["a::loop"].add("a::turn")
-        self.assertEqual(graphs.way_round(graph, calls.have_to_be_loops(graph)), ["a::loop", "a::turn", "a::turn"])
-        graph.update({"a::loop": {calls.STEP}, "a::turn": {"a::top"}})
-        self.assertEqual(graphs.way_round(graph, calls.have_to_be_loops(graph)), ["a::top", "a::turn", "a::top"])
+        for step in calls.STEPS:
+            with self.subTest(step):
+                graph = {step: set(), "a::loop": {step}, "a::turn": {"a::turn"}, "a::top": {"a::loop", "a::turn"}}
+                self.assertIsNone(graphs.way_round(graph, calls.have_to_be_loops(graph)))
+                graph["a::loop"].add("a::turn")
+                self.assertEqual(graphs.way_round(graph, calls.have_to_be_loops(graph)), ["a::loop", "a::turn", "a::turn"])
+                graph.update({"a::loop": {step}, "a::turn": {"a::top"}})
+                self.assertEqual(graphs.way_round(graph, calls.have_to_be_loops(graph)), ["a::top", "a::turn", "a::top"])
 
     def test_deep(self):
         """Longer than the stack of Python allows a recursion."""
@@ -364,6 +373,14 @@ fn last_name(rows: &[u8], roots: &[u16], n: usize, k: usize) -> usize {
     if k == 0 {
         return n;
     }"""
+
+# The name after n, in what comes behind.
+NEXT_NAME = """    let Some(link) = %s else {
+        return n;
+    };
+    let Some(next) = link.next else {
+        return n;
+    };"""
 
 
 class Planted(InFolder):
@@ -400,7 +417,7 @@ class Planted(InFolder):
     def plant(self, path, caller, call):
         """A call as the first statement of a function."""
         self.without_proof(path, caller)
-        self.edit(path, lambda text: re.sub(rf"(\bfn {caller}\(.*?\n{{\n)", rf"\1    {call};\n", text, count=1, flags=re.DOTALL))
+        self.edit(path, lambda text: re.sub(rf"(\bfn {caller}\(.*?\n *{{\n)", rf"\1    {call};\n", text, count=1, flags=re.DOTALL))
 
     def in_cycle(self, path, *names):
         """The kit asks for a word at each of several functions that call one another."""
@@ -424,15 +441,15 @@ class Planted(InFolder):
     def test_nothing_planted(self):
         """The copy is read, up to where the crates above are missing."""
         self.copy("environment")
-        self.is_wrong("syntax::actor::chase_service has to be a loop and is not there")
+        self.is_wrong("syntax::actor::Resolver::chase_service has to be a loop and is not there")
 
     def test_alias_end(self):
         self.copy("environment")
-        self.plant("environment/src/lib.rt", "alias_end", "alias_end(rows, roots, names, nodes, left, node)")
-        self.goes("environment::alias_end", "environment::alias_end")
+        self.plant("environment/src/scope.rt", "alias_end", "self.alias_end(left, node)")
+        self.goes("environment::scope::Scope::alias_end", "environment::scope::Scope::alias_end")
         done = subprocess.run([sys.executable, calls.__file__, self.root], capture_output=True, encoding="utf-8")
         self.assertEqual(done.returncode, 1)
-        self.assertIn("environment::alias_end -> environment::alias_end", done.stdout)
+        self.assertIn("environment::scope::Scope::alias_end -> environment::scope::Scope::alias_end", done.stdout)
 
     def test_find_ends(self):
         """From a function that it calls back to it."""
@@ -446,9 +463,16 @@ class Planted(InFolder):
             return f"{text}\n{signature}{{\n    find_ends({arguments})\n}}\n"
 
         self.edit("environment/src/lib.rt", with_turn)
-        self.plant("environment/src/lib.rt", "find_ends", f"turn({arguments})")
+        self.plant("environment/src/lib.rt", "find_ends", f"let _ = turn({arguments})")
         self.in_cycle("environment/src/lib.rt", "find_ends", "turn")
         self.goes("environment::find_ends", "environment::turn", "environment::find_ends")
+
+    def test_find_ends_of_scope(self):
+        """The method that has the loop, from one that it calls."""
+        self.copy("environment")
+        self.plant("environment/src/scope.rt", "note", "let _ = self.find_ends(0, ends)")
+        self.in_cycle("environment/src/scope.rt", "find_ends", "note")
+        self.goes("environment::scope::Scope::find_ends", "environment::scope::Scope::note", "environment::scope::Scope::find_ends")
 
     def test_as_func(self):
         self.copy("environment")
@@ -465,8 +489,8 @@ class Planted(InFolder):
     def test_merge(self):
         """The comparison of trees may recurse, with a proof."""
         self.copy("environment")
-        self.plant("environment/src/merge.rt", "same_roots", "same_roots(rows, hashes, a, b)")
-        self.is_wrong("no folder + has a proof of the circle of calls environment::merge::same_roots")
+        self.plant("environment/src/merge.rt", "same_roots", "self.same_roots(a, b)")
+        self.is_wrong("no folder + has a proof of the circle of calls environment::merge::Comparison::same_roots")
 
     def test_renamed(self):
         self.copy("environment")
@@ -476,16 +500,19 @@ class Planted(InFolder):
 
     def test_follower(self):
         """Whoever calls `step`, wherever it is."""
-        for module, step in (("passed::alias", "environment::step"), ("environment::merge", "crate::step")):
-            with self.subTest(module):
+        for module, step in (
+            ("passed::alias", "environment::step(rows, roots, n)"), ("environment::merge", "crate::step(rows, roots, n)"),
+            ("environment::merge", "crate::scope::Scope::new(rows, roots, 1024, 4096).step(n)"),
+        ):
+            with self.subTest(step):
                 self.setUp()
-                self.last_name(module, [LAST_NAME, f"    let s = {step}(rows, roots, n);", "    last_name(rows, roots, s.next, k - 1)", "}"])
+                self.last_name(module, [LAST_NAME, NEXT_NAME % step, "    last_name(rows, roots, next, k - 1)", "}"])
 
     def test_follower_through_another(self):
         """Each level has another function call `step`, which is a loop."""
         self.last_name("passed::alias", [
             LAST_NAME, "    last_name(rows, roots, next_name(rows, roots, n), k - 1)", "}",
-            "fn next_name(rows: &[u8], roots: &[u16], n: usize) -> usize {", "    let s = environment::step(rows, roots, n);", "    s.next", "}"])
+            "fn next_name(rows: &[u8], roots: &[u16], n: usize) -> usize {", NEXT_NAME % "environment::step(rows, roots, n)", "    next", "}"])
 
     def test_between_definitions(self):
         """Where names lead to definitions all is a loop, whether it follows aliases or not."""
@@ -498,8 +525,8 @@ class Planted(InFolder):
 
     def test_service(self):
         self.copy("syntax")
-        self.plant("syntax/src/actor.rt", "service_at", "service_at(rows, e, crossed, other)")
-        self.goes("syntax::actor::chase_service", "syntax::actor::service_at", "syntax::actor::service_at")
+        self.plant("syntax/src/actor.rt", "service_at", "let _ = service_at(rows, e, other)")
+        self.goes("syntax::actor::Resolver::chase_service", "syntax::actor::service_at", "syntax::actor::service_at")
 
     def test_other_function(self):
         """What need not be a loop may recurse with a proof; the chase is as before."""
@@ -525,7 +552,7 @@ class Planted(InFolder):
             found = real(name)
             if name == "book":
                 place, half = "read/half/Code", found["read/half/Code"]
-                found = {**found, place: half.replace("\npub calls-book::read::wide :", "\npub calls-book::read::Node::at :")}
+                found = {**found, place: half.replace("\npub calls-core::int::u16::from_le_bytes :", "\npub calls-book::read::Node::at :")}
                 self.assertNotEqual(found[place], half)
             return found
 
@@ -673,10 +700,11 @@ class Crates(unittest.TestCase):
         self.assertIsNone(path)
         found = graph.calls()
         loops = calls.have_to_be_loops(found)
-        self.assertLessEqual({*calls.LOOPS, "environment::follow", "environment::note", "environment::look_up", "environment::clear",
-                              "passed::alias::last_crossed", "analysis::chase::chase_actor", "inhabitants::empty::replace_empty"}, loops)
-        self.assertNotIn("environment::merge::same_trees", loops)
-        known = {"book::read::Node::at", "book::read::half", "book::tables::zeros", "syntax::actor::service_at"}
+        self.assertLessEqual({*calls.LOOPS, "environment::scope::Scope::follow", "environment::scope::Scope::note", "environment::look_up",
+                              "environment::clear", "passed::alias::last_crossed", "analysis::chase::chase_actor",
+                              "inhabitants::empty::replace_empty"}, loops)
+        self.assertNotIn("environment::merge::Comparison::same_trees", loops)
+        known = {"book::read::Node::at", "book::read::half", "book::walks::SiblingsIterator::next", "syntax::actor::service_at"}
         self.assertLessEqual(known, calls.reached(found, loops))
         self.assertLessEqual({"exports::ludzepin_check", "list::main", "answer_batch::main", "std_io::io::LibcRuntimePrint::write_all"}, set(found))
 
@@ -685,8 +713,8 @@ class Crates(unittest.TestCase):
         with tempfile.TemporaryDirectory() as folder, mock.patch.object(calls, "generated", lambda root, name: real(name)), \
                 mock.patch.object(calls, "DOCUMENT", os.path.join(folder, "document")):
             for old, new, options, status in (
-                ("", "", ["--stack"], 0), ("| 64 |", "| 65 |", ["--stack"], 1), ("| 64 |", "| 65 |", [], 0),
-                ("`a_until - a`", "`a - a_until`", [], 1), ("print::decimal`", "print::decimals`", [], 1), (calls.MARK, "", [], 2),
+                ("", "", ["--stack"], 0), ("| 80 |", "| 81 |", ["--stack"], 1), ("| 80 |", "| 81 |", [], 0),
+                ("`a_until - a`", "`a - a_until`", [], 1), ("::services_fit`", "::services_fits`", [], 1), (calls.MARK, "", [], 2),
             ):
                 write(calls.DOCUMENT, self.document.replace(old, new))
                 with self.subTest(new):

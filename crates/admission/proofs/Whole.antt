@@ -1,13 +1,11 @@
 -- What admission makes of a whole book, by its table of contents. Assumes nothing.
-use mathlib.Core.Path.{◌≡◌, sym, ap, subst, ◌∙◌}
+use mathlib.Core.Path.{◌≡◌, refl, sym, ap, subst, ◌∙◌}
 use mathlib.Core.Bool.{true, false, cond}
 use mathlib.Core.List.{List}
 use Prim.Native.Nat.{ℕ}
 use Rattle.refusals.specs.declared.Refusal.{Refusal}
 use Rattle.refusals.specs.declared.Refusal.TheVariants.{OverLimit}
-use Rattle.refusals.specs.declared.Verdict.{Verdict}
-use Rattle.refusals.specs.declared.Verdict.TheVariants.{Passed}
-use Rattle.refusals.specs.declared.Verdict as verdict
+use Rattle.refusals.specs.Verdict.{Verdict}
 use Rattle.refusals.specs.Outcome.{refused, given, after}
 use Rattle.format.specs.declared.Limits.{Limits}
 use Rattle.format.specs.Book.{Book}
@@ -21,7 +19,8 @@ use Rattle.format.proofs.Admission.{admitted-whole}
 use Rattle.book.specs.declared.kinds.Contents.{Contents}
 use Rattle.book.specs.Reading as read
 use Rattle.book.specs.Reading.{contents_of}
-use Rattle.admission.specs.declared.Admission.TheVariants.{Refused, Admitted}
+use Rattle.std.specs.Prelude.{Result, Ok, Err}
+use Rattle.std.specs.Result.{result_map_both}
 use Rattle.admission.specs.Admitting.{admission_of}
 
 -- How much a book has, by its table of contents.
@@ -41,7 +40,7 @@ module _ {bs : List ℕ} {c : Contents} (o : read.Admitted bs c) where
     judged : admitted (bs under l) ≡ cond (within (size_in c) l) (after (labels_verdict o.book) (given o.book)) (refused OverLimit)
     judged = admitted-whole (bs under l) o.book o.laid ∙ ap (λ (s : Limits). cond (within s l) (after (labels_verdict o.book) (given o.book)) (refused OverLimit)) size-is
 
-    pub over : false ≡ within (size_in c) l → Refused OverLimit ≡ admission_of (admitted (bs under l))
+    pub over : false ≡ within (size_in c) l → Err OverLimit ≡ admission_of (admitted (bs under l))
     unfolding admission_of
     over e = sym (ap admission_of judged ∙ rw (← e))
 
@@ -49,10 +48,10 @@ module _ {bs : List ℕ} {c : Contents} (o : read.Admitted bs c) where
       after-labels : admitted (bs under l) ≡ after v (given o.book)
       after-labels = judged ∙ rw (← e, ← labels o.book o.laid)
 
-      pub passes : v ≡ Passed → Admitted c ≡ admission_of (admitted (bs under l))
+      pub labelled : {r : Result Contents Refusal} → r ≡ result_map_both (λ _. c) (λ e. e) v → r ≡ admission_of (admitted (bs under l))
       unfolding admission_of after
-      passes p = sym (ap admission_of after-labels ∙ rw (p, o.table))
-
-      pub repeated : {why : Refusal} → v ≡ verdict.Verdict.Refused why → Refused why ≡ admission_of (admitted (bs under l))
-      unfolding admission_of after
-      repeated p = sym (ap admission_of after-labels ∙ rw p)
+      labelled m = m ∙ go v ∙ sym (ap admission_of after-labels)
+        where
+          go : (v : Verdict) → result_map_both (λ _. c) (λ e. e) v ≡ admission_of (after v (given o.book))
+          go (Ok tt) = rw o.table
+          go (Err why) = refl

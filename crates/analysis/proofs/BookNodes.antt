@@ -1,16 +1,17 @@
 -- A node of a book: its row, its tree, and those below it; the names of rows; and the methods of services. Assumes nothing.
 --     untabled                   a book's nodes, where no table is asked for
 --     here-..                    a node
+--     next-at                    where a walk over sibling trees goes on
 --     row_names, names-name, ..   the names that rows refer to, one after the other
---     services-open, ..          the methods of services, by their nodes
+--     services-some, ..          the methods of services, by their nodes
 use mathlib.Core.Path.{◌≡◌, refl, sym, ap, ◌∙◌}
 use mathlib.Core.List.{List, [], ◌∷◌}
 use Prim.Native.Nat.{ℕ, suc, ◌+◌, ◌-◌, ◌≤◌, ◌<◌}
 use native.Mathlib.Numerals.{add-one}
 use native.Mathlib.Omega.{arith}
 use borrow.Author.Tests.{eq-eqb, ne_eqb}
-use lib.ListN.{length, get_or}
-use lib.Seq.{slice, slice_empty, slice-cons}
+use lib.ListN.{length, get_or, drop, drop_of_length-le}
+use lib.Seq.{drop-cons}
 use Rattle.format.specs.Forest.{Forest, end, beside}
 use Rattle.format.specs.Node.{Node}
 use Rattle.format.specs.Encode.{Row}
@@ -19,6 +20,10 @@ use Rattle.format.specs.Whole.{Within, WholeAt, WholeIn, tree_at}
 use Rattle.format.proofs.References.{vars_of}
 use Rattle.format.proofs.Rows.{kids-whole, node-within}
 use Rattle.format.proofs.Stored.{tree-whole}
+use Rattle.book.specs.declared.walks.Siblings.{Siblings}
+use Rattle.book.specs.declared.read.Node as read
+use Rattle.book.specs.Walks.{Over, NextTree}
+use Rattle.book.proofs.Walking.{at, size}
 use Rattle.book.specs.Tables.{blank_table, zero_table}
 use Rattle.book.proofs.Blank.{blank-length, blank-at}
 use Rattle.environment.specs.Trees.{Trees, AllTrees}
@@ -89,15 +94,19 @@ module _ (ns : List ℕ) (i e : ℕ) where
   names-other h k = names-open h ∙ rw (ne_eqb (row_at ns i).kind 18 k)
 
 -- ---- The methods of services, one service after the other
-module _ (ns services : List ℕ) {k count : ℕ} where
-  pub services-over : k ≤ count → count ≤ k → methods_in ns (slice k count services) ≡ end
+module _ (ns services : List ℕ) {k : ℕ} where
+  pub services-none : length services ≤ k → methods_in ns (drop k services) ≡ end
   unfolding methods_in
-  services-over p h = let z : k ≡ count = omega arith in ap (λ (j : ℕ). methods_in ns (slice j count services)) z ∙ ap (methods_in ns) (slice_empty count services)
+  services-none h = ap (methods_in ns) (drop_of_length-le services {i = k} h)
 
-  pub services-open : k < count → count ≤ length services → WholeAt ns (get_or services k 0) → {r : Row} → r ≡ row_at ns (get_or services k 0) →
-      methods_in ns (slice k count services) ≡ beside (siblings ns (get_or services k 0 + 1) (get_or services k 0 + r.size)) (methods_in ns (slice (k + 1) count services))
+  pub services-some : k < length services → WholeAt ns (get_or services k 0) → {r : Row} → r ≡ row_at ns (get_or services k 0) →
+      methods_in ns (drop k services) ≡ beside (siblings ns (get_or services k 0 + 1) (get_or services k 0 + r.size)) (methods_in ns (drop (k + 1) services))
   unfolding methods_in
-  services-open h long w is =
+  services-some h w is =
       let s : ℕ = get_or services k 0 in
-      ap (methods_in ns) (slice-cons k count services 0 h long ∙ ap (λ (j : ℕ). s ∷ slice j count services) (sym (add-one k)))
-      ∙ ap (λ (f : Forest Node). beside f (methods_in ns (slice (k + 1) count services))) (tree-kids w ∙ ap (λ (z : Row). siblings ns (s + 1) (s + z.size)) (sym is))
+      ap (methods_in ns) (drop-cons services k 0 h ∙ ap (λ (j : ℕ). s ∷ drop j services) (sym (add-one k)))
+      ∙ ap (λ (f : Forest Node). beside f (methods_in ns (drop (k + 1) services))) (tree-kids w ∙ ap (λ (z : Row). siblings ns (s + 1) (s + z.size)) (sym is))
+
+-- ---- A walk over sibling trees goes on to the node after the one that it gave
+pub next-at : {ns : List ℕ} {e : ℕ} {s : Siblings} → Over ns e s → {n : ℕ} {node : read.Node} {t : Siblings} → NextTree s n node t → t.at ≡ s.at + node.size
+next-at {s = s} o x = at o x ∙ ap (λ (n : ℕ). s.at + n) (sym (size o x))

@@ -3,7 +3,7 @@
 --     put_all, Puts        entries in a lent slice
 --     HitsIn, Tested      a test of types, by the numbers that the code has for nodes
 --     EndTested, Served, Offered   what is asked of a chain's end, of a service and of an interface
-use Rattle.std.specs.Prelude.{◌≡◌, Bool, cond, List, [], ◌∷◌, map, ℕ, suc, ◌+◌, ◌*◌, ◌≤◌, ◌<◌, ltb, length, get_or}
+use Rattle.std.specs.Prelude.{◌≡◌, Option, Some, Bool, cond, List, [], ◌∷◌, map, ℕ, suc, ◌+◌, ◌*◌, ◌/◌, ◌≤◌, ◌<◌, ltb, length, get_or}
 use Rattle.std.proofs.lemmas.List.Edits.{sets}
 use Rattle.format.specs.Forest.{Forest, breadth}
 use Rattle.format.specs.Node.{Node}
@@ -15,6 +15,7 @@ use Rattle.environment.specs.Tables.{Nodes, EndNodes, EndAt, Chains, Ended}
 use Rattle.refusals.specs.Handed.{Use, numbers}
 use Rattle.listing.specs.Sites.{Site}
 use Rattle.listing.specs.Uses.{kept, entry_of}
+use Rattle.analysis.specs.declared.def_use.Uses.{Uses}
 
 -- ---- Which entries
 
@@ -46,6 +47,13 @@ pub record AtMost (most k : ℕ) (old new : List ℕ) (next : ℕ) : Type 0 wher
   pub few : next ≤ k + most
   pub long : length new ≡ length old
 
+-- The same of what the code holds: the slice, and how many entries there are.
+abbrev pub Adds : List Use → Uses → Uses → Type 0
+Adds es old new = Puts (length old.out.now / 3) old.count es old.out.now new.out.now new.count
+
+abbrev pub AddsAtMost : ℕ → Uses → Uses → Type 0
+AddsAtMost most old new = AtMost most old.count old.out.now new.out.now new.count
+
 -- ---- Which trees use the name
 
 -- The trees from node i up to node e do, by the number at i.
@@ -73,12 +81,12 @@ pub record SkipsTo (ns : List ℕ) (from until count at : ℕ) : Type 0 where
 -- ---- Methods
 
 -- A chain ends at node e, or nowhere: what its end is, and a test of what stands there.
-pub record EndTested (ns near : List ℕ) (e : ℕ) : Type 0 where
-  pub whole : (e ≡ 65535 → ⊥) → WholeAt ns e
+pub record EndTested (ns near : List ℕ) (e : Option ℕ) : Type 0 where
+  pub whole : (f : ℕ) → e ≡ Some f → WholeAt ns f
   pub reached : End
   pub is : EndAt ns e reached
   pub used : Test
-  pub hits : (e ≡ 65535 → ⊥) → HitsIn used ns near e (e + (row_at ns e).size)
+  pub hits : (f : ℕ) → e ≡ Some f → HitsIn used ns near f (f + (row_at ns f).size)
 
 -- What is known of a book: its table of alias ends is that of the definitions, and the test says what the numbers say.
 pub record Known (ns ends' near : List ℕ) (names nodes : ℕ) (ds : List Definition) (used : Test) : Type 0 where
@@ -93,15 +101,15 @@ pub record Served (ns ends' near : List ℕ) (service : ℕ) : Type 0 where
   pub known : Known ns ends' near ended.names ended.count definitions used
 
 -- An interface in a book of some definitions: a class's arguments, which are the trees from node `from` up to node `until`, and services.
-pub record Offered (ns ends' near : List ℕ) (from until : ℕ) (services : List ℕ) (count : ℕ) : Type 0 where
+pub record Offered (ns ends' near : List ℕ) (from until : ℕ) (services : List ℕ) : Type 0 where
   pub names : ℕ
   pub nodes : ℕ
   pub book : Nodes ns names nodes
   pub table : EndNodes ends' nodes
   pub arguments : Whole ns from until
   pub inside : until ≤ nodes
-  pub few : count ≤ 16
-  pub service : (k : ℕ) → k < count → get_or services k 0 < nodes
+  pub few : length services ≤ 16
+  pub service : (k : ℕ) → k < length services → get_or services k 0 < nodes
   pub definitions : List Definition
   pub used : Test
   pub known : Known ns ends' near names nodes definitions used

@@ -2,146 +2,100 @@
 // before it, so that the definitions that refer to a name are found without going through all rows again.
 // Functions ask of their caller what an admitted book gives (specs/Reaching.antt). Tables of rows are lent, since a copy of one costs more
 // than all else does on a small book.
-ghost use Rattle.std.specs.Prelude.{◌≡◌, ◌+◌, ◌<◌, length};
+ghost use Rattle.std.specs.Prelude.{◌≡◌, ◌↔◌, ◌+◌, ◌<◌, ℕ, IsTrue};
 ghost use Rattle.environment.specs.Tables.{definitions_in};
-ghost use Rattle.book.specs.Tables.{zero_table, no_flags};
-ghost use Rattle.analysis.specs.Reaching.{BookRows, ReachAs, FirstHit, NearAs, Defining, OwnersAs, no_rows, no_places, LinksAs, KeptFrom, KeptElse, Linked, NearestAs};
+ghost use Rattle.book.specs.Tables.{zero_table};
+ghost use Rattle.analysis.specs.Reaching.{BookRows, ReachAs, Hit, NearAs, Defining, OwnersAs, no_rows, no_places, LinksAs, KeptFrom, KeptElse, Linked, NearestAs};
 
+use arrayvec::ArrayVec;
 use book::kinds::Kind;
 use book::read::{Entry, Node};
-use book::tables::Flags;
+use book::tables::{ByName, Flags};
 use format::Limits;
 
-// For each row the first row from it on that tells; the number of rows where there is none.
+// For each row the first row from it on that tells; the number of rows where there is none, so that one comparison says whether trees tell.
 pub type Near = [u16; Limits::NODES + 1];
 
-// A table that has nothing.
-pub fn no_places() -> Near
-    ensures { result ≡ no_places }
-{
-    [0; Limits::NODES + 1]
-}
+// A number for each row, one more than a name, or 0 for none: an Option takes twice the memory, and zeros are made fastest.
+type ByRow = [u16; Limits::NODES];
 
-// Row i if it is a name with its flag set, else `last`, which is the first such row after it.
-fn nearer(rows: &[u8], nodes: usize, flags: &[u8], i: usize, last: usize) -> usize
-    requires { BookRows rows.now nodes × (length flags.now ≡ 1024) × (i < nodes) × FirstHit rows.now flags.now (i + 1) nodes last }
-    ensures { FirstHit rows.now flags.now i nodes result }
+// Whether row i is a name with its flag set.
+fn tells(rows: &[u8], flags: &Flags, i: usize) -> bool
+    requires { (nodes : ℕ) × BookRows rows.now nodes × (i < nodes) }
+    ensures { IsTrue result ↔ Hit rows.now flags.now i }
 {
     let t = Node::at(rows, i);
-    if t.kind != Kind::VAR {
-        return last;
-    }
-    if flags[t.value as usize] != 1 {
-        return last;
-    }
-    i
+    t.kind == Kind::Var as u8 && flags[t.value as usize] == 1
 }
 
 // Writes for each row the first row from it on, before row `nodes`, that is a name with its flag set; `nodes` where there is none.
-fn nearest(rows: &[u8], nodes: usize, flags: &[u8], near: &mut [u16])
-    requires { BookRows rows.now nodes × (length flags.now ≡ 1024) × (length near.old ≡ 4097) }
-    ensures { NearAs rows.now flags.now nodes near.new ×
-        KeptFrom (nodes + 1) near.old near.new }
+fn nearest(rows: &[u8], nodes: usize, flags: &Flags, near: &mut Near)
+    requires { BookRows rows.now nodes }
+    ensures { NearAs rows.now flags.now nodes near.new × KeptFrom (nodes + 1) near.old near.new }
 {
-    let mut last = nodes;
-    let mut i = nodes;
-    near[nodes] = nodes as u16;
-    while 0 < i {
-        i -= 1;
-        last = nearer(rows, nodes, flags, i, last);
-        near[i] = last as u16;
+    let mut last = nodes as u16;
+    near[nodes] = last;
+    for i in (0..nodes).rev() {
+        if tells(rows, flags, i) {
+            last = i as u16;
+        }
+        near[i] = last;
     }
 }
 
-// A number for each row.
-type ByRow = [u16; Limits::NODES];
-
-fn no_rows() -> ByRow
-    ensures { result ≡ no_rows }
-{
-    [0; Limits::NODES]
-}
-
 // Writes for each row one more than the name whose definition it lies in, in a table that has nothing; 0 where it lies in none.
-fn owners(
-    entries: &[u8],
-    rows: &[u8],
-    names: usize,
-    nodes: usize,
-    definitions: usize,
-    owner: &mut [u16],
-)
-    requires { Defining rows.now entries.now names nodes definitions × (owner.old ≡ no_rows) }
+fn owners(entries: &[u8], rows: &[u8], definitions: usize, owner: &mut ByRow)
+    requires { ((names nodes : ℕ) × Defining rows.now entries.now names nodes definitions) × (owner.old ≡ no_rows) }
     ensures { OwnersAs rows.now entries.now definitions owner.new }
 {
-    let mut d = 0;
-    while d < definitions {
+    for d in 0..definitions {
         let e = Entry::at(entries, d);
         let root = e.root as usize;
-        let t = Node::at(rows, root);
-        let until = root + t.size;
-        let mut i = root;
-        while i < until {
-            owner[i] = e.name + 1;
-            i += 1;
-        }
-        d += 1;
+        let until = root + Node::at(rows, root).size;
+        owner[root..until].fill(e.name + 1);
     }
 }
 
 // Links rows that are the same name in one pass, from the last one to the first. A link is one more than a row, or 0 for none: `head` has
 // nothing before, and what `next` has is not read.
-fn link(rows: &[u8], nodes: usize, head: &mut [u16], next: &mut [u16])
-    requires { BookRows rows.now nodes × (head.old ≡ zero_table) × (length next.old ≡ 4097) }
-    ensures { LinksAs rows.now nodes head.new next.new ×
-        KeptElse rows.now nodes next.old next.new }
+fn link(rows: &[u8], nodes: usize, head: &mut ByName, next: &mut Near)
+    requires { BookRows rows.now nodes × (head.old ≡ zero_table) }
+    ensures { LinksAs rows.now nodes head.new next.new × KeptElse rows.now nodes next.old next.new }
 {
-    let mut j = 0;
-    while j < nodes {
+    for j in 0..nodes {
         let t = Node::at(rows, j);
-        let row = j;
-        j += 1;
-        if t.kind != Kind::VAR {
-            continue;
+        if t.kind == Kind::Var as u8 {
+            let v = t.value as usize;
+            next[j] = head[v];
+            head[v] = (j + 1) as u16;
         }
-        let v = t.value as usize;
-        next[row] = head[v];
-        head[v] = j as u16;
     }
 }
 
-// Sets the flag of each name that is the wanted one or from which it is reached by references; none is set before. The names that are
-// flagged wait in a queue until the definitions that refer to them are flagged too.
-fn reaching(owner: &[u16], head: &[u16], next: &[u16], wanted: usize, flags: Flags) -> Flags
-    requires { Linked owner.now head.now next.now × (wanted < 1024) × (flags ≡ no_flags) }
+// Sets the flag of each name that is the wanted one or from which it is reached by references. The names that are flagged wait until the
+// definitions that refer to them are flagged too.
+fn reaching(owner: &ByRow, head: &ByName, next: &Near, wanted: usize) -> Flags
+    requires { Linked owner.now head.now next.now × (wanted < 1024) }
     ensures { (x : Linked owner.now head.now next.now) →
         ReachAs (definitions_in x.rows x.entries 0 x.definitions) wanted result }
 {
-    let mut flagged = flags;
-    let mut queue = book::tables::no_links();
+    let mut flagged = [0; Limits::NAMES];
+    let mut waiting = ArrayVec::<u16, { Limits::NAMES }>::new();
     flagged[wanted] = 1;
-    queue[0] = wanted as u16;
-    let mut len = 1;
-    let mut q = 0;
-    while q < len {
-        let m = queue[q] as usize;
-        let mut x = head[m] as usize;
-        while 0 < x {
-            let row = x - 1;
-            x = next[row] as usize;
-            let o = owner[row] as usize;
-            if o == 0 {
+    waiting.push(wanted as u16);
+    'names: while let Some(m) = waiting.pop() {
+        let mut link = head[m as usize];
+        'rows: while let Some(row) = link.checked_sub(1) {
+            link = next[row as usize];
+            let Some(n) = owner[row as usize].checked_sub(1) else {
+                continue;
+            };
+            if flagged[n as usize] == 1 {
                 continue;
             }
-            let n = o - 1;
-            if flagged[n] == 1 {
-                continue;
-            }
-            flagged[n] = 1;
-            queue[len] = n as u16;
-            len += 1;
+            flagged[n as usize] = 1;
+            waiting.push(n);
         }
-        q += 1;
     }
     flagged
 }
@@ -151,19 +105,18 @@ fn reaching(owner: &[u16], head: &[u16], next: &[u16], wanted: usize, flags: Fla
 pub fn find_nearest(
     entries: &[u8],
     rows: &[u8],
-    names: usize,
     nodes: usize,
     definitions: usize,
     wanted: usize,
-    near: &mut [u16],
+    near: &mut Near,
 )
-    requires { Defining rows.now entries.now names nodes definitions × (wanted < 1024) × (near.old ≡ no_places) }
+    requires { ((names : ℕ) × Defining rows.now entries.now names nodes definitions) × (wanted < 1024) × (near.old ≡ no_places) }
     ensures { NearestAs rows.now entries.now nodes definitions wanted near.new }
 {
-    let mut owner = no_rows();
-    owners(entries, rows, names, nodes, definitions, &mut owner);
-    let mut head = book::tables::no_links();
+    let mut owner = [0; Limits::NODES];
+    owners(entries, rows, definitions, &mut owner);
+    let mut head = [0; Limits::NAMES];
     link(rows, nodes, &mut head, near);
-    let flags = reaching(&owner, &head, near, wanted, book::tables::no_flags());
+    let flags = reaching(&owner, &head, near, wanted);
     nearest(rows, nodes, &flags, near);
 }

@@ -1,254 +1,197 @@
-// How a question is asked and its answer printed and counted, and the lists of names that it is asked with.
-ghost use Rattle.std.specs.Prelude.{◌≡◌, ◌≤◌, length};
-ghost use Rattle.std.specs.Counts.{IsPrefixLen};
-
-use crate::asked::{Asked, Question};
+// How a question is asked and its answer printed and counted.
+use crate::lines::Lines;
+use crate::tally::{Given, Tally};
 use format::Limits;
 use refusals::{Answer, Refusal, Verdict};
 
 // More numbers than any question but uses is answered with, and 4,096 uses; more of these are refused with 16.
-pub(crate) fn room() -> [u16; 12288]
-    ensures { 12288 ≡ length result }
-{
-    [0; 12288]
+pub(crate) const ROOM: usize = 12288;
+
+// The questions whose answers are lists, with what they are asked with. A new one is a variant with its arms, a place in the tally with its
+// word, and the line that asks it. An alias chain is no list, and is asked on its own.
+#[derive(Clone, Copy)]
+pub(crate) enum Question<'a> {
+    MainList,
+    Marks(&'a [u16]),
+    InitList,
+    DraftList,
+    Emptiness,
+    Uses(u16),
+    Projection(&'a [u16]),
 }
 
-// As many names as a book has.
-pub(crate) fn room_for_names() -> [u16; Limits::NAMES]
-    ensures { 1024 ≡ length result }
-{
-    [0; Limits::NAMES]
-}
-
-// Asks a question by this word, about the first of the names if it is of a name. Answers how many numbers were given.
-pub(crate) fn ask(
-    rt: &HostRuntime,
-    source: &[u8],
-    word: &[u8],
-    question: Question,
-    of_name: bool,
-    book: &[u8],
-    limits: Limits,
-    asked: &[u16],
-    tally: &mut [u32],
-) -> usize {
-    let mut out = room();
-    begin(rt, source, word, b"", of_name, book, asked);
-    let said = crate::asked::reply(question, book, limits, asked, &mut out);
-    answer(rt, question, said, &out, book, tally)
-}
-
-// The same and, where it has entries, once more with one place less.
-pub(crate) fn ask_again(
-    rt: &HostRuntime,
-    source: &[u8],
-    word: &[u8],
-    question: Question,
-    of_name: bool,
-    book: &[u8],
-    limits: Limits,
-    asked: &[u16],
-    tally: &mut [u32],
-) {
-    let mut out = room();
-    ask_both(
-        rt, source, word, question, of_name, book, limits, asked, &mut out, tally,
-    );
-}
-
-// The same with a lent list, in which the answer to the first is left.
-pub(crate) fn ask_both(
-    rt: &HostRuntime,
-    source: &[u8],
-    word: &[u8],
-    question: Question,
-    of_name: bool,
-    book: &[u8],
-    limits: Limits,
-    asked: &[u16],
-    out: &mut [u16],
-    tally: &mut [u32],
-) -> usize {
-    begin(rt, source, word, b"", of_name, book, asked);
-    let said = crate::asked::reply(question, book, limits, asked, out);
-    let end = answer(rt, question, said, out, book, tally);
-    let width = question.width();
-    if end < width {
-        return 0;
-    }
-    begin(rt, source, word, b"-short", of_name, book, asked);
-    let short = within(end - width, out);
-    let again = crate::asked::reply(question, book, limits, asked, &mut out[..short]);
-    answer_short(rt, again, book, tally);
-    end
-}
-
-// The beginning of a line.
-fn begin(
-    rt: &HostRuntime,
-    source: &[u8],
-    word: &[u8],
-    more: &[u8],
-    of_name: bool,
-    book: &[u8],
-    asked: &[u16],
-) {
-    crate::lines::asks(rt, source, word, more);
-    if of_name {
-        crate::lines::about(rt, book::name(book, first_of(asked)));
-    }
-}
-
-// The answer to a question, printed and counted. Answers how many numbers were given.
-fn answer(
-    rt: &HostRuntime,
-    question: Question,
-    said: Answer,
-    out: &[u16],
-    book: &[u8],
-    tally: &mut [u32],
-) -> usize {
-    match said {
-        Answer::Refused(why) => {
-            refuse(rt, why, book, tally);
-            0
-        }
-        Answer::Given(entries) => {
-            let end = within(question.numbers(entries), out);
-            crate::lines::counts(rt, b"given ", entries);
-            print_entries(rt, question, &out[..end], book);
-            crate::tally::count_given(question.place(), entries, tally);
-            end
+impl Question<'_> {
+    fn reply(self, book: &[u8], limits: Limits, out: &mut [u16]) -> Answer {
+        match self {
+            Question::MainList => questions::list(book, limits, out),
+            Question::Marks(list) => questions::marks(book, limits, list, out),
+            Question::InitList => questions::init_list(book, limits, out),
+            Question::DraftList => questions::draft_list(book, limits, out),
+            Question::Emptiness => questions::emptiness(book, limits, out),
+            Question::Uses(name) => questions::uses(book, limits, name, out),
+            Question::Projection(names) => questions::project(book, limits, names, out),
         }
     }
-}
 
-// The same where the list is too short, after the entries needed.
-fn answer_short(rt: &HostRuntime, said: Answer, book: &[u8], tally: &mut [u32]) {
-    match said {
-        Answer::Refused(why) => {
-            crate::lines::counts(rt, b"needs ", why.needed() as usize);
-            crate::lines::write(rt, b" ");
-            refuse(rt, why, book, tally);
+    fn given(self) -> Given {
+        match self {
+            Question::MainList => Given::List,
+            Question::Marks(_) => Given::Marks,
+            Question::InitList => Given::InitList,
+            Question::DraftList => Given::DraftList,
+            Question::Emptiness => Given::Emptiness,
+            Question::Uses(_) => Given::Uses,
+            Question::Projection(_) => Given::Projection,
         }
-        Answer::Given(entries) => crate::lines::counts(rt, b"given ", entries),
     }
-}
 
-// A place of a list; its first one for a place beyond its end.
-pub(crate) fn within(end: usize, list: &[u16]) -> usize
-    ensures { IsPrefixLen result list.now }
-{
-    if list.len() < end {
-        return 0;
-    }
-    end
-}
-
-// A number of entries; none for more than there are numbers for.
-pub(crate) fn few(entries: usize) -> usize
-    ensures { result ≤ 65536 }
-{
-    if 65536 < entries {
-        return 0;
-    }
-    entries
-}
-
-// The first of the asked names; no name's number where none is asked.
-pub(crate) fn first_of(asked: &[u16]) -> u16 {
-    if 0 < asked.len() {
-        return asked[0];
-    }
-    u16::MAX
-}
-
-pub(crate) fn judge(
-    rt: &HostRuntime,
-    found: Verdict,
-    place: usize,
-    book: &[u8],
-    tally: &mut [u32],
-) {
-    match found {
-        Verdict::Passed => {
-            crate::lines::write(rt, b"passed\n");
-            crate::tally::count(place, tally);
+    // The numbers that an entry takes in the lent list.
+    fn width(self) -> usize {
+        match self {
+            Question::Uses(_) => 3,
+            _ => 1,
         }
-        Verdict::Refused(why) => refuse(rt, why, book, tally),
+    }
+
+    // An answer's numbers: a use is three with points between, and others are names but for those of a projection.
+    fn print(self, lines: Lines, book: &[u8], numbers: &[u16]) {
+        for (i, number) in numbers.iter().enumerate() {
+            match self {
+                Question::Uses(_) if i % 3 != 0 => lines.count(b".", *number as usize),
+                Question::Uses(_) | Question::Projection(_) => lines.count(b" ", *number as usize),
+                _ => lines.name(b" ", book::name(book, *number), b""),
+            }
+        }
+        lines.write(b"\n");
     }
 }
 
-pub(crate) fn refuse(rt: &HostRuntime, why: Refusal, book: &[u8], tally: &mut [u32]) {
-    crate::lines::refusal(rt, why, book);
-    crate::tally::count_refusal(why, tally);
+// A book that is asked under these limits, by its source's name, and where the answers go.
+#[derive(Drop)]
+pub(crate) struct Asking<'a> {
+    pub(crate) lines: Lines<'a>,
+    pub(crate) source: &'a [u8],
+    pub(crate) book: &'a [u8],
+    pub(crate) limits: Limits,
+    pub(crate) tally: &'a mut Tally,
 }
 
-// A number of a use, of which the method comes first.
-pub(crate) fn print_of_use(rt: &HostRuntime, is_first: bool, number: u16) {
-    if is_first {
-        crate::lines::counts(rt, b" ", number as usize);
-        return;
+impl Asking<'_> {
+    // The beginning of a line: the source, the question's word with what is added to it, and the name that it is about.
+    fn begin(&self, word: &[u8], more: &[u8], about: Option<u16>) {
+        self.lines.words(&[self.source, b" ", word, more, b" "]);
+        if let Some(number) = about {
+            self.lines.name(b"", book::name(self.book, number), b" ");
+        }
     }
-    crate::lines::counts(rt, b".", number as usize);
-}
 
-fn print_entries(rt: &HostRuntime, question: Question, numbers: &[u16], book: &[u8]) {
-    let mut i = 0;
-    while i < numbers.len() {
-        crate::asked::print_number(rt, question, i, numbers[i], book);
-        i += 1;
+    // The beginning of the line of a question that is about no name.
+    pub(crate) fn begin_word(&self, word: &[u8]) {
+        self.begin(word, b"", None);
     }
-    crate::lines::write(rt, b"\n");
-}
 
-// ---- Lists that are asked with
+    pub(crate) fn refuse(&mut self, why: Refusal) {
+        self.lines.refusal(why, self.book);
+        self.tally.refuse(why);
+    }
 
-// Puts a wanted number at a place, if the list has it. Answers the next place.
-pub(crate) fn put(wanted: bool, number: u16, list: &mut [u16], end: usize) -> usize {
-    if !wanted {
-        return end;
+    pub(crate) fn judge(&mut self, word: &[u8], what: Given, found: Verdict) {
+        self.begin_word(word);
+        match found {
+            Ok(()) => {
+                self.lines.write(b"passed\n");
+                self.tally.give(what);
+            }
+            Err(why) => self.refuse(why),
+        }
     }
-    if list.len() <= end {
-        return end;
-    }
-    list[end] = number;
-    end + 1
-}
 
-// Puts the numbers of a list, the last first.
-pub(crate) fn put_backwards(numbers: &[u16], list: &mut [u16]) -> usize {
-    let mut end = 0;
-    let mut i = 0;
-    while i < numbers.len() {
-        let last = numbers.len() - 1 - i;
-        end = put(true, numbers[last], list, end);
-        i += 1;
+    // The alias chain from a number, by this word: the names that it crosses and the last of them.
+    pub(crate) fn ask_alias(&mut self, word: &[u8], about: Option<u16>, number: u16) {
+        self.begin(word, b"", about);
+        match questions::alias(self.book, self.limits, number) {
+            Err(why) => self.refuse(why),
+            Ok(found) => {
+                self.lines.count(b"given ", found.names as usize);
+                self.lines
+                    .name(b" ", book::name(self.book, found.last), b"\n");
+                self.tally.give_entries(Given::Alias, found.names as usize);
+            }
+        }
     }
-    end
-}
 
-// Whether a book with so many names, of which so many are listed, is asked about the name of this number.
-fn is_asked(number: u16, names: u16, listed: usize) -> bool {
-    if 0 < listed {
-        return true;
+    // Asks a question into a lent list. Answers how many numbers were given.
+    fn ask_into(
+        &mut self,
+        word: &[u8],
+        about: Option<u16>,
+        question: Question,
+        out: &mut [u16],
+    ) -> usize {
+        self.begin(word, b"", about);
+        match question.reply(self.book, self.limits, out) {
+            Err(why) => {
+                self.refuse(why);
+                0
+            }
+            Ok(entries) => {
+                let numbers = entries.saturating_mul(question.width());
+                let given = out.get(..numbers).unwrap_or(&[]);
+                self.lines.count(b"given ", entries);
+                question.print(self.lines, self.book, given);
+                self.tally.give_entries(question.given(), entries);
+                given.len()
+            }
+        }
     }
-    if names <= Asked::MOST_NAMES {
-        return true;
-    }
-    if number < Asked::FIRST_AND_LAST {
-        return true;
-    }
-    names - Asked::FIRST_AND_LAST <= number
-}
 
-// Puts the numbers of the names that a book is asked about.
-pub(crate) fn put_asked(names: u16, listed: usize, list: &mut [u16]) -> usize {
-    let mut end = 0;
-    let mut number: u16 = 0;
-    while number < names {
-        end = put(is_asked(number, names, listed), number, list, end);
-        number += 1;
+    // Asks a question by this word. Answers how many numbers were given.
+    pub(crate) fn ask(&mut self, word: &[u8], about: Option<u16>, question: Question) -> usize {
+        let mut out = [0; ROOM];
+        self.ask_into(word, about, question, &mut out)
     }
-    end
+
+    // Marks over a list.
+    pub(crate) fn ask_marks(&mut self, word: &[u8], list: &[u16]) {
+        self.ask(word, None, Question::Marks(list));
+    }
+
+    // The methods projected for names. Answers how many there are.
+    pub(crate) fn project(&mut self, word: &[u8], about: Option<u16>, names: &[u16]) -> usize {
+        self.ask(word, about, Question::Projection(names))
+    }
+
+    // Asks a question into a lent list and, where there are entries, once more with one place less, after the entries needed.
+    pub(crate) fn ask_both(
+        &mut self,
+        word: &[u8],
+        about: Option<u16>,
+        question: Question,
+        out: &mut [u16],
+    ) -> usize {
+        let end = self.ask_into(word, about, question, out);
+        let Some(places) = end.checked_sub(question.width()) else {
+            return 0;
+        };
+        self.begin(word, b"-short", about);
+        match question.reply(
+            self.book,
+            self.limits,
+            out.get_mut(..places).unwrap_or(&mut []),
+        ) {
+            Err(why) => {
+                self.lines.count(b"needs ", why.needed() as usize);
+                self.lines.write(b" ");
+                self.refuse(why);
+            }
+            Ok(entries) => self.lines.count(b"given ", entries),
+        }
+        end
+    }
+
+    // The same where the numbers themselves are not asked for.
+    pub(crate) fn ask_again(&mut self, word: &[u8], about: Option<u16>, question: Question) {
+        let mut out = [0; ROOM];
+        self.ask_both(word, about, question, &mut out);
+    }
 }

@@ -1,188 +1,130 @@
 // Lines of functions inside the crates, whose answers no question hands out: `alias_end` on an admitted book, with the definitions of all files
 // as one environment; `as_func` and `as_service` on a book that passed. They ask for such books, so this file counts on what admission, the
 // check and `enter` promise.
-ghost use Rattle.std.specs.Prelude.{◌<◌};
 ghost use Rattle.book.specs.Reading.{Admitted};
-ghost use Rattle.environment.specs.Tables.{Roots};
-ghost use Rattle.typing.specs.Passing.{PassedBook};
+ghost use Rattle.passed.specs.Checked.{Passes};
 
-use crate::asked::Question;
-use admission::Admission;
+use crate::asking::Asking;
+use crate::lines::Lines;
+use crate::tally::Given;
 use book::kinds::Contents;
 use book::read::Entry;
-use environment::{End, Lookup, Table};
+use environment::scope::Scope;
+use environment::{End, Lookup};
 use format::Limits;
-use refusals::{Refusal, Verdict};
-use typing::prog::Passed;
+use passed::{CheckedBook, Tables};
 
-pub(crate) fn ask_inner(
-    rt: &HostRuntime,
-    source: &[u8],
-    book: &[u8],
-    limits: Limits,
-    tally: &mut [u32],
-) {
-    ask_chains(rt, source, book, limits, tally);
-    ask_lookups(rt, source, book, limits, tally);
-}
-
-// ---- Alias ends
-
-fn ask_chains(rt: &HostRuntime, source: &[u8], book: &[u8], limits: Limits, tally: &mut [u32]) {
-    crate::lines::asks(rt, source, b"chains", b"");
-    match admission::admit(book, limits) {
-        Admission::Refused(why) => crate::asking::refuse(rt, why, book, tally),
-        Admission::Admitted(c) => say_chains(rt, book, c, tally),
+impl Asking<'_> {
+    pub(crate) fn ask_inner(&mut self) {
+        self.ask_chains();
+        self.ask_lookups();
     }
-}
 
-// The chain from each definition's body, in order; 2 where a name is defined twice, be it in two files.
-fn say_chains(rt: &HostRuntime, book: &[u8], c: Contents, tally: &mut [u32])
-    requires { Admitted book.now c }
-{
-    let mut roots = book::tables::blank();
-    let twice = environment::enter(
-        c.definitions(book),
-        c.names,
-        c.nodes,
-        0,
-        c.definitions,
-        &mut roots,
-    );
-    if twice != Table::NONE {
-        crate::asking::refuse(rt, Refusal::Twice(twice), book, tally);
-        return;
+    fn ask_chains(&mut self) {
+        self.begin_word(b"chains");
+        match admission::admit(self.book, self.limits) {
+            Err(why) => self.refuse(why),
+            Ok(c) => self.say_chains(c),
+        }
     }
-    crate::lines::counts(rt, b"given ", c.definitions);
-    print_chains(rt, book, c, &roots);
-    crate::lines::write(rt, b"\n");
-    crate::tally::count_given(Question::CHAINS, c.definitions, tally);
-}
 
-fn print_chains(rt: &HostRuntime, book: &[u8], c: Contents, roots: &[u16])
-    requires { Admitted book.now c × Roots roots.now c.nodes }
-{
-    let mut d = 0;
-    while d < c.definitions {
-        print_chain(rt, book, c, roots, d);
-        d += 1;
+    // The chain from each definition's body, in order; 2 where a name is defined twice, be it in two files.
+    fn say_chains(&mut self, c: Contents)
+        requires { Admitted self.old.book.now c }
+    {
+        let definitions = c.definitions(self.book);
+        let rows = c.nodes(self.book);
+        let mut roots = [Entry::NO_ROOT; Limits::NAMES];
+        let entered = environment::enter(
+            definitions,
+            c.names,
+            c.nodes,
+            0,
+            c.definitions,
+            &mut roots,
+        );
+        if let Err(why) = entered {
+            self.refuse(why);
+            return;
+        }
+        let scope = Scope::new(rows, &roots, c.names, c.nodes);
+        self.lines.count(b"given ", c.definitions);
+        for d in 0..c.definitions {
+            let root = Entry::at(definitions, d).root as usize;
+            let found = scope.alias_end(c.definitions, root);
+            print_end(self.lines, self.book, found.end, found.crossed);
+        }
+        self.lines.write(b"\n");
+        self.tally.give_entries(Given::Chains, c.definitions);
     }
-}
 
-fn print_chain(rt: &HostRuntime, book: &[u8], c: Contents, roots: &[u16], d: usize)
-    requires { Admitted book.now c × Roots roots.now c.nodes × (d < c.definitions) }
-{
-    let e = Entry::at(c.definitions(book), d);
-    let found = environment::alias_end(
-        c.nodes(book),
-        roots,
-        c.names,
-        c.nodes,
-        c.definitions,
-        e.root as usize,
-    );
-    let end = found.end;
-    let crossed = found.crossed;
-    print_end(rt, book, end, crossed);
-}
-
-fn print_end(rt: &HostRuntime, book: &[u8], end: End, crossed: usize) {
-    match end {
-        End::Ends(_) => crate::lines::counts(rt, b" ends.", crossed),
-        End::Circle => crate::lines::counts(rt, b" circle.", crossed),
-        End::Unbound(name) => {
-            crate::lines::counts(rt, b" unbound.", crossed);
-            crate::lines::name(rt, book::name(book, name));
+    fn ask_lookups(&mut self) {
+        self.begin_word(b"lookups");
+        let mut tables = Tables::new();
+        match tables.pass(self.book, self.limits) {
+            Err(why) => self.refuse(why),
+            Ok(p) => {
+                let main = p.main;
+                say_lookups(self.lines, &tables.checked(self.book, p));
+                self.tally.give_entries(Given::Lookups, main);
+            }
         }
     }
 }
 
-// ---- Function and service lookups
-
-fn ask_lookups(rt: &HostRuntime, source: &[u8], book: &[u8], limits: Limits, tally: &mut [u32]) {
-    crate::lines::asks(rt, source, b"lookups", b"");
-    let mut roots = book::tables::blank();
-    let mut ends = environment::no_ends();
-    let found = passed::pass(book, limits, &mut roots, &mut ends);
-    let v = found.verdict;
-    let p = found.passed;
-    match v {
-        Verdict::Refused(why) => crate::asking::refuse(rt, why, book, tally),
-        Verdict::Passed => say_lookups(rt, book, p, &roots, &ends, tally),
+fn print_end(lines: Lines, book: &[u8], end: End, crossed: usize) {
+    match end {
+        End::Ends(_) => lines.count(b" ends.", crossed),
+        End::Circle => lines.count(b" circle.", crossed),
+        End::Unbound(name) => {
+            lines.count(b" unbound.", crossed);
+            lines.name(b" ", book::name(book, name), b"");
+        }
     }
 }
 
-// What is looked up from the body of each definition but the init file's, in order, and then from main's actor.
-fn say_lookups(
-    rt: &HostRuntime,
-    book: &[u8],
-    p: Passed,
-    roots: &[u16],
-    ends: &[u32],
-    tally: &mut [u32],
-)
-    requires { PassedBook book.now roots.now ends.now p }
+// What is looked up from the body of each definition but the init file's, in order, and then from main's actor: the service below its class, or
+// the actor itself; nothing where main has none. With service imports too it is main's own tree.
+fn say_lookups(lines: Lines, book: &CheckedBook)
+    requires { Passes book.now }
 {
-    crate::lines::counts(rt, b"given ", p.main);
-    print_lookups(rt, book, p, roots, ends);
-    print_actor(rt, book, p, roots, ends);
-    crate::lines::write(rt, b"\n");
-    crate::tally::count_given(Question::LOOKUPS, p.main, tally);
-}
-
-fn print_lookups(rt: &HostRuntime, book: &[u8], p: Passed, roots: &[u16], ends: &[u32])
-    requires { PassedBook book.now roots.now ends.now p }
-{
-    let mut d = 0;
-    while d < p.main {
-        print_lookup(rt, book, p, roots, ends, d);
-        d += 1;
+    let c = book.passed.contents;
+    let main = book.passed.main;
+    let root = book.passed.interface.root;
+    let definitions = c.definitions(book.bytes);
+    let rows = c.nodes(book.bytes);
+    lines.count(b"given ", main);
+    for d in 0..main {
+        let node = Entry::at(definitions, d).root as usize;
+        let function = environment::as_func(rows, book.ends, node);
+        let service = environment::as_service(rows, book.ends, node);
+        print_found(lines, function, service);
     }
+    if root != Entry::NO_ROOT {
+        let top = syntax::class::top_of(rows, root);
+        print_actor(lines, environment::as_service(rows, book.ends, top.below));
+    }
+    lines.write(b"\n");
 }
 
-fn print_lookup(rt: &HostRuntime, book: &[u8], p: Passed, roots: &[u16], ends: &[u32], d: usize)
-    requires { PassedBook book.now roots.now ends.now p × (d < p.main) }
-{
-    let c = p.contents;
-    let rows = c.nodes(book);
-    let e = Entry::at(c.definitions(book), d);
-    let node = e.root as usize;
-    let function = environment::as_func(rows, ends, node);
-    let service = environment::as_service(rows, ends, node);
-    print_found(rt, function, service);
+fn print_actor(lines: Lines, service: Lookup) {
+    if service.found {
+        lines.count(b" actor.", service.crossed as usize);
+    } else {
+        lines.count(b" actor-.", service.crossed as usize);
+    }
 }
 
 // Both have crossed the same names, found or not: where they have not, a word says so that no stored line has.
-fn print_found(rt: &HostRuntime, function: Lookup, service: Lookup) {
+fn print_found(lines: Lines, function: Lookup, service: Lookup) {
     if function.crossed != service.crossed {
-        crate::lines::write(rt, b" apart");
+        lines.write(b" apart");
     }
     if function.found {
-        crate::lines::counts(rt, b" f.", function.crossed as usize);
-        return;
+        lines.count(b" f.", function.crossed as usize);
+    } else if service.found {
+        lines.count(b" s.", service.crossed as usize);
+    } else {
+        lines.count(b" -.", service.crossed as usize);
     }
-    if service.found {
-        crate::lines::counts(rt, b" s.", service.crossed as usize);
-        return;
-    }
-    crate::lines::counts(rt, b" -.", service.crossed as usize);
-}
-
-// The service below main's class, or main's actor itself; nothing where main has no actor. With service imports too it is main's own tree.
-fn print_actor(rt: &HostRuntime, book: &[u8], p: Passed, roots: &[u16], ends: &[u32])
-    requires { PassedBook book.now roots.now ends.now p }
-{
-    let i = p.interface;
-    if i.root == Entry::NO_ROOT {
-        return;
-    }
-    let c = p.contents;
-    let rows = c.nodes(book);
-    let top = syntax::class::top_of(rows, i.root);
-    let service = environment::as_service(rows, ends, top.below);
-    if service.found {
-        crate::lines::counts(rt, b" actor.", service.crossed as usize);
-        return;
-    }
-    crate::lines::counts(rt, b" actor-.", service.crossed as usize);
 }

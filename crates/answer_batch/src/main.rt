@@ -12,7 +12,7 @@ mod records;
 mod tally;
 
 fn main(rt: HostRuntime) {
-    let mut counts = asked::no_counts();
-    records::replay_all(&rt, &mut counts);
-    tally::print_tally(&rt, &counts);
+    let mut tally = tally::Tally::new();
+    records::replay_all(&rt, &mut tally);
+    tally.print(lines::Lines { rt: &rt });
 }

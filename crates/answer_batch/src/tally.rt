@@ -1,60 +1,105 @@
 // Counts of what was printed: refusals at their numbers, then the questions that passed or gave entries.
+use crate::lines::Lines;
 use refusals::Refusal;
 
-// One more, but for the highest number.
-fn more(n: u32) -> u32 {
-    if n < u32::MAX {
-        return n + 1;
-    }
-    n
+// What is counted where it is given: a place of the tally and its word.
+#[derive(Clone, Copy)]
+pub(crate) enum Given {
+    Layout,
+    Name,
+    Check,
+    InitCheck,
+    List,
+    Marks,
+    InitList,
+    DraftList,
+    Emptiness,
+    Chains,
+    Lookups,
+    Uses,
+    Alias,
+    Projection,
 }
 
-// Counts at a place; outside the list there is nothing to count.
-pub(crate) fn count(place: usize, tally: &mut [u32]) {
-    if place < tally.len() {
-        tally[place] = more(tally[place]);
-    }
+impl Given {
+    const COUNT: usize = 14;
+
+    // In the order of the variants.
+    const WORDS: [&'static [u8]; Given::COUNT] = [
+        b"layout",
+        b"name",
+        b"check",
+        b"init-check",
+        b"list",
+        b"marks",
+        b"init",
+        b"draft",
+        b"empty",
+        b"chains",
+        b"lookups",
+        b"uses",
+        b"alias",
+        b"project",
+    ];
 }
 
-// Counts a refusal at its number.
-pub(crate) fn count_refusal(why: Refusal, tally: &mut [u32]) {
-    count(why.number() as usize, tally);
+// More than the highest number of a refusal.
+const NUMBERS: usize = 25;
+
+#[derive(Drop)]
+pub(crate) struct Tally {
+    refused: [u32; NUMBERS],
+    given: [u32; Given::COUNT],
 }
 
-// Counts an answer with so many entries.
-pub(crate) fn count_given(place: usize, entries: usize, tally: &mut [u32]) {
-    if 0 < entries {
-        count(place, tally);
+impl Tally {
+    pub(crate) fn new() -> Tally {
+        Tally {
+            refused: [0; NUMBERS],
+            given: [0; Given::COUNT],
+        }
     }
-}
 
-// A count as a number to print.
-fn wide(count: u32) -> usize {
-    count as usize
-}
+    pub(crate) fn refuse(&mut self, why: Refusal) {
+        if let Some(count) = self.refused.get_mut(why.number() as usize) {
+            *count = count.saturating_add(1);
+        }
+    }
 
-// Prints a count, and answers whether it is not 0. Where nothing is counted there is nothing to print.
-fn print_count(rt: &HostRuntime, place: usize, count: u32) -> bool {
-    if !crate::asked::is_counted(place) {
-        return true;
+    pub(crate) fn give(&mut self, what: Given) {
+        let place = what as usize;
+        self.given[place] = self.given[place].saturating_add(1);
     }
-    crate::asked::print_counted(rt, place);
-    crate::lines::counts(rt, b" ", wide(count));
-    crate::lines::write(rt, b"\n");
-    0 < count
-}
 
-// All counts, and whether none of them is 0.
-pub(crate) fn print_tally(rt: &HostRuntime, tally: &[u32]) {
-    let mut is_complete = true;
-    let mut place = 1;
-    while place < tally.len() {
-        is_complete = print_count(rt, place, tally[place]) & is_complete;
-        place += 1;
+    // An answer with so many entries, which counts if there are any.
+    pub(crate) fn give_entries(&mut self, what: Given, entries: usize) {
+        if 0 < entries {
+            self.give(what);
+        }
     }
-    if is_complete {
-        crate::lines::write(rt, b"tally complete\n");
-        return;
+
+    // All counts, and whether none of them is 0: 19 to 23 are no refusals yet.
+    pub(crate) fn print(self, lines: Lines) {
+        let mut is_complete = true;
+        for (number, count) in self.refused.iter().enumerate() {
+            if (0 < number && number < 19) || 23 < number {
+                lines.count(b"tally refused ", number);
+                lines.count(b" ", *count as usize);
+                lines.write(b"\n");
+                is_complete &= 0 < *count;
+            }
+        }
+        for (word, count) in Given::WORDS.iter().zip(self.given.iter()) {
+            lines.write(b"tally given ");
+            lines.write(word);
+            lines.count(b" ", *count as usize);
+            lines.write(b"\n");
+            is_complete &= 0 < *count;
+        }
+        if is_complete {
+            lines.write(b"tally complete\n");
+        } else {
+            lines.write(b"tally incomplete\n");
+        }
     }
-    crate::lines::write(rt, b"tally incomplete\n");
 }

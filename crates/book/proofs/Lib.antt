@@ -8,3 +8,4 @@ pub mod Named
 pub mod Opened
 pub mod Blank
 pub mod Placed
+pub mod Walking

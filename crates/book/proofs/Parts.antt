@@ -1,24 +1,21 @@
 -- From the tests that `layout` makes, on the parts that a table of contents states, to what the bytes are. Assumes nothing.
 use mathlib.Core.Path.{◌≡◌, sym, ap, subst}
 use mathlib.Core.List.{List}
-use Prim.Native.Nat.{ℕ, ◌+◌, ◌-◌, ◌*◌, ◌≤◌}
-use native.Mathlib.Omega.{arith}
+use Prim.Native.Nat.{ℕ}
 use lib.Dec.{T}
 use lib.ListN.{length}
 use Rattle.format.specs.declared.Place.TheVariants.{Root}
 use Rattle.format.specs.Layout.{le32, run, entry_at, part, names_part, nodes_part, definitions_part, files_part, row_trees, read}
 use Rattle.format.specs.Rules.{Bytes, good_entries, Names, Rules}
 use Rattle.format.specs.Rules as rules
-use Rattle.format.specs.Whole.{Within}
-use Rattle.format.proofs.Bytes.{part-length}
 use Rattle.format.proofs.Theorems.{rules-whole, rules-broken, rules-placed}
 use Rattle.book.specs.declared.kinds.Contents.{Contents}
-use Rattle.book.specs.declared.Reading.TheVariants.{Broken as Fail, Whole as Pass}
-use Rattle.book.specs.Reading.{contents_of, reading, EntryWithin}
+use Rattle.std.specs.Prelude.{None, Some}
+use Rattle.book.specs.Reading.{contents_of, reading}
 use Rattle.book.specs.Steps.{Stated, Good}
 
 -- ---- The answers
-pub reading-broken : (bs : List ℕ) → (Rules bs → ⊥) → Fail ≡ reading bs
+pub reading-broken : (bs : List ℕ) → (Rules bs → ⊥) → None ≡ reading bs
 unfolding reading
 reading-broken bs n = rw (rules-broken bs n)
 
@@ -48,12 +45,12 @@ is-stated s =
       files = s.files i;
     }
 
-pub reading-whole : {bs : List ℕ} {c : Contents} → Bytes bs → Rules bs → Stated bs c → Pass c ≡ reading bs
+pub reading-whole : {bs : List ℕ} {c : Contents} → Bytes bs → Rules bs → Stated bs c → Some c ≡ reading bs
 unfolding reading contents_of
 reading-whole {bs} {c} h r s =
     let p = rules-placed bs h r in
     let e : contents_of (read bs) ≡ stated bs = cc (p.names, p.nodes_at, p.nodes, p.definitions_at, p.definitions, p.files_at, p.files) in
-    rw (rules-whole bs h r, e) (ap Pass (is-stated s))
+    rw (rules-whole bs h r, e) (ap Some (is-stated s))
 
 -- ---- The parts
 abbrev pub names_in : List ℕ → Contents → List ℕ
@@ -103,49 +100,3 @@ module _ {bs : List ℕ} {c : Contents} (s : Stated bs c) where
         nodes = g'.fine;
         entries = subst (EntriesGood bs) (is-stated s) e;
       }
-
-  -- ---- the parts lie within the bytes
-  module _ (k : rules.Contents bs) where
-    pub record Bounds : Type 0 where
-      pub one : 32 ≤ c.nodes_at
-      pub two : c.nodes_at ≤ c.definitions_at
-      pub three : c.definitions_at ≤ c.files_at
-      pub four : c.files_at ≤ length bs
-      pub nodes : c.nodes ≤ 4096
-      pub rows : c.definitions_at ≡ c.nodes_at + 12 * c.nodes
-      pub definitions : c.definitions ≤ 512
-      pub entries : c.files_at ≡ c.definitions_at + 8 * c.definitions
-      pub files : c.files ≤ 16
-      pub ends : length bs ≡ c.files_at + 8 * c.files
-
-    pub bounds : Bounds
-    bounds = record {
-      one = omega (arith, k.nodes_at, s.nodes_at);
-      two = omega (arith, k.definitions_at, s.nodes_at, s.definitions_at);
-      three = omega (arith, k.files_at, s.definitions_at, s.files_at);
-      four = omega (arith, k.ends, s.files_at);
-      nodes = omega (arith, k.few_nodes, s.nodes);
-      rows = omega (arith, k.definitions_at, s.nodes_at, s.definitions_at, s.nodes);
-      definitions = omega (arith, k.few_definitions, s.definitions);
-      entries = omega (arith, k.files_at, s.definitions_at, s.files_at, s.definitions);
-      files = omega (arith, k.few_files, s.files);
-      ends = omega (arith, k.ends, s.files_at, s.files);
-    }
-
-    pub nodes-within : Within (nodes_in bs c) c.nodes
-    nodes-within =
-        let b = bounds in
-        let l : length (nodes_in bs c) ≡ c.definitions_at - c.nodes_at = part-length c.nodes_at c.definitions_at bs b.two (omega (arith, b.three, b.four)) in
-        record { held = omega (arith, b.rows); few = omega (arith, b.rows, b.nodes) }
-
-    pub definitions-within : EntryWithin (definitions_in bs c) c.definitions
-    definitions-within =
-        let b = bounds in
-        let l : length (definitions_in bs c) ≡ c.files_at - c.definitions_at = part-length c.definitions_at c.files_at bs b.three b.four in
-        record { held = omega (arith, b.entries); few = omega (arith, b.entries, b.definitions) }
-
-    pub files-within : EntryWithin (files_in bs c) c.files
-    files-within =
-        let b = bounds in
-        let l : length (files_in bs c) ≡ length bs - c.files_at = part-length c.files_at (length bs) bs b.four (omega arith) in
-        record { held = omega (arith, b.ends); few = omega (arith, b.ends, b.files) }

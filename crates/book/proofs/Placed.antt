@@ -1,24 +1,26 @@
--- Where the names of an admitted book begin: the loop goes over the names' part, and a place is one of the whole book. Assumes nothing.
---     places-on     a turn of the loop
---     names-in      the names' part of an admitted book is its names
---     place-small   a place fits 16 bits
---     places-end    the table at its end
-use mathlib.Core.Path.{◌≡◌, sym, ap, subst, ◌∙◌}
-use mathlib.Core.List.{List}
-use Prim.Native.Nat.{ℕ, ◌+◌, ◌-◌, ◌≤◌, ◌<◌}
+-- Where the names of an admitted book begin: the walk goes over the names' part, and a place is one of the whole book. Assumes nothing.
+--     start, start-on   where a name begins in the bytes of all
+--     names-in          the names' part of an admitted book is its names
+--     place-small       a place fits 16 bits
+--     places-end        the table at its end
+use mathlib.Core.Path.{◌≡◌, refl, sym, ap, subst, ◌∙◌}
+use mathlib.Core.List.{List, [], ◌∷◌, ◌++◌}
+use Prim.Native.Nat.{ℕ, zero, suc, ◌+◌, ◌-◌, ◌≤◌, ◌<◌}
 use native.Mathlib.Omega.{arith}
-use lib.ListN.{length, get_or, set, take, drop, length-take, length-drop, take-append-drop}
-use lib.Seq.{take-append-le, drop-append-le, get_or-take, get_or-drop, drop-drop}
-use Rattle.format.specs.Layout.{part, names_part}
+use lib.ListN.{length, get_or, take, drop, length-take, length-drop, length-append, take-append-drop}
+use lib.Seq.{take-append-le, take-append_seam, drop-append-le, drop-append-add, get_or-take, get_or-drop, drop-drop}
+use Rattle.refusals.specs.Lists.{flat}
+use Rattle.format.specs.Encode.{name_bytes}
+use Rattle.format.specs.Layout.{part, names_part, names_of}
 use Rattle.format.proofs.Encoded.{fit-parts}
 use Rattle.format.proofs.Theorems.{found}
 use Rattle.book.specs.declared.kinds.Contents.{Contents}
 use Rattle.book.specs.Reading.{Admitted}
 use Rattle.book.specs.Tables.{NamesIn, NameAt, PlacesOf}
 use Rattle.book.proofs.Named as named
-use Rattle.book.proofs.Named.{Sought, sought-here, sought-fits, sought-found, names-few, name-there, name-outside, names-start, names-within}
+use Rattle.book.proofs.Named.{names-few, name-there, name-outside, names-start, names-within}
 use Rattle.book.proofs.Opened.{names-here}
-use Rattle.book.proofs.Blank.{TableLeft, name-sought, left-on}
+use Rattle.book.proofs.Blank.{Filling, filling-end}
 
 -- ---- a part of a part
 module _ (bs : List ℕ) (a e : ℕ) (h : e ≤ length bs) where
@@ -38,28 +40,77 @@ module _ (bs : List ℕ) (a e : ℕ) (h : e ≤ length bs) where
       sym (take-append-le k (drop i p) r (omega (arith, length-drop i p)))
       ∙ ap (take k) (sym (drop-append-le i p r (omega arith)) ∙ ap (drop i) (take-append-drop (e - a) (drop a bs)) ∙ drop-drop i a bs)
 
--- ---- what the table has for name n: a place of the book, where the name is found in the names' part
-pub record PlacedIn (names : List ℕ) (n v : ℕ) : Type 0 where
-  pub inside : 32 ≤ v
-  pub sought : Sought names n (v - 32) 0
+-- ---- where name n begins in the bytes of all
+abbrev pub start : List (List ℕ) → ℕ → ℕ
+start all n = length (flat name_bytes (take n all))
 
-pub places-on : {names places : List ℕ} {count at n : ℕ} → NamesIn names count → TableLeft names count (PlacedIn names) places at n → n < count →
-    TableLeft names count (PlacedIn names) (set places n (32 + at)) (at + 1 + get_or names at 0) (n + 1)
-places-on {at = at} x l h =
-    let e : 32 + at - 32 ≡ at = omega arith in
-    left-on x l h (32 + at) (record { inside = omega arith; sought = rw e (name-sought x l h) })
+pub start-none : (all : List (List ℕ)) → 32 ≡ 32 + start all 0
+unfolding flat
+start-none all = refl
+
+start-suc : (all : List (List ℕ)) (n : ℕ) → n < length all → start all (suc n) ≡ start all n + suc (length (get_or all n []))
+unfolding flat name_bytes
+start-suc [] n h = absurd (omega arith)
+start-suc (x ∷ xs) zero h = omega (arith, length-append x [])
+start-suc (x ∷ xs) (suc n) h =
+    omega (arith, start-suc xs n (omega arith), length-append x (flat name_bytes (take (suc n) xs)), length-append x (flat name_bytes (take n xs)))
+
+pub start-on : (all : List (List ℕ)) (n : ℕ) → n < length all → start all (n + 1) ≡ start all n + suc (length (get_or all n []))
+start-on all n h = let z : n + 1 ≡ suc n = omega arith in rw z (start-suc all n h)
+
+-- there its length byte and its bytes stand, and then the names after it
+begins : (all : List (List ℕ)) (n : ℕ) → n < length all →
+    drop (start all n) (flat name_bytes all) ≡ name_bytes (get_or all n []) ++ flat name_bytes (drop (suc n) all)
+unfolding flat
+begins [] n h = absurd (omega arith)
+begins (x ∷ xs) zero h = refl
+begins (x ∷ xs) (suc n) h =
+    let l = length-append (name_bytes x) (flat name_bytes (take n xs)) in
+    rw l (drop-append-add (name_bytes x) (flat name_bytes xs) (start xs n) ∙ begins xs n (omega arith))
+
+module _ (all : List (List ℕ)) (n : ℕ) (h : n < length all) where
+  abbrev name : List ℕ
+  name = get_or all n []
+
+  after : drop (suc (start all n)) (flat name_bytes all) ≡ name ++ flat name_bytes (drop (suc n) all)
+  unfolding name_bytes
+  after =
+      let bytes = flat name_bytes all in
+      let p = start all n in
+      let z : suc p ≡ p + 1 = omega arith in
+      ap (λ (k : ℕ). drop k bytes) z ∙ sym (drop-drop 1 p bytes) ∙ ap (drop 1) (begins all n h)
+
+  size-there : get_or (flat name_bytes all) (start all n) 0 ≡ length name
+  unfolding name_bytes
+  size-there =
+      let bytes = flat name_bytes all in
+      let p = start all n in
+      let z : p ≡ p + 0 = omega arith in
+      ap (λ (k : ℕ). get_or bytes k 0) z ∙ sym (get_or-drop p bytes 0 0) ∙ ap (λ (l : List ℕ). get_or l 0 0) (begins all n h)
+
+  name-fits : start all n + suc (length name) ≤ length (flat name_bytes all)
+  unfolding name_bytes
+  name-fits =
+      let rest = flat name_bytes (drop (suc n) all) in
+      omega (arith, length-drop (start all n) (flat name_bytes all), ap length (begins all n h), length-append name rest)
+
+  name-read : take (length name) (drop (suc (start all n)) (flat name_bytes all)) ≡ name
+  name-read = rw after (take-append_seam name (flat name_bytes (drop (suc n) all)))
 
 module _ {bs : List ℕ} {c : Contents} (o : Admitted bs c) where
   pub names-in : NamesIn (names_part bs) c.names
   names-in = rw (sym (names-here o)) (named.names-in o)
 
-  pub place-small : {names : List ℕ} {n at : ℕ} → names ≡ names_part bs → Sought names n at 0 → 32 + at < 65536
-  place-small e s =
+  abbrev names : List (List ℕ)
+  names = names_of (length (names_part bs)) (names_part bs)
+
+  pub place-fits : (n : ℕ) → n < length names → 32 + start names n + suc (length (get_or names n [])) ≤ 65536
+  place-fits n h =
       let f = (found bs o.book).0 o.laid in
       omega (
         arith,
-        sought-here s,
-        ap length e,
+        name-fits names n h,
+        ap length (names-in).filled,
         ap length (names-here o),
         part-length bs 32 c.nodes_at (names-within o),
         names-start o,
@@ -68,32 +119,39 @@ module _ {bs : List ℕ} {c : Contents} (o : Admitted bs c) where
         ap length f.1,
       )
 
-  name-at : (n v : ℕ) → PlacedIn (part 32 c.nodes_at bs) n v → NameAt bs n v
+  pub place-small : (n : ℕ) → n < length names → 32 + start names n < 65536
+  place-small n h = omega (arith, place-fits n h)
+
+  name-at : (n v : ℕ) → n < length names → v ≡ 32 + start names n → NameAt bs n v
   unfolding part
-  name-at n v p =
-      let names = part 32 c.nodes_at bs in
+  name-at n v h p =
       let w = names-within o in
-      let e : 32 + (v - 32) ≡ v = omega (arith, p.inside) in
-      let g : get_or names (v - 32) 0 ≡ get_or bs v 0 = part-at bs 32 c.nodes_at w (v - 32) (sought-here p.sought) ∙ ap (λ (i : ℕ). get_or bs i 0) e in
-      let f = sought-fits p.sought in
-      let k = get_or bs v 0 in
+      let all = names in
+      let at = start names n in
+      let k = length (get_or names n []) in
+      let f : flat name_bytes names ≡ part 32 c.nodes_at bs = names-in.filled ∙ sym (names-here o) in
+      let fits : at + suc k ≤ length (part 32 c.nodes_at bs) = subst (λ (l : List ℕ). at + suc k ≤ length l) f (name-fits names n h) in
+      let g : get_or bs v 0 ≡ k =
+      ap (λ (i : ℕ). get_or bs i 0) p ∙ sym (part-at bs 32 c.nodes_at w at (omega (arith, fits))) ∙ ap (λ (l : List ℕ). get_or l at 0) (sym f) ∙ size-there names n h in
       record {
-        within = omega (arith, f, g, part-length bs 32 c.nodes_at w, p.inside);
+        within = omega (arith, g, p, fits, part-length bs 32 c.nodes_at w);
         is =
-            ap (λ (j : ℕ). take j (drop (v + 1) bs)) (let a : v + 1 + k - (v + 1) ≡ k = omega arith in a)
-            ∙ ap (λ (i : ℕ). take k (drop i bs)) (let b : v + 1 ≡ 32 + (v - 32 + 1) = omega (arith, p.inside) in b)
-            ∙ sym (part-part bs 32 c.nodes_at w (v - 32 + 1) k (omega (arith, f, g)))
-            ∙ ap (λ (j : ℕ). take j (drop (v - 32 + 1) names)) (let d : k ≡ v - 32 + 1 + get_or names (v - 32) 0 - (v - 32 + 1) = omega (arith, g) in d)
-            ∙ sought-found p.sought (omega arith)
+            ap (λ (j : ℕ). take j (drop (v + 1) bs)) (let a : v + 1 + get_or bs v 0 - (v + 1) ≡ k = omega (arith, g) in a)
+            ∙ ap (λ (i : ℕ). take k (drop i bs)) (let b : v + 1 ≡ 32 + suc at = omega (arith, p) in b)
+            ∙ sym (part-part bs 32 c.nodes_at w (suc at) k (omega (arith, fits)))
+            ∙ ap (λ (l : List ℕ). take k (drop (suc at) l)) (sym f)
+            ∙ name-read names n h
+            ∙ ap (λ (l : List ℕ). get_or (names_of (length l) l) n []) (sym (names-here o))
             ∙ name-there o n;
       }
 
-  pub places-end : {names places : List ℕ} {at n : ℕ} → names ≡ names_part bs → TableLeft names c.names (PlacedIn names) places at n → c.names ≤ n → PlacesOf bs c.names places
-  places-end {names} {places} e l h =
+  pub places-end : {left : List (List ℕ)} {places : List ℕ} {n : ℕ} → Filling names left (λ m v. v ≡ 32 + start names m) n places → left ≡ [] → PlacesOf bs c.names places
+  places-end {places = places} l e =
+      let z = filling-end l e in
       record {
         long = l.long;
         few = names-few o;
-        at = λ n i. name-at n (get_or places n 0) (subst (λ (p : List ℕ). PlacedIn p n (get_or places n 0)) (e ∙ sym (names-here o)) (l.done n (omega arith)));
-        beyond = λ n i. l.beyond n (omega (arith, l.passed));
+        at = λ n i. name-at n (get_or places n 0) (omega (arith, names-in.counted)) (l.done n (omega (arith, names-in.counted)));
+        beyond = λ n i. l.beyond n (omega (arith, l.passed, names-in.counted));
         outside = λ n i. sym (name-outside o n i);
       }

@@ -13,7 +13,7 @@ use Rattle.format.specs.Rules.{Sized, good_row, good_forest, below_kind}
 use Rattle.format.specs.Whole.{Within, Whole}
 use Rattle.format.proofs.Logic.{of-true, and-says}
 use Rattle.format.proofs.Rows.{Opened, opens, closes, none}
-use Rattle.book.specs.declared.rules.Walked.TheVariants.{Count}
+use Rattle.std.specs.Prelude.{Some}
 use Rattle.book.specs.Steps.{Good, TreesAs}
 
 module _ (names : ℕ) (p : Place) (ns : List ℕ) (i e : ℕ) where
@@ -67,20 +67,13 @@ pub record TreesLeft (names : ℕ) (p : Place) (ns : List ℕ) (from e i n : ℕ
   pub down : Good names p ns from e → Good names p ns i e
   pub counted : Good names p ns from e → n + breadth (row_trees ns i e) ≡ breadth (row_trees ns from e)
 
-pub trees-start : (names : ℕ) (p : Place) (ns : List ℕ) (from e : ℕ) → from ≤ e → Within ns e → TreesLeft names p ns from e from 0
-trees-start names p ns from e h w =
-    record { later = omega arith; passed = h; within = w; few = omega arith; up = λ g. g; down = λ g. g; counted = λ g. omega arith }
-
 module _ {names : ℕ} {p : Place} {ns : List ℕ} {from e i n : ℕ} (l : TreesLeft names p ns from e i n) where
-  pub trees-end : e ≤ i → TreesAs names p ns from e (Count n)
+  pub trees-end : e ≤ i → TreesAs names p ns from e (Some n)
   unfolding good_forest breadth
   trees-end h =
       let z : row_trees ns i e ≡ end = none ns i e h in
       let g : Good names p ns from e = l.up (record { sized = subst Sized (sym z) tt; fine = rw z tt }) in
       (g, omega (arith, l.counted g, ap breadth z))
-
-  pub row-within : i < e → Within ns (i + 1)
-  row-within h = record { held = omega (arith, l.within.held); few = l.within.few }
 
   module _ (h : i < e) (r : Row) (is : r ≡ row_at ns i) where
     size-is : r.size ≡ (row_at ns i).size
@@ -99,10 +92,7 @@ module _ {names : ℕ} {p : Place} {ns : List ℕ} {from e i n : ℕ} (l : Trees
     trees-kids no' g = no' (rw is (of g).kids)
 
     module _ (one : r.size ≡ 0 → ⊥) (fits : r.size ≤ e - i) where
-      pub kids-within : (i + 1 ≤ i + r.size) × Within ns (i + r.size)
-      kids-within = (omega arith, record { held = omega (arith, l.within.held); few = l.within.few })
-
-      module _ (kids : ℕ) (k : TreesAs names (below_kind r.kind) ns (i + 1) (i + r.size) (Count kids)) where
+      module _ (kids : ℕ) (k : TreesAs names (below_kind r.kind) ns (i + 1) (i + r.size) (Some kids)) where
         kids-are : kids ≡ breadth (row_trees ns (i + 1) (i + (row_at ns i).size))
         kids-are = k.1 ∙ ap (λ (m : ℕ). breadth (row_trees ns (i + 1) (i + m))) size-is
 

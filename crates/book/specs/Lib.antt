@@ -2,3 +2,5 @@
 pub mod Reading
 pub mod Tables
 pub mod Steps
+pub mod Props
+pub mod Walks

@@ -1,17 +1,14 @@
 -- What the reader answers, from the definitions of the crate `format`. Definitions; assumes nothing.
-use Rattle.std.specs.Prelude.{List, ◌≡◌, ℕ, ◌+◌, ◌*◌, ◌≤◌, ◌<◌, length}
+use Rattle.std.specs.Prelude.{Option, Some, None, List, ◌≡◌, ℕ, ◌+◌, ◌*◌, ◌≤◌, length}
 use Rattle.labels.specs.declared.Label.{Label}
 use Rattle.labels.specs.declared.Label.TheVariants.{Id}
 use Rattle.format.specs.Forest.{count}
 use Rattle.format.specs.Node.{Labelled, unlabelled, labelled}
 use Rattle.format.specs.Book.{Book, trees}
 use Rattle.format.specs.Encode.{Row, name_bytes, names_bytes, nodes_bytes, definitions_bytes}
-use Rattle.refusals.specs.Lists.{flat}
 use Rattle.format.specs.Encode as stored
-use Rattle.format.specs.Layout.{names_of, Layout, broken, whole, layout}
+use Rattle.format.specs.Layout.{Layout, broken, whole, layout}
 use Rattle.book.specs.declared.kinds.Contents.{Contents}
-use Rattle.book.specs.declared.Reading.{Reading}
-use Rattle.book.specs.declared.Reading.TheVariants.{Broken, Whole}
 use Rattle.book.specs.declared.read.Node.{Node}
 use Rattle.book.specs.declared.read.Entry.{Entry}
 
@@ -30,12 +27,12 @@ contents_of b =
       files = length b.files;
     }
 
--- What bytes are, as the code answers it.
-abbrev pub as_reading : Layout → Reading
-as_reading broken = Broken
-as_reading (whole b) = Whole (contents_of b)
+-- What bytes are, as the code answers it: no book, or one with this table of contents.
+abbrev pub as_reading : Layout → Option Contents
+as_reading broken = None
+as_reading (whole b) = Some (contents_of b)
 
-unfoldable pub reading : List ℕ → Reading
+unfoldable pub reading : List ℕ → Option Contents
 reading bs = as_reading (layout bs)
 
 -- Bytes that are a book, with this table of contents, whether 24 or 18 follows or not: what all code after the layout stands on.
@@ -62,8 +59,3 @@ label_or n (labelled l) = l
 pub record EntryWithin (es : List ℕ) (n : ℕ) : Type 0 where
   pub held : n * 8 ≤ length es
   pub few : length es ≤ 4096
-
--- The bytes are names, more than n of them.
-pub record HasName (bs : List ℕ) (n : ℕ) : Type 0 where
-  pub filled : flat name_bytes (names_of (length bs) bs) ≡ bs
-  pub listed : n < length (names_of (length bs) bs)

@@ -6,125 +6,71 @@ ghost use Rattle.book.specs.Reading.{reading};
 ghost use Rattle.format.specs.Layout.{name_in};
 ghost use Rattle.book.specs.Steps.{ContentsAs};
 
+pub mod admitted;
 pub mod kinds;
 pub mod read;
 mod rules;
 pub mod tables;
+pub mod walks;
 
 use crate::kinds::Contents;
 use crate::read::{Entry, Node};
-use crate::rules::{Next, Walked};
+use crate::walks::Siblings;
 use format::{Limits, Place};
 
-// What bytes are: no book, or one with this table of contents.
-#[derive(Clone, Copy)]
-pub enum Reading {
-    Broken,
-    Whole(Contents),
-}
-
 // The table of contents, where it keeps the rules of its own: offsets without gaps that end the book, and the limits.
-fn contents(book: &[u8]) -> Reading
+fn contents(book: &[u8]) -> Option<Contents>
     ensures { ContentsAs book.now result }
 {
-    if book.len() < Contents::SIZE {
-        return Reading::Broken;
+    if book.len() < Contents::SIZE || Limits::BYTES < book.len() {
+        return None;
     }
-    if Limits::BYTES < book.len() {
-        return Reading::Broken;
-    }
-    if read::word(book, 0) as usize != Contents::SIZE {
-        return Reading::Broken;
-    }
-    let names = read::word(book, 4) as usize;
-    if Limits::NAMES < names {
-        return Reading::Broken;
-    }
-    let nodes_at = read::word(book, 8) as usize;
-    if nodes_at < Contents::SIZE {
-        return Reading::Broken;
-    }
-    let nodes = read::word(book, 12) as usize;
-    if Limits::NODES < nodes {
-        return Reading::Broken;
-    }
-    let definitions_at = read::word(book, 16) as usize;
-    if definitions_at != nodes_at + Node::SIZE * nodes {
-        return Reading::Broken;
-    }
-    let definitions = read::word(book, 20) as usize;
-    if Limits::DEFINITIONS < definitions {
-        return Reading::Broken;
-    }
-    let files_at = read::word(book, 24) as usize;
-    if files_at != definitions_at + Entry::SIZE * definitions {
-        return Reading::Broken;
-    }
-    let files = read::word(book, 28) as usize;
-    if files == 0 {
-        return Reading::Broken;
-    }
-    if Limits::FILES < files {
-        return Reading::Broken;
-    }
-    if book.len() != files_at + Entry::SIZE * files {
-        return Reading::Broken;
-    }
-    Reading::Whole(Contents {
-        names,
-        nodes_at,
-        nodes,
-        definitions_at,
-        definitions,
-        files_at,
-        files,
-    })
+    let c = Contents {
+        names: read::word(book, 4) as usize,
+        nodes_at: read::word(book, 8) as usize,
+        nodes: read::word(book, 12) as usize,
+        definitions_at: read::word(book, 16) as usize,
+        definitions: read::word(book, 20) as usize,
+        files_at: read::word(book, 24) as usize,
+        files: read::word(book, 28) as usize,
+    };
+    let kept = read::word(book, 0) as usize == Contents::SIZE
+        && c.names <= Limits::NAMES
+        && Contents::SIZE <= c.nodes_at
+        && c.nodes <= Limits::NODES
+        && c.definitions_at == c.nodes_at + Node::SIZE * c.nodes
+        && c.definitions <= Limits::DEFINITIONS
+        && c.files_at == c.definitions_at + Entry::SIZE * c.definitions
+        && c.files != 0
+        && c.files <= Limits::FILES
+        && book.len() == c.files_at + Entry::SIZE * c.files;
+    if kept { Some(c) } else { None }
 }
 
 // Whether the bytes are a book, and where its parts lie. One pass over names, nodes, definitions and files.
-pub fn layout(book: &[u8]) -> Reading
+pub fn layout(book: &[u8]) -> Option<Contents>
     ensures { result ≡ reading book.now }
 {
-    let Reading::Whole(c) = contents(book) else {
-        return Reading::Broken;
-    };
-    let nodes_at = c.nodes_at;
-    let definitions_at = c.definitions_at;
-    let files_at = c.files_at;
-    if !rules::names_fine(&book[Contents::SIZE..nodes_at], c.names) {
-        return Reading::Broken;
+    let c = contents(book)?;
+    if !rules::names_fine(&book[Contents::SIZE..c.nodes_at], c.names) {
+        return None;
     }
-    let rows = &book[nodes_at..definitions_at];
-    let Walked::Count(_) = rules::trees(rows, c.names, Place::Root, 0, c.nodes) else {
-        return Reading::Broken;
-    };
-    let Next::At(next) = rules::definitions(
-        &book[definitions_at..files_at],
-        rows,
-        c.names,
-        c.files,
-        c.definitions,
-        c.nodes,
-    ) else {
-        return Reading::Broken;
-    };
-    if !rules::files(&book[files_at..], rows, c.names, c.files, c.nodes, next) {
-        return Reading::Broken;
+    let rows = &book[c.nodes_at..c.definitions_at];
+    let _ = rules::trees(rows, c.names, Place::Root, 0, c.nodes)?;
+    let trees = Siblings::new(rows, 0, c.nodes);
+    let left = rules::definitions(c, &book[c.definitions_at..c.files_at], trees)?;
+    if !rules::files(c, &book[c.files_at..], left) {
+        return None;
     }
-    Reading::Whole(c)
+    Some(c)
 }
 
 // The bytes of a name, as a part of the book; an empty part for a broken book or a number outside the table of names.
 pub fn name(book: &[u8], number: u16) -> &[u8]
     ensures { result.now ≡ name_in book.now number }
 {
-    let Reading::Whole(c) = layout(book) else {
-        return &book[0..0];
-    };
-    let nodes_at = c.nodes_at;
-    let names = c.names;
-    if names <= number as usize {
-        return &book[0..0];
+    match layout(book) {
+        Some(c) if (number as usize) < c.names => { read::name_at(c.names(book), number as usize) }
+        _ => &book[0..0],
     }
-    read::name_at(&book[Contents::SIZE..nodes_at], number as usize)
 }

@@ -1,40 +1,33 @@
-// Readers of numbers, rows, entries and names. Those of rows and entries are public for the crates above, which walk books that were
+// Readers of numbers, rows, entries and names. Those of rows, entries and a name at a place are public for the crates above, which walk books that were
 // admitted: each asks that what is read lies within the bytes, as it does there (format, specs/Whole.antt).
 ghost use Rattle.std.specs.Prelude.{◌≡◌, ◌+◌, ◌*◌, ◌≤◌, ◌<◌, [], length, get_or};
 ghost use Rattle.format.specs.Layout.{le16, le32, part, label_of, row_at, entry_at, names_of};
 ghost use Rattle.format.specs.Whole.{Within};
-ghost use Rattle.book.specs.Reading.{as_row, label_or, as_entry, EntryWithin, HasName};
+ghost use Rattle.book.specs.Reading.{as_row, label_or, as_entry, EntryWithin};
 
-use labels::Label;
-
-// A byte as a number to reckon with.
-fn wide(b: u8) -> u32
-    ensures { (result ≡ b) × (result < 256) }
-{
-    b as u32
-}
+use crate::walks::Names;
+use labels::{Label, LabelKind};
 
 // The number in the two bytes from place `at` on.
+#[tactic(auto, unfolding(format::specs::Layout::le16))]
 fn half(bytes: &[u8], at: usize) -> u16
     requires { at + 2 ≤ length bytes.now }
     ensures { result ≡ le16 bytes.now at }
 {
-    (wide(bytes[at]) + wide(bytes[at + 1]) * 256) as u16
+    u16::from_le_bytes([bytes[at], bytes[at + 1]])
 }
 
 // The number in the four bytes from place `at` on.
+#[tactic(auto, unfolding(format::specs::Layout::le32))]
 pub(crate) fn word(bytes: &[u8], at: usize) -> u32
     requires { at + 4 ≤ length bytes.now }
     ensures { result ≡ le32 bytes.now at }
 {
-    wide(bytes[at])
-        + wide(bytes[at + 1]) * 256
-        + wide(bytes[at + 2]) * 65536
-        + wide(bytes[at + 3]) * 16777216
+    u32::from_le_bytes([bytes[at], bytes[at + 1], bytes[at + 2], bytes[at + 3]])
 }
 
-// A stored node.
-#[derive(Clone, Copy)]
+// A stored node. Its kind is the byte that is stored, which may be no kind: code compares it with `Kind::Var as u8` and its like.
+#[derive(Clone, Copy, PartialEq, Eq, Debug)]
 pub struct Node {
     pub kind: u8,
     pub label_kind: u8,
@@ -54,6 +47,7 @@ impl Node {
     pub const MODES: usize = 8;
 
     // Node n of the nodes' bytes.
+    #[tactic(auto, unfolding(format::specs::Layout::row_at))]
     pub fn at(rows: &[u8], n: usize) -> Node
         requires { Within rows.now (n + 1) }
         ensures { as_row result ≡ row_at rows.now n }
@@ -69,21 +63,22 @@ impl Node {
     }
 
     // Its label. One without a label has the number that stands for none, so that labels compare by number wherever they stand.
+    #[tactic(auto, unfolding(format::specs::Layout::label_of))]
     pub fn label(self) -> Label
         ensures { result ≡ label_or self.label (label_of self.label_kind self.label) }
     {
-        if self.label_kind == Label::NAMED {
-            return Label::named(self.label);
+        if self.label_kind == LabelKind::Named as u8 {
+            Label::Named(self.label)
+        } else if self.label_kind >= LabelKind::Unnamed as u8 {
+            Label::Unnamed(self.label)
+        } else {
+            Label::Id(self.label)
         }
-        if Label::UNNAMED <= self.label_kind {
-            return Label::unnamed(self.label);
-        }
-        Label::id(self.label)
     }
 }
 
 // A stored definition or file. `owner` is a definition's file and a file's role.
-#[derive(Clone, Copy)]
+#[derive(Clone, Copy, PartialEq, Eq, Debug)]
 pub struct Entry {
     pub name: u16,
     pub owner: u16,
@@ -95,10 +90,11 @@ impl Entry {
     // The bytes of an entry.
     pub const SIZE: usize = 8;
 
-    // The root of a file without a tree.
+    // The root of a file without a tree: a number and no Option, since books store it, and tables of roots, whose memory is fixed, keep it.
     pub const NO_ROOT: u16 = 65535;
 
     // Entry n of the definitions' or the files' bytes.
+    #[tactic(auto, unfolding(format::specs::Layout::entry_at))]
     pub fn at(entries: &[u8], n: usize) -> Entry
         requires { EntryWithin entries.now (n + 1) }
         ensures { as_entry result ≡ entry_at entries.now n }
@@ -123,16 +119,9 @@ pub fn name_from(bytes: &[u8], at: usize) -> &[u8]
     &bytes[from..end]
 }
 
-// Name `number` of the names' bytes.
+// Name `number` of the names' bytes; an empty part where there are fewer.
 pub(crate) fn name_at(names: &[u8], number: usize) -> &[u8]
-    requires { HasName names.now number }
     ensures { result.now ≡ get_or (names_of (length names.now) names.now) number [] }
 {
-    let mut at = 0;
-    let mut left = number;
-    while 0 < left {
-        at = at + 1 + names[at] as usize;
-        left -= 1;
-    }
-    name_from(names, at)
+    Names { rest: names }.nth(number).unwrap_or(&[])
 }

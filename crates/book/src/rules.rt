@@ -1,393 +1,283 @@
 // The tests that `layout` is made of: the rules of format, specs/Rules.antt, on rows, entries and names. Private to the crate.
-ghost use Rattle.std.specs.Prelude.{◌≡◌, true, ◌+◌, ◌≤◌, ◌<◌, length, eqb};
+ghost use Rattle.std.specs.Prelude.{◌≡◌, IfSome, true, ◌+◌, ◌≤◌, ◌<◌, length, eqb};
 ghost use Rattle.std.specs.Bool.{beq};
 ghost use Rattle.format.specs.Fits.{before};
 ghost use Rattle.format.specs.Rules.{good_modes, good_kind, good_place, good_label, good_row, good_role, good_files, Names};
 ghost use Rattle.format.specs.Layout.{part, run, entry_at, row_trees};
 ghost use Rattle.format.specs.Whole.{Within, Whole};
 ghost use Rattle.book.specs.Reading.{as_row, as_entry, EntryWithin};
-ghost use Rattle.book.specs.Steps.{Tells, rises_to, TreesAs, DefinitionAs, DefinitionsAs, FileTests, FileAs};
+ghost use Rattle.book.specs.Walks.{Over, place_of};
+ghost use Rattle.book.specs.Steps.{Tells, rises_to, TreesAs, definition_fine, DefinitionAs, DefinitionsAs, file_fine, FileAs};
 
-use crate::kinds::{Kind, Mode, Role};
+use crate::kinds::{Contents, Kind, Mode, Role};
 use crate::read::{Entry, Node};
+use crate::walks::Siblings;
 use format::Place;
-use labels::Label;
+use labels::LabelKind;
 
 // Whether the digits of `modes` are modes, of which none follows a 0.
+#[tactic(auto, using(crate::proofs::Tests::modes_none, crate::proofs::Tests::modes_stop, crate::proofs::Tests::modes_on))]
 fn modes_fine(modes: u32) -> bool
     ensures { result ≡ good_modes 8 modes }
 {
     let mut m = modes;
-    let mut left: usize = Node::MODES;
-    while 0 < left {
-        let digit = Mode::new(m % Mode::BASE);
-        if digit.number == Mode::NONE {
+    for _ in 0..Node::MODES {
+        if m % Mode::BASE == Mode::None as u32 {
             return m == 0;
         }
-        m = m / Mode::BASE;
-        left -= 1;
+        m /= Mode::BASE;
     }
     m == 0
 }
 
 // Whether a node of this kind may have this value and this many children.
+#[tactic(auto, unfolding(format::specs::Rules::good_kind))]
 fn kind_fine(names: usize, kind: u8, value: u32, kids: usize) -> bool
     ensures { result ≡ good_kind names kind value kids }
 {
-    if kind == Kind::VAR {
-        if names <= value as usize {
-            return false;
-        }
-        return kids == 0;
+    if kind == Kind::Var as u8 {
+        return (value as usize) < names && kids == 0;
     }
-    if kind == Kind::FUNC {
+    if kind == Kind::Func as u8 {
         let arguments = (value % Node::HALF) as usize;
-        if kids < arguments {
-            return false;
-        }
-        return modes_fine(value / Node::HALF);
+        return arguments <= kids && modes_fine(value / Node::HALF);
     }
-    if Kind::INIT < kind {
+    if kind > Kind::Init as u8 || value != 0 {
         return false;
     }
-    if value != 0 {
-        return false;
+    if kind < Kind::Var as u8 {
+        kids == 0
+    } else if kind <= Kind::Vec as u8 {
+        kids == 1
+    } else {
+        kind != Kind::Class as u8 || 0 < kids
     }
-    if kind < Kind::VAR {
-        return kids == 0;
-    }
-    if kind <= Kind::VEC {
-        return kids == 1;
-    }
-    if kind == Kind::CLASS {
-        return 0 < kids;
-    }
-    true
 }
 
 // Whether a node of this kind may stand at this place.
-fn place_fine(place: Place, kind: Kind) -> bool
-    ensures { result ≡ good_place place kind.number }
+#[tactic(auto, unfolding(format::specs::Rules::good_place))]
+fn place_fine(place: Place, kind: u8) -> bool
+    ensures { result ≡ good_place place kind }
 {
     match place {
         Place::Root => true,
-        Place::Field => kind.number != Kind::INIT,
-        Place::Method => kind.number != Kind::INIT,
-        Place::Inner => kind.number != Kind::INIT,
+        _ => kind != Kind::Init as u8,
     }
-}
-
-// Whether a node without a label is stored so.
-fn unlabelled(kind: u8, label: u32) -> bool
-    ensures { result ≡ good_label 0 Place.Inner kind label }
-{
-    if kind != Label::NONE {
-        return false;
-    }
-    label == 0
 }
 
 // Whether a node at this place may have this label.
+#[tactic(auto, unfolding(format::specs::Rules::good_label))]
 fn label_fine(names: usize, place: Place, kind: u8, label: u32) -> bool
     ensures { result ≡ good_label names place kind label }
 {
     match place {
-        Place::Root => unlabelled(kind, label),
-        Place::Inner => unlabelled(kind, label),
-        Place::Method => {
-            if kind != Label::NAMED {
-                return false;
-            }
-            (label as usize) < names
-        }
-        Place::Field => {
-            if kind == Label::NAMED {
-                return (label as usize) < names;
-            }
-            if kind == Label::ID {
-                return true;
-            }
-            kind == Label::UNNAMED
-        }
+        Place::Root | Place::Inner => kind == LabelKind::None as u8 && label == 0,
+        Place::Method => kind == LabelKind::Named as u8 && (label as usize) < names,
+        Place::Field if kind == LabelKind::Named as u8 => (label as usize) < names,
+        Place::Field => kind == LabelKind::Id as u8 || kind == LabelKind::Unnamed as u8,
     }
 }
 
 // Whether a node with this many children may stand at this place.
+#[tactic(auto, unfolding(format::specs::Rules::good_row))]
 fn node_fine(names: usize, place: Place, node: Node, kids: usize) -> bool
     ensures { result ≡ good_row names place (as_row node) kids }
 {
-    if !kind_fine(names, node.kind, node.value, kids) {
-        return false;
-    }
-    if !place_fine(place, Kind::new(node.kind)) {
-        return false;
-    }
-    label_fine(names, place, node.label_kind, node.label)
+    kind_fine(names, node.kind, node.value, kids)
+        && place_fine(place, node.kind)
+        && label_fine(names, place, node.label_kind, node.label)
 }
 
-// What a walk over trees finds: that they are not whole or break a rule, or how many they are.
-#[derive(Clone, Copy)]
-pub enum Walked {
-    Broken,
-    Count(usize),
-}
-
-// The trees from node `from` up to node `until`, all of which stand at `place`.
-pub(crate) fn trees(rows: &[u8], names: usize, place: Place, from: usize, until: usize) -> Walked
+// How many trees there are from node `from` up to node `until`, all of which stand at `place`; none where they are not whole or break a rule.
+pub(crate) fn trees(
+    rows: &[u8],
+    names: usize,
+    place: Place,
+    from: usize,
+    until: usize,
+) -> Option<usize>
     requires { (from ≤ until) × Within rows.now until }
     ensures { TreesAs names place rows.now from until result }
 {
     let mut i = from;
     let mut count: usize = 0;
+    // No walk of Siblings: whether these trees are whole, which it stands on, is only found out here.
     while i < until {
         let node = Node::at(rows, i);
         let size = node.size;
         if size == 0 {
-            return Walked::Broken;
+            return None;
         }
         if until - i < size {
-            return Walked::Broken;
+            return None;
         }
-        let Walked::Count(kids) = trees(rows, names, Kind::place_below(node.kind), i + 1, i + size)
-        else {
-            return Walked::Broken;
-        };
+        let kids = trees(rows, names, Kind::place_below(node.kind), i + 1, i + size)?;
         if !node_fine(names, place, node, kids) {
-            return Walked::Broken;
+            return None;
         }
         count += 1;
         i += size;
     }
-    Walked::Count(count)
+    Some(count)
 }
 
-// Whether the name a stands before the name b: by their first difference, or as its beginning.
+// Whether the name a stands before the name b: by their first difference, or as its beginning. That is a < b, but the library's `<` makes an Ordering
+// at each byte, with which the layout takes a fifth to a third longer.
 fn before(a: &[u8], b: &[u8]) -> bool
     ensures { result ≡ before a.now b.now }
 {
-    let mut i = 0;
-    while i < a.len() {
-        if b.len() <= i {
-            return false;
-        }
+    for i in 0..a.len().min(b.len()) {
         if a[i] != b[i] {
             return a[i] < b[i];
         }
-        i += 1;
     }
-    i < b.len()
+    a.len() < b.len()
 }
 
-// Whether the name from place `from` up to place `end` may follow `seen` others, the last of which lies from `last` up to `last_end`.
-fn rises(bytes: &[u8], seen: usize, last: usize, last_end: usize, from: usize, end: usize) -> bool
-    requires { (last ≤ last_end) × (last_end ≤ length bytes.now) × (from ≤ end) × (end ≤ length bytes.now) }
-    ensures { result ≡ rises_to seen (part last last_end bytes.now) (part from end bytes.now) }
+// Whether a name may stand after the name `last`, or first.
+fn rises(last: Option<&[u8]>, name: &[u8]) -> bool
+    ensures { result ≡ rises_to last.entry name.now }
 {
-    if seen == 0 {
-        return true;
-    }
-    before(&bytes[last..last_end], &bytes[from..end])
+    last.is_none_or(|last| before(last, name))
 }
 
 // Whether the bytes are `count` names, ascending.
 pub(crate) fn names_fine(bytes: &[u8], count: usize) -> bool
     ensures { Tells result (Names count bytes.now) }
 {
-    let mut at = 0;
-    let mut seen: usize = 0;
-    let mut last = 0;
-    let mut last_end = 0;
-    while at < bytes.len() {
-        let from = at + 1;
-        let size = bytes[at] as usize;
-        if bytes.len() - from < size {
+    let mut rest = bytes;
+    let mut last = None;
+    let mut seen = 0;
+    while let Some((size, after)) = rest.split_first() {
+        let Some((name, next)) = after.split_at_checked(*size as usize) else {
+            return false;
+        };
+        if !rises(last, name) {
             return false;
         }
-        let end = from + size;
-        if !rises(bytes, seen, last, last_end, from, end) {
-            return false;
-        }
+        last = Some(name);
+        rest = next;
         seen += 1;
-        last = from;
-        last_end = end;
-        at = end;
     }
     seen == count
 }
 
-// What an entry leads to: a broken book, or the node after its tree.
-#[derive(Clone, Copy)]
-pub enum Next {
-    Broken,
-    At(usize),
-}
-
-// The entry of a definition whose file is at least `file`, where the trees from node `next` up to node `nodes` are left.
-fn definition(
-    rows: &[u8],
-    names: usize,
-    files: usize,
-    nodes: usize,
-    file: u16,
-    next: usize,
-    e: Entry,
-) -> Next
-    requires { Whole rows.now next nodes }
-    ensures { DefinitionAs names files rows.now nodes file next (as_entry e) result }
+// Whether an entry may be a definition's, apart from its tree, whose file is at least `file` and whose root is node `next`.
+#[tactic(auto, unfolding(crate::specs::Steps::definition_fine))]
+fn definition_fine(c: Contents, file: u16, next: usize, e: Entry) -> bool
+    ensures { result ≡ definition_fine c.names c.files file next (as_entry e) }
 {
-    if names <= e.name as usize {
-        return Next::Broken;
-    }
-    if files <= e.owner as usize {
-        return Next::Broken;
-    }
-    if e.owner < file {
-        return Next::Broken;
-    }
-    if e.root as usize != next {
-        return Next::Broken;
-    }
-    if e.reserved != 0 {
-        return Next::Broken;
-    }
-    if nodes <= next {
-        return Next::Broken;
-    }
-    let node = Node::at(rows, next);
-    if node.kind == Kind::INIT {
-        return Next::Broken;
-    }
-    Next::At(next + node.size)
+    (e.name as usize) < c.names
+        && (e.owner as usize) < c.files
+        && file <= e.owner
+        && e.root as usize == next
+        && e.reserved == 0
 }
 
-// The definitions' entries, and the node after their trees.
-pub(crate) fn definitions(
+// The entry of a definition, whose file is at least `file` and whose tree is the first of these: the trees that are left after it.
+fn definition<'a>(c: Contents, file: u16, e: Entry, trees: Siblings<'a>) -> Option<Siblings<'a>>
+    ensures goes { IfSome result (Over trees.entry.rows.now trees.entry.until) }
+    ensures finds { DefinitionAs c.names c.files trees.entry.rows.now trees.entry.until file trees.entry.at (as_entry e) (place_of result) }
+{
+    if !definition_fine(c, file, trees.at, e) {
+        return None;
+    }
+    let mut after = trees;
+    let (_, root) = after.next()?;
+    if root.kind == Kind::Init as u8 {
+        return None;
+    }
+    Some(after)
+}
+
+// The definitions' entries, whose trees are the first of these: the trees that are left after them.
+pub(crate) fn definitions<'a>(
+    c: Contents,
     entries: &[u8],
-    rows: &[u8],
-    names: usize,
-    files: usize,
-    count: usize,
-    nodes: usize,
-) -> Next
-    requires { EntryWithin entries.now count × Whole rows.now 0 nodes }
-    ensures { DefinitionsAs names files entries.now count rows.now nodes result }
+    trees: Siblings<'a>,
+) -> Option<Siblings<'a>>
+    requires { EntryWithin entries.now c.definitions × (trees.at ≡ 0) }
+    ensures goes { IfSome result (Over trees.entry.rows.now trees.entry.until) }
+    ensures finds { DefinitionsAs c.names c.files entries.now c.definitions trees.entry.rows.now trees.entry.until (place_of result) }
 {
-    let mut d = 0;
-    let mut file: u16 = 0;
-    let mut next = 0;
-    while d < count {
+    let mut file = 0;
+    let mut left = trees;
+    for d in 0..c.definitions {
         let e = Entry::at(entries, d);
-        let Next::At(after) = definition(rows, names, files, nodes, file, next, e) else {
-            return Next::Broken;
-        };
+        left = definition(c, file, e, left)?;
         file = e.owner;
-        next = after;
-        d += 1;
     }
-    Next::At(next)
+    Some(left)
 }
 
-// Whether a file may have this role: main first, init arguments last.
-fn role_fine(main: bool, last: bool, role: Role) -> bool
-    ensures { result ≡ good_role main last role.number }
+// Whether a file may have this role: main first, init arguments last. `main` and `last` say where the file stands; each file takes the same steps.
+#[tactic(auto, unfolding(format::specs::Rules::good_role))]
+fn role_fine(main: bool, last: bool, role: u16) -> bool
+    ensures { result ≡ good_role main last role }
 {
     if main {
-        return role.number == Role::MAIN;
+        return role == Role::Main as u16;
     }
-    if role.number == Role::TYPE_IMPORT {
-        return true;
-    }
-    if role.number == Role::SERVICE_IMPORT {
-        return true;
-    }
-    if last {
-        return role.number == Role::INIT;
-    }
-    false
+    role == Role::TypeImport as u16
+        || role == Role::ServiceImport as u16
+        || last && role == Role::Init as u16
 }
 
 // Whether an entry may be a file's, apart from its tree.
-fn file_fine(names: usize, main: bool, last: bool, e: Entry) -> bool
-    ensures { Tells result (FileTests names main last (as_entry e)) }
+#[tactic(auto, unfolding(crate::specs::Steps::file_fine))]
+fn file_fine(c: Contents, main: bool, last: bool, e: Entry) -> bool
+    ensures { result ≡ file_fine c.names main last (as_entry e) }
 {
-    if names <= e.name as usize {
-        return false;
-    }
-    if !role_fine(main, last, Role::new(e.owner)) {
-        return false;
-    }
-    if e.reserved != 0 {
-        return false;
-    }
-    if e.root != Entry::NO_ROOT {
-        return true;
-    }
-    e.owner != Role::INIT
+    (e.name as usize) < c.names
+        && role_fine(main, last, e.owner)
+        && e.reserved == 0
+        && (e.root != Entry::NO_ROOT || e.owner != Role::Init as u16)
 }
 
 // Whether a tree whose root has this kind may be that of a file in this role: init arguments have both, or neither.
 fn init_fine(kind: u8, role: u16) -> bool
     ensures { result ≡ beq (eqb kind 26) (eqb role 3) }
 {
-    if kind == Kind::INIT {
-        return role == Role::INIT;
-    }
-    role != Role::INIT
+    (kind == Kind::Init as u8) == (role == Role::Init as u16)
 }
 
-// The entry of a file, where the trees from node `next` up to node `nodes` are left.
-fn file(
-    rows: &[u8],
-    names: usize,
-    nodes: usize,
+// The entry of a file, whose tree, if it has one, is the first of these: the trees that are left after it.
+fn file<'a>(
+    c: Contents,
     main: bool,
     last: bool,
-    next: usize,
     e: Entry,
-) -> Next
-    requires { Whole rows.now next nodes }
-    ensures { FileAs names rows.now nodes main last next (as_entry e) result }
+    trees: Siblings<'a>,
+) -> Option<Siblings<'a>>
+    ensures goes { IfSome result (Over trees.entry.rows.now trees.entry.until) }
+    ensures finds { FileAs c.names trees.entry.rows.now trees.entry.until main last trees.entry.at (as_entry e) (place_of result) }
 {
-    if !file_fine(names, main, last, e) {
-        return Next::Broken;
+    if !file_fine(c, main, last, e) {
+        return None;
     }
     if e.root == Entry::NO_ROOT {
-        return Next::At(next);
+        return Some(trees);
     }
-    if nodes <= next {
-        return Next::Broken;
+    let mut after = trees;
+    let (n, root) = after.next()?;
+    if e.root as usize != n || !init_fine(root.kind, e.owner) {
+        return None;
     }
-    if e.root as usize != next {
-        return Next::Broken;
-    }
-    let node = Node::at(rows, next);
-    if !init_fine(node.kind, e.owner) {
-        return Next::Broken;
-    }
-    Next::At(next + node.size)
+    Some(after)
 }
 
-// Whether the files' entries are good, and nothing is left after their trees.
-pub(crate) fn files(
-    entries: &[u8],
-    rows: &[u8],
-    names: usize,
-    count: usize,
-    nodes: usize,
-    from: usize,
-) -> bool
-    requires { EntryWithin entries.now count × Whole rows.now from nodes }
-    ensures { result ≡ good_files names true from (run (entry_at entries.now) 0 count) (row_trees rows.now from nodes) }
+// Whether the files' entries are good, and their trees are all of these.
+pub(crate) fn files(c: Contents, entries: &[u8], trees: Siblings) -> bool
+    requires { EntryWithin entries.now c.files }
+    ensures { result ≡ good_files c.names true trees.entry.at (run (entry_at entries.now) 0 c.files) (row_trees trees.entry.rows.now trees.entry.at trees.entry.until) }
 {
-    let mut f = 0;
-    let mut next = from;
-    while f < count {
+    let mut left = trees;
+    for f in 0..c.files {
         let e = Entry::at(entries, f);
-        let Next::At(after) = file(rows, names, nodes, f == 0, f + 1 == count, next, e) else {
+        let Some(after) = file(c, f == 0, f + 1 == c.files, e, left) else {
             return false;
         };
-        next = after;
-        f += 1;
+        left = after;
     }
-    next == nodes
+    left.at == left.until
 }

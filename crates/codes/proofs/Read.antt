@@ -1,26 +1,20 @@
 -- What the header reads in a code, and that codes that are read alike are of the same verdict or answer. Assumes, where a code is read, that
 -- the name and the entries are below the unit of the row: the functions know it of names by their types, and ask it of entries.
---     passed-read, refused-read              a verdict is read
---     given-read, refusal-read               an answer is read
---     crossed-read, alias-read               an alias chain's is read
+--     refusal-read                           a refusal is read
 --     answer-settled, uses-settled, ..       answers that are read alike are the same
 --     verdict-settled                        and verdicts, where one is not refused with row 16
 use mathlib.Core.Path.{◌≡◌, refl, sym, ap, ◌∙◌}
 use mathlib.Core.Logic.{inl, inr}
+use Rattle.std.specs.Prelude.{Ok, Err}
 use Prim.Native.Nat.{ℕ, ◌+◌, ◌*◌, ◌/◌, ◌%◌, ◌≤◌, ◌<◌}
 use native.Mathlib.Nat.{add-zero, div-eq_of_lt, mod-eq_of_lt, mul-add-div_right, mul-add-mod_self_right}
 use native.Mathlib.Decide.{ℕ_discrete}
 use native.Mathlib.Omega.{arith}
 use Rattle.refusals.specs.declared.Refusal.{Refusal}
 use Rattle.refusals.specs.declared.Refusal.TheVariants.{Short}
-use Rattle.refusals.specs.declared.Verdict.{Verdict}
-use Rattle.refusals.specs.declared.Verdict.TheVariants.{Passed, Refused}
+use Rattle.refusals.specs.Verdict.{Verdict}
 use Rattle.refusals.specs.Refusal.{number_of, name_of, needed_of}
-use Rattle.refusals.specs.declared.Answer.{Answer}
-use Rattle.refusals.specs.declared.Answer.TheVariants.{Given, Refused as RefusedAnswer}
-use Rattle.refusals.specs.declared.Crossed.{Crossed}
-use Rattle.refusals.specs.declared.AliasAnswer.{AliasAnswer}
-use Rattle.refusals.specs.declared.AliasAnswer.TheVariants.{Given as GivenAlias, Refused as RefusedAlias}
+use Rattle.refusals.specs.Handed.{Answer, AliasAnswer}
 use Rattle.refusals.proofs.Refusals.{number-some, needed-short, row-short, row-settles}
 use Rattle.codes.specs.Coded.{low_of, refusal_in, name_in, entries_in, uses_refusal_in, uses_name_in, uses_entries_in, alias_names_in, alias_last_in, SaysVerdict, SaysWhy, SaysAnswer, SaysAlias, ReadVerdict, ReadAnswer, ReadUses, ReadAlias}
 use Rattle.codes.proofs.Codes.{low-needed, low-name}
@@ -32,41 +26,18 @@ high unit number low h = mul-add-div_right (omega arith) number low ∙ rw (div-
 lower : (unit number low : ℕ) → low < unit → (number * unit + low) % unit ≡ low
 lower unit number low h = mul-add-mod_self_right number unit low ∙ mod-eq_of_lt h
 
--- ---- Verdicts
-pub passed-read : {v : Verdict} → v ≡ Passed → ReadVerdict v 0
-passed-read e = rw e refl
-
-pub refused-read : {v : Verdict} {why : Refusal} {number name : ℕ} → v ≡ Refused why → number ≡ number_of why → name ≡ name_of why → name < 65536 →
-    ReadVerdict v (number * 65536 + name)
-refused-read {why = why} {number = number} {name = name} e f g h =
-    let r = high 65536 number name h in
-    rw e (record { some = omega (arith, number-some why); number = r ∙ f; name = lower 65536 number name h ∙ g })
-
--- ---- Answers
-module _ (unit : ℕ) where
-  pub given-read : {a : Answer} {n : ℕ} → a ≡ Given n → n < unit → SaysAnswer a (n / unit) (n % unit) (n % unit)
-  given-read e h = rw e (div-eq_of_lt h, mod-eq_of_lt h)
-
-  pub refusal-read : {a : Answer} {why : Refusal} {number low : ℕ} → a ≡ RefusedAnswer why → number ≡ number_of why → low ≡ low_of why → low < unit →
-      let code = number * unit + low in SaysAnswer a (code / unit) (code % unit) (code % unit)
-  refusal-read {why = why} {number = number} {low = low} e f g h =
-      let r = high unit number low h ∙ f in
-      let l = lower unit number low h ∙ g in
-      rw e (record {
-        some = omega (arith, number-some why);
-        number = r;
-        name = λ n. l ∙ low-name why (λ s. n (r ∙ s));
-        needed = λ s. l ∙ low-needed why (sym r ∙ s);
-      })
-
--- ---- Alias chains
-pub crossed-read : {a : AliasAnswer} {c : Crossed} → a ≡ GivenAlias c → c.names < 65536 → c.last < 65536 → ReadAlias a (c.names * 65536 + c.last)
-crossed-read {c = c} e h k =
-    let few : c.names * 65536 + c.last < 4294967296 = omega arith in
-    rw e (div-eq_of_lt few, ap (λ (x : ℕ). x / 65536) (mod-eq_of_lt few) ∙ high 65536 c.names c.last k, lower 65536 c.names c.last k)
-
-pub alias-read : {a : AliasAnswer} {why : Refusal} (code : ℕ) → a ≡ RefusedAlias why → ReadUses (RefusedAnswer why) code → ReadAlias a code
-alias-read code e r = rw e r
+-- ---- A refusal in the place of an answer
+pub refusal-read : (unit : ℕ) {a : Answer} {why : Refusal} {number low : ℕ} → a ≡ Err why → number ≡ number_of why → low ≡ low_of why → low < unit →
+    let code = number * unit + low in SaysAnswer a (code / unit) (code % unit) (code % unit)
+refusal-read unit {why = why} {number = number} {low = low} e f g h =
+    let r = high unit number low h ∙ f in
+    let l = lower unit number low h ∙ g in
+    rw e (record {
+      some = omega (arith, number-some why);
+      number = r;
+      name = λ n. l ∙ low-name why (λ s. n (r ∙ s));
+      needed = λ s. l ∙ low-needed why (sym r ∙ s);
+    })
 
 -- ---- What is read alike is the same
 not-read : {A : Type 0} {n : ℕ} → n ≡ 0 → 1 ≤ n → A
@@ -89,24 +60,24 @@ module _ (refusal named : ℕ) where
       go (no n) = other-same r s x.number y.number n (x.name n) (y.name n)
 
   answer-same : (entries : ℕ) (a b : Answer) → SaysAnswer a refusal named entries → SaysAnswer b refusal named entries → a ≡ b
-  answer-same entries (Given n) (Given m) x y = ap Given (sym x.1 ∙ y.1)
-  answer-same entries (Given n) (RefusedAnswer s) x y = not-read x.0 y.some
-  answer-same entries (RefusedAnswer r) (Given m) x y = not-read y.0 x.some
-  answer-same entries (RefusedAnswer r) (RefusedAnswer s) x y = ap RefusedAnswer (why-same entries r s x y)
+  answer-same entries (Ok n) (Ok m) x y = ap Ok (sym x.1 ∙ y.1)
+  answer-same entries (Ok n) (Err s) x y = not-read x.0 y.some
+  answer-same entries (Err r) (Ok m) x y = not-read y.0 x.some
+  answer-same entries (Err r) (Err s) x y = ap Err (why-same entries r s x y)
 
   alias-same : (entries names last : ℕ) (a b : AliasAnswer) → SaysAlias a refusal named entries names last → SaysAlias b refusal named entries names last → a ≡ b
-  alias-same entries names last (GivenAlias c) (GivenAlias d) x y =
-      ap GivenAlias (λ i. record { names = (sym x.1 ∙ y.1) i; last = (sym x.2 ∙ y.2) i })
-  alias-same entries names last (GivenAlias c) (RefusedAlias s) x y = not-read x.0 y.some
-  alias-same entries names last (RefusedAlias r) (GivenAlias d) x y = not-read y.0 x.some
-  alias-same entries names last (RefusedAlias r) (RefusedAlias s) x y = ap RefusedAlias (why-same entries r s x y)
+  alias-same entries names last (Ok c) (Ok d) x y =
+      ap Ok (λ i. record { names = (sym x.1 ∙ y.1) i; last = (sym x.2 ∙ y.2) i })
+  alias-same entries names last (Ok c) (Err s) x y = not-read x.0 y.some
+  alias-same entries names last (Err r) (Ok d) x y = not-read y.0 x.some
+  alias-same entries names last (Err r) (Err s) x y = ap Err (why-same entries r s x y)
 
   -- a verdict's code has no entries needed
-  verdict-same : (v w : Verdict) → ((r : Refusal) → v ≡ Refused r → number_of r ≡ 16 → ⊥) → SaysVerdict v refusal named → SaysVerdict w refusal named → v ≡ w
-  verdict-same Passed Passed n x y = refl
-  verdict-same Passed (Refused s) n x y = not-read x y.some
-  verdict-same (Refused r) Passed n x y = not-read y x.some
-  verdict-same (Refused r) (Refused s) n x y = ap Refused (other-same r s x.number y.number (λ e. n r refl (sym x.number ∙ e)) x.name y.name)
+  verdict-same : (v w : Verdict) → ((r : Refusal) → v ≡ Err r → number_of r ≡ 16 → ⊥) → SaysVerdict v refusal named → SaysVerdict w refusal named → v ≡ w
+  verdict-same (Ok a) (Ok b) n x y = refl
+  verdict-same (Ok tt) (Err s) n x y = not-read x y.some
+  verdict-same (Err r) (Ok tt) n x y = not-read y x.some
+  verdict-same (Err r) (Err s) n x y = ap Err (other-same r s x.number y.number (λ e. n r refl (sym x.number ∙ e)) x.name y.name)
 
 pub answer-settled : (a b : Answer) (code : ℕ) → ReadAnswer a code → ReadAnswer b code → a ≡ b
 answer-settled a b code = answer-same (refusal_in code) (name_in code) (entries_in code) a b
@@ -117,5 +88,5 @@ uses-settled a b code = answer-same (uses_refusal_in code) (uses_name_in code) (
 pub alias-settled : (a b : AliasAnswer) (code : ℕ) → ReadAlias a code → ReadAlias b code → a ≡ b
 alias-settled a b code = alias-same (uses_refusal_in code) (uses_name_in code) (uses_entries_in code) (alias_names_in code) (alias_last_in code) a b
 
-pub verdict-settled : (v w : Verdict) (code : ℕ) → ((r : Refusal) → v ≡ Refused r → number_of r ≡ 16 → ⊥) → ReadVerdict v code → ReadVerdict w code → v ≡ w
+pub verdict-settled : (v w : Verdict) (code : ℕ) → ((r : Refusal) → v ≡ Err r → number_of r ≡ 16 → ⊥) → ReadVerdict v code → ReadVerdict w code → v ≡ w
 verdict-settled v w code = verdict-same (refusal_in code) (name_in code) v w

@@ -1,18 +1,14 @@
 -- Verdicts and answers as one number each, and how include/ludzepin.h takes them apart again. Definitions; assumes nothing.
-use Rattle.std.specs.Prelude.{◌≡◌, cond, ℕ, ◌+◌, ◌*◌, ◌/◌, ◌%◌, ◌≤◌, ◌<◌, eqb}
+use Rattle.std.specs.Prelude.{◌≡◌, cond, ℕ, ◌+◌, ◌*◌, ◌/◌, ◌%◌, ◌≤◌, ◌<◌, eqb, Ok, Err}
 use Rattle.refusals.specs.declared.Refusal.{Refusal}
-use Rattle.refusals.specs.declared.Verdict.{Verdict}
-use Rattle.refusals.specs.declared.Verdict.TheVariants.{Passed, Refused}
+use Rattle.refusals.specs.Verdict.{Verdict}
 use Rattle.refusals.specs.Refusal.{number_of, name_of, needed_of}
-use Rattle.refusals.specs.declared.Answer.{Answer}
-use Rattle.refusals.specs.declared.Answer.TheVariants.{Given, Refused as RefusedAnswer}
-use Rattle.refusals.specs.declared.AliasAnswer.{AliasAnswer}
-use Rattle.refusals.specs.declared.AliasAnswer.TheVariants.{Given as GivenAlias, Refused as RefusedAlias}
+use Rattle.refusals.specs.Handed.{Answer, AliasAnswer}
 
 -- 0 where it passes; else the refusal's number in the high 16 bits, and in the low ones the number of its name, 65,535 for none.
 unfoldable pub coded : Verdict → ℕ
-coded Passed = 0
-coded (Refused r) = number_of r * 65536 + name_of r
+coded (Ok tt) = 0
+coded (Err r) = number_of r * 65536 + name_of r
 
 -- The low bits of a refused question: the entries needed of row 16, else the name.
 unfoldable pub low_of : Refusal → ℕ
@@ -20,13 +16,13 @@ low_of r = cond (eqb (number_of r) 16) (needed_of r) (name_of r)
 
 -- The number of entries; or the refusal's row times a unit that is above entries and names alike, and the low bits.
 unfoldable pub coded_by : ℕ → Answer → ℕ
-coded_by unit (Given n) = n
-coded_by unit (RefusedAnswer r) = number_of r * unit + low_of r
+coded_by unit (Ok n) = n
+coded_by unit (Err r) = number_of r * unit + low_of r
 
 -- Entries that are given, or needed, are below it.
 abbrev pub Below : ℕ → Answer → Type 0
-Below unit (Given n) = n < unit
-Below unit (RefusedAnswer r) = needed_of r < unit
+Below unit (Ok n) = n < unit
+Below unit (Err r) = needed_of r < unit
 
 -- In 32 bits, of which a refusal's row takes the high 16; and in 64 for uses, of which a book may have 3,143,680.
 abbrev pub small : ℕ
@@ -44,8 +40,8 @@ coded_uses a = coded_by wide a
 -- Of an alias chain, in 64 bits too: of the low 32 the high half has the names crossed, the low half the last of them. A refusal is as that of
 -- uses.
 unfoldable pub coded_alias : AliasAnswer → ℕ
-coded_alias (GivenAlias c) = c.names * 65536 + c.last
-coded_alias (RefusedAlias r) = coded_uses (RefusedAnswer r)
+coded_alias (Ok c) = c.names * 65536 + c.last
+coded_alias (Err r) = coded_uses (Err r)
 
 -- ---- The arithmetic of include/ludzepin.h, a definition for each function there. No proof reads that file, so its text is to be held
 -- against these lines: `answer >> 16` is a division by 2^16, `answer & 65535` its remainder; of uses likewise `answer >> 32` and the cast of
@@ -81,8 +77,8 @@ pub record SaysRefused (r : Refusal) (refusal named : ℕ) : Type 0 where
   pub name : named ≡ name_of r
 
 abbrev pub SaysVerdict : Verdict → (refusal named : ℕ) → Type 0
-SaysVerdict Passed refusal named = refusal ≡ 0
-SaysVerdict (Refused r) refusal named = SaysRefused r refusal named
+SaysVerdict (Ok tt) refusal named = refusal ≡ 0
+SaysVerdict (Err r) refusal named = SaysRefused r refusal named
 
 -- And what an answer is: refusal 0 and the entries where they are given, else the row, which is never 0, with the entries needed of row 16
 -- and the name of any other.
@@ -93,13 +89,13 @@ pub record SaysWhy (r : Refusal) (refusal named entries : ℕ) : Type 0 where
   pub needed : refusal ≡ 16 → entries ≡ needed_of r
 
 abbrev pub SaysAnswer : Answer → (refusal named entries : ℕ) → Type 0
-SaysAnswer (Given n) refusal named entries = (refusal ≡ 0) × (entries ≡ n)
-SaysAnswer (RefusedAnswer r) refusal named entries = SaysWhy r refusal named entries
+SaysAnswer (Ok n) refusal named entries = (refusal ≡ 0) × (entries ≡ n)
+SaysAnswer (Err r) refusal named entries = SaysWhy r refusal named entries
 
 -- Of an alias chain: refusal 0, the names crossed and the last of them; else as of any answer.
 abbrev pub SaysAlias : AliasAnswer → (refusal named entries names last : ℕ) → Type 0
-SaysAlias (GivenAlias c) refusal named entries names last = (refusal ≡ 0) × (names ≡ c.names) × (last ≡ c.last)
-SaysAlias (RefusedAlias r) refusal named entries names last = SaysWhy r refusal named entries
+SaysAlias (Ok c) refusal named entries names last = (refusal ≡ 0) × (names ≡ c.names) × (last ≡ c.last)
+SaysAlias (Err r) refusal named entries names last = SaysWhy r refusal named entries
 
 -- What the header reads in a number is this verdict, or this answer. No two answers are read alike in a number (proofs/Read.antt), and no two
 -- verdicts of a check (exports, proofs/Settled.antt).

@@ -2,42 +2,55 @@
 // of include/ludzepin.h gives back from it what is said (`read`).
 #![tactic(auto)]
 
-ghost use Rattle.std.specs.Prelude.{◌≡◌, ◌<◌};
+ghost use Rattle.std.specs.Prelude.{◌≡◌, ℕ, ◌≤◌, ◌<◌, ◌/◌, ◌%◌};
 ghost use Rattle.refusals.specs.Refusal.{needed_of};
-ghost use Rattle.refusals.specs.declared.Answer.TheVariants.{Refused};
-ghost use Rattle.codes.specs.Coded.{coded, low_of, coded_answer, coded_uses, coded_alias, Below, small, wide, ReadVerdict, ReadAnswer, ReadUses, ReadAlias};
+ghost use Rattle.codes.specs.Coded.{coded, low_of, coded_by, coded_answer, coded_uses, coded_alias, Below, small, wide, SaysAnswer, ReadVerdict, ReadAnswer, ReadUses, ReadAlias};
 
 use refusals::{AliasAnswer, Answer, Refusal, Verdict};
 
-// A refusal's number stands above what it tells: a name's number, or the entries needed.
-const BELOW: u32 = 65536;
+// A refusal's number stands above what it tells: a name's number, or the entries needed. C wants one number, so no enum comes here.
+const BELOW: u64 = 65536;
 
 // There may be more uses.
 const BELOW_USES: u64 = 4294967296;
 
-// The refusal that tells the entries needed.
-const SHORT: u16 = 16;
-
 // A verdict as one number.
+#[tactic(auto, unfolding(crate::specs::Coded::coded))]
 pub fn code(v: Verdict) -> u32
     ensures answer { result ≡ coded v }
     ensures read { ReadVerdict v result }
 {
     match v {
-        Verdict::Passed => 0,
-        Verdict::Refused(why) => why.number() as u32 * BELOW + why.name() as u32,
+        Ok(()) => 0,
+        Err(why) => (u64::from(why.number()) * BELOW + u64::from(why.name())) as u32,
     }
 }
 
 // The low bits of a refusal's number.
+#[tactic(auto, unfolding(crate::specs::Coded::low_of))]
 fn low(why: Refusal) -> u32
     ensures is { result ≡ low_of why }
-    ensures small { needed_of why < 65536 → result < 65536 }
+    ensures below { (unit : ℕ) → 65536 ≤ unit → needed_of why < unit → result < unit }
 {
-    if why.number() == SHORT {
-        return why.needed();
+    match why {
+        Refusal::Short(needed) => needed,
+        _ => u32::from(why.name()),
     }
-    why.name() as u32
+}
+
+// An answer as one number, where entries that are given or needed are below UNIT, and a refusal's number stands above.
+#[tactic(auto, unfolding(crate::specs::Coded::coded_by))]
+fn by_unit<const UNIT: u64>(a: Answer) -> u64
+    requires names { 65536 ≤ UNIT }
+    requires fits { UNIT ≤ 4294967296 }
+    requires entries { Below UNIT a }
+    ensures answer { result ≡ coded_by UNIT a }
+    ensures read { SaysAnswer a (result / UNIT) (result % UNIT) (result % UNIT) }
+{
+    match a {
+        Ok(n) => n as u64,
+        Err(why) => u64::from(why.number()) * UNIT + u64::from(low(why)),
+    }
 }
 
 // An answer as one number.
@@ -46,18 +59,7 @@ pub fn answer_code(a: Answer) -> u32
     ensures answer { result ≡ coded_answer a }
     ensures read { ReadAnswer a result }
 {
-    match a {
-        Answer::Given(n) => n as u32,
-        Answer::Refused(why) => why.number() as u32 * BELOW + low(why),
-    }
-}
-
-// A refusal in 64 bits.
-fn wide_code(why: Refusal) -> u64
-    ensures answer { result ≡ coded_uses (Refused why) }
-    ensures read { ReadUses (Refused why) result }
-{
-    why.number() as u64 * BELOW_USES + low(why) as u64
+    by_unit::<BELOW>(a) as u32
 }
 
 // The same for uses. What is asked keeps entries apart from refusals.
@@ -66,19 +68,17 @@ pub fn uses_code(a: Answer) -> u64
     ensures answer { result ≡ coded_uses a }
     ensures read { ReadUses a result }
 {
-    match a {
-        Answer::Given(n) => n as u64,
-        Answer::Refused(why) => wide_code(why),
-    }
+    by_unit::<BELOW_USES>(a)
 }
 
 // The same for an alias chain: the names crossed stand above the last of them.
+#[tactic(auto, unfolding(crate::specs::Coded::coded_alias))]
 pub fn alias_code(a: AliasAnswer) -> u64
     ensures answer { result ≡ coded_alias a }
     ensures read { ReadAlias a result }
 {
     match a {
-        AliasAnswer::Given(c) => c.names as u64 * 65536 + c.last as u64,
-        AliasAnswer::Refused(why) => wide_code(why),
+        Ok(c) => u64::from(c.names) * BELOW + u64::from(c.last),
+        Err(why) => by_unit::<BELOW_USES>(Err(why)),
     }
 }

@@ -1,20 +1,28 @@
 -- Numbers that stand before a place, and lists without duplicates up to it. Assumes nothing.
 --     stands-at, place-of           a number before a place stands at one of the places before it
 --     distinct-one, distinct-on     the first place, and one more
---     none-again                    a list without duplicates
---     Ascending                     the loop of `ascends`
+--     contains-stands               what `contains` answers
+--     sorted-distinct               what `is_sorted_by` answers, with each number below the next
+use mathlib.Core.Bool.{false≢true}
+use mathlib.Core.Logic.{◌⊎◌, inl, inr}
 use mathlib.Core.Path.{◌≡◌, sym}
 use mathlib.Core.List.Memᴰ
 use mathlib.Core.List.{List, [], ◌∷◌, Memᴰ}
-use Prim.Native.Nat.{ℕ, zero, suc, ◌+◌, ◌-◌, ◌≤◌, ◌<◌}
-use native.Mathlib.Numerals.{add-one}
+use Prim.Native.Nat.{ℕ, zero, suc, ◌+◌, ◌≤◌, ◌<◌}
+use native.Mathlib.Numerals.{add-one, unary_clauses}
 use native.Mathlib.Omega.{arith}
-use borrow.Author.Count.{below_more}
+use borrow.Author.Tests.{ltb-true}
 use lib.ListN.{length, get_or, take}
 use lib.Seq.{take-suc, take-length}
+use Rattle.std.specs.Bool.{Decides}
+use Rattle.std.specs.List.{list_any, IsAllAdjacentAnswer}
+use Rattle.std.specs.List.Sorted.{IsStrictlyIncreasing}
+use Rattle.std.specs.Prelude.{Bool, true, false, ◌==◌, nat_lt}
+use Rattle.std.proofs.lemmas.Bool.Decides.{Decides-eqb, Decides-or, Decides-like}
+use Rattle.std.proofs.lemmas.List.Kept.{AllPairs-from_increasing}
 use Rattle.format.specs.Distinct.{Distinct, none, more}
 use Rattle.format.proofs.Distinct.{distinct-append}
-use Rattle.duplicates.specs.Duplicate.{FirstDuplicate, StandsBefore}
+use Rattle.duplicates.specs.Duplicate.{StandsBefore}
 
 pub stands-at : (ks : List ℕ) (n i : ℕ) {k : ℕ} → i < n → n ≤ length ks → get_or ks i 0 ≡ k → Memᴰ k (take n ks)
 stands-at ks zero i h l e = absurd (omega arith)
@@ -38,27 +46,30 @@ distinct-on ks n h d new =
     rw (add-one, take-suc ks n 0 h)
     (distinct-append d (get_or ks n 0 ∷ []) (more Memᴰ.not-nil none) (λ a m q. new (Memᴰ.cast (sym (Memᴰ.eq_of_singleton q)) m)))
 
-pub none-again : (ks : List ℕ) → Distinct ks → FirstDuplicate ks (length ks)
-none-again ks d = record { inside = omega arith; distinct = rw (take-length ks) d; again = λ h. absurd (omega arith) }
+-- ---- What the library answers
+-- `contains`, over the places before place n
+pub contains-stands : (ks : List ℕ) (k : ℕ) → Decides (list_any (λ y. y == k) ks) (Memᴰ k ks)
+contains-stands [] k = (λ e. absurd (false≢true e), λ m. absurd (Memᴰ.not-nil m))
+contains-stands (x ∷ ks) k = Decides-like _ into (λ m. elim (Memᴰ.cases_cons m) [ inl e ↦ inl (sym e) | inr m ↦ inr m ]) (Decides-or _ _ (Decides-eqb x k) (contains-stands ks k))
+  where
+    into : (x ≡ k) ⊎ Memᴰ k ks → Memᴰ k (x ∷ ks)
+    into (inl e) = Memᴰ.head (sym e)
+    into (inr m) = Memᴰ.tail m
 
--- ---- The loop of `ascends`: the last number passed is the greatest
-pub record Ascending (ks : List ℕ) (n : ℕ) : Type 0 where
-  pub some : 0 < n
-  pub distinct : Distinct (take n ks)
-  pub greatest : (i : ℕ) → i < n → get_or ks i 0 ≤ get_or ks (n - 1) 0
+-- `is_sorted_by`, with each number below the next
+sorted-increasing : (ks : List ℕ) (r : Bool) → IsAllAdjacentAnswer (λ x y b. b ≡ nat_lt x y) ks r → r ≡ true → IsStrictlyIncreasing ks
+sorted-increasing ks true answer t = λ k h. ltb-true _ _ (sym (answer k 0 h))
+sorted-increasing ks false answer t = absurd (false≢true t)
 
-pub ascending-start : (ks : List ℕ) → Ascending ks 1
-ascending-start ks =
-    record {
-      some = omega arith;
-      distinct = distinct-one ks;
-      greatest = λ i h. let e : i ≡ 0 = omega arith in rw e (omega arith);
-    }
+increasing-distinct : (ks : List ℕ) → IsStrictlyIncreasing ks → Distinct ks
+increasing-distinct [] up = none
+increasing-distinct (x ∷ ks) up =
+    more
+    (λ m.
+    let p = place-of ks (length ks) {k = x} (rw (take-length ks) m) in
+    let below = AllPairs-from_increasing (x ∷ ks) up 0 (suc p.0) 0 (omega arith) (omega (arith, p.1)) in
+    omega (arith, p.2, below))
+    (increasing-distinct ks (λ k h. let z = up (suc k) (omega arith) in rw (add-one k) (simp unary_clauses at z)))
 
-pub ascending-on : {ks : List ℕ} {n : ℕ} → Ascending ks n → n < length ks → get_or ks (n - 1) 0 < get_or ks n 0 → Ascending ks (n + 1)
-ascending-on {ks} {n} a h up =
-    record {
-      some = omega arith;
-      distinct = distinct-on ks n h a.distinct (λ m. let p = place-of ks n m in let g = a.greatest p.0 p.1 in omega arith);
-      greatest = let e : n + 1 - 1 ≡ n = omega arith in rw e (below_more _ n (λ i l. omega (arith, a.greatest i l)) (omega arith));
-    }
+pub sorted-distinct : (ks : List ℕ) (r : Bool) → IsAllAdjacentAnswer (λ x y b. b ≡ nat_lt x y) ks r → r ≡ true → Distinct ks
+sorted-distinct ks r answer t = increasing-distinct ks (sorted-increasing ks r answer t)

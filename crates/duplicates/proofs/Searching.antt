@@ -5,15 +5,15 @@
 use mathlib.Core.Path.{◌≡◌, refl, sym, ap, subst, ◌∙◌}
 use mathlib.Core.List.{List}
 use mathlib.Core.Logic.{◌⊎◌, inl, inr}
-use Prim.Native.Nat.{ℕ, ◌+◌, ◌-◌, ◌*◌, ◌/◌, ◌%◌, ◌≤◌, ◌<◌}
+use Prim.Native.Nat.{ℕ, ◌+◌, ◌*◌, ◌/◌, ◌%◌, ◌≤◌, ◌<◌}
 use native.Mathlib.Nat.{mod-lt}
 use native.Mathlib.Decide.{ℕ_discrete}
 use native.Mathlib.Omega.{arith}
-use lib.ListN.{length, get_or, set, length-set, length-replicate}
+use lib.ListN.{length, get_or, set, length-set, length-replicate, replicate}
 use lib.Seq.{get_or-set_same, get_or-set_other}
 use Rattle.format.proofs.References.{everywhere}
 use Rattle.duplicates.specs.Duplicate.{StandsBefore}
-use Rattle.duplicates.specs.Tree.{no_links, linked, Way, stop, step, Tree}
+use Rattle.duplicates.specs.Tree.{linked, Way, stop, step, Tree}
 use Rattle.duplicates.proofs.Places.{place-of}
 
 -- ---- Ways
@@ -32,22 +32,17 @@ way-leaves stop apart = absurd (apart refl)
 way-leaves (step h w) apart = (h, w)
 
 -- ---- The tree of the first place
-none-linked : (size p : ℕ) → get_or (no_links size) p 0 ≡ 0
-unfolding no_links
-none-linked size p = everywhere {A = ℕ} size p 0
+none-linked : (size p : ℕ) → get_or {A = ℕ} (replicate size 0) p 0 ≡ 0
+none-linked size p = everywhere size p 0
 
-pub links-length : (size : ℕ) → length (no_links size) ≡ size
-unfolding no_links
-links-length size = length-replicate {A = ℕ} size 0
-
-pub tree-start : (ks : List ℕ) (size : ℕ) → 2 * length ks ≤ size → Tree ks (no_links size) 1
+pub tree-start : (ks : List ℕ) (size : ℕ) → 2 * length ks ≤ size → Tree ks (replicate size 0) 1
 tree-start ks size room =
     record {
-      room = omega (arith, links-length size);
+      room = omega (arith, length-replicate {A = ℕ} size 0);
       some = omega arith;
       later = λ a r h. let z = none-linked size (2 * a + r % 2) in absurd (omega arith);
       below = λ p. let z = none-linked size p in omega arith;
-      ways = λ i h. let e : i ≡ 0 = omega arith in subst (λ (j : ℕ). (s : ℕ) × Way (no_links size) 0 (get_or ks j 0) j s) (sym e) (get_or ks 0 0, stop);
+      ways = λ i h. let e : i ≡ 0 = omega arith in subst (λ (j : ℕ). (s : ℕ) × Way (replicate size 0) 0 (get_or ks j 0) j s) (sym e) (get_or ks 0 0, stop);
     }
 
 -- ---- The loop of `meet`
@@ -70,11 +65,8 @@ module _ {ks links : List ℕ} {n at rest : ℕ} (x : Search ks links n at rest)
   abbrev place : ℕ
   place = 2 * at + rest % 2
 
-  pub place-small : n < length ks → place < length links
+  place-small : n < length ks → place < length links
   place-small h = omega (arith, x.inside, x.tree.room, mod-lt rest {m = 2} (omega arith))
-
-  pub search-less : 0 < linked links at rest → n - linked links at rest < n - at
-  search-less h = omega (arith, x.tree.later at rest h, x.inside)
 
   module _ (other : get_or ks at 0 ≡ get_or ks n 0 → ⊥) where
     leaves : (i : ℕ) → i < n → get_or ks i 0 ≡ get_or ks n 0 → (0 < linked links at rest) × ((s : ℕ) × Way links (linked links at rest) (rest / 2) i s)

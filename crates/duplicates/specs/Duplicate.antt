@@ -1,14 +1,14 @@
 -- The first number of a list that stands in it before. Definitions; assumes nothing.
 use mathlib.Core.List.{List, Memᴰ}
-use Rattle.std.specs.Prelude.{ℕ, ◌≤◌, ◌<◌, length, get_or, take}
+use Rattle.std.specs.Prelude.{ℕ, ◌<◌, length, get_or, take}
 use Rattle.format.specs.Distinct.{Distinct}
 
 -- The number at place n stands before it.
 abbrev pub StandsBefore : List ℕ → ℕ → Type 0
 StandsBefore ks n = Memᴰ (get_or ks n 0) (take n ks)
 
--- No number stands twice before place r, and the one there is one of them; r is the length where no number stands twice.
+-- Place r is the first whose number stands before it: no number stands twice before.
 pub record FirstDuplicate (ks : List ℕ) (r : ℕ) : Type 0 where
-  pub inside : r ≤ length ks
+  pub inside : r < length ks
   pub distinct : Distinct (take r ks)
-  pub again : r < length ks → StandsBefore ks r
+  pub again : StandsBefore ks r

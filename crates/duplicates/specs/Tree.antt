@@ -1,11 +1,6 @@
--- A digital search tree over the places of a list, and what the functions that search say. Definitions; assumes nothing.
+-- A digital search tree over the places of a list. Definitions; assumes nothing.
 -- A place has two links, by the lowest bit of what is left of a number; 0, the root, is linked from nowhere and stands for none.
-use Rattle.std.specs.Prelude.{Bool, true, false, List, ℕ, ◌+◌, ◌*◌, ◌/◌, ◌%◌, ◌≤◌, ◌<◌, length, get_or, replicate}
-use Rattle.duplicates.specs.Duplicate.{StandsBefore}
-
--- So many links; none leads anywhere.
-unfoldable pub no_links : ℕ → List ℕ
-no_links size = replicate size 0
+use Rattle.std.specs.Prelude.{List, ℕ, ◌+◌, ◌*◌, ◌/◌, ◌%◌, ◌≤◌, ◌<◌, length, get_or}
 
 -- What a place links by the lowest bit of a number.
 abbrev pub linked : List ℕ → ℕ → ℕ → ℕ
@@ -23,12 +18,3 @@ pub record Tree (ks links : List ℕ) (n : ℕ) : Type 0 where
   pub later : (at rest : ℕ) → 0 < linked links at rest → at < linked links at rest
   pub below : (p : ℕ) → get_or links p 0 < n
   pub ways : (i : ℕ) → i < n → (s : ℕ) × Way links 0 (get_or ks i 0) i s
-
--- An answer says P where it is true, and Q where it is false.
-abbrev pub Says : Bool → Type 0 → Type 0 → Type 0
-Says true P Q = P
-Says false P Q = Q
-
--- Where the number at place n does not stand before it, place n is in the tree too.
-abbrev pub Met : List ℕ → List ℕ → ℕ → Bool → Type 0
-Met ks links n b = Says b (StandsBefore ks n) ((StandsBefore ks n → ⊥) × Tree ks links (n + 1))

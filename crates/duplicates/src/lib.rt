@@ -3,10 +3,10 @@
 // deep, one for each of its bits: no choice of numbers makes that slow, as it may make buckets of hashes.
 #![tactic(auto)]
 
-ghost use Rattle.std.specs.Prelude.{◌≡◌, true, ◌*◌, ◌≤◌, ◌<◌, length};
+ghost use Rattle.std.specs.Prelude.{◌+◌, ◌*◌, ◌≤◌, ◌<◌, length, IsTrue, MatchBool, MatchOption};
 ghost use Rattle.format.specs.Distinct.{Distinct};
 ghost use Rattle.duplicates.specs.Duplicate.{FirstDuplicate, StandsBefore};
-ghost use Rattle.duplicates.specs.Tree.{no_links, Tree, Says, Met};
+ghost use Rattle.duplicates.specs.Tree.{Tree};
 
 use format::Limits;
 
@@ -23,65 +23,29 @@ const LINKS: usize = 2 * Limits::NODES;
 
 // Whether each number is greater than the one before, so that none stands twice.
 fn ascends(keys: &[u32]) -> bool
-    ensures { result ≡ true → Distinct keys.now }
+    ensures { IsTrue result → Distinct keys.now }
 {
-    let mut n = 1;
-    while n < keys.len() {
-        if keys[n] <= keys[n - 1] {
-            return false;
-        }
-        n += 1;
-    }
-    true
-}
-
-// Whether the number at place n stands before it.
-fn stands_before(keys: &[u32], n: usize) -> bool
-    requires { n < length keys.now }
-    ensures { Says result (StandsBefore keys.now n) (StandsBefore keys.now n → ⊥) }
-{
-    let key = keys[n];
-    let mut i = 0;
-    while i < n {
-        if keys[i] == key {
-            return true;
-        }
-        i += 1;
-    }
-    false
+    keys.is_sorted_by(|before, key| before < key)
 }
 
 // The first duplicate, each number compared with all before it.
-fn by_pairs(keys: &[u32]) -> usize
-    ensures { FirstDuplicate keys.now result }
+fn by_pairs(keys: &[u32]) -> Option<usize>
+    ensures { MatchOption result (Distinct keys.now) (λ r. FirstDuplicate keys.now r) }
 {
-    let mut n = 0;
-    while n < keys.len() {
-        if stands_before(keys, n) {
-            return n;
+    for n in 0..keys.len() {
+        if keys[..n].contains(&keys[n]) {
+            return Some(n);
         }
-        n += 1;
     }
-    n
-}
-
-// A place is linked from another by its number. 0 is none, since nothing leads to the root, place 0.
-fn few_links() -> [u16; FEW_LINKS]
-    ensures { result ≡ no_links 512 }
-{
-    [0; FEW_LINKS]
-}
-
-fn no_links() -> [u16; LINKS]
-    ensures { result ≡ no_links 8192 }
-{
-    [0; LINKS]
+    None
 }
 
 // Looks for the number at place n among those before it, by its bits from the lowest on; where it is not there, links place n in.
 fn meet(keys: &[u32], links: &mut [u16], n: usize) -> bool
-    requires { (n < length keys.now) × (length keys.now ≤ 4096) × Tree keys.now links.old n }
-    ensures { Met keys.now links.new n result }
+    requires inside { n < length keys.now }
+    requires few { length keys.now ≤ 4096 }
+    requires tree { Tree keys.now links.old n }
+    ensures { MatchBool result (StandsBefore keys.now n) (¬ StandsBefore keys.now n × Tree keys.now links.new (n + 1)) }
 {
     let key = keys[n];
     let mut at = 0;
@@ -97,40 +61,38 @@ fn meet(keys: &[u32], links: &mut [u16], n: usize) -> bool
             return false;
         }
         at = next;
-        rest = rest / 2;
+        rest /= 2;
     }
 }
 
-// The first duplicate, each number looked for in the tree of those before it.
-fn by_tree(keys: &[u32], links: &mut [u16]) -> usize
-    requires { (length keys.now ≤ 4096) × (2 * length keys.now ≤ length links.old) × (links.old ≡ no_links (length links.old)) }
-    ensures { FirstDuplicate keys.now result }
+// The first duplicate, each number looked for in the tree of those before it, over N links. A place is linked from another by its
+// number; 0 is none, since nothing leads to the root, place 0.
+fn by_tree<const N: usize>(keys: &[u32]) -> Option<usize>
+    requires few { length keys.now ≤ 4096 }
+    requires room { 2 * length keys.now ≤ N }
+    requires small { N ≤ 8192 }
+    ensures { MatchOption result (Distinct keys.now) (λ r. FirstDuplicate keys.now r) }
 {
-    let mut n = 1;
-    while n < keys.len() {
-        if meet(keys, links, n) {
-            return n;
+    let mut links = [0; N];
+    for n in 1..keys.len() {
+        if meet(keys, &mut links, n) {
+            return Some(n);
         }
-        n += 1;
     }
-    keys.len()
+    None
 }
 
-// The first place whose number stands before it, or the length where there is none.
-pub fn first_duplicate(keys: &[u32]) -> usize
+// The first place whose number stands before it.
+pub fn first_duplicate(keys: &[u32]) -> Option<usize>
     requires { length keys.now ≤ 4096 }
-    ensures { FirstDuplicate keys.now result }
+    ensures { MatchOption result (Distinct keys.now) (λ r. FirstDuplicate keys.now r) }
 {
     if ascends(keys) {
-        return keys.len();
+        return None;
     }
-    if keys.len() <= SMALL {
-        return by_pairs(keys);
+    match keys.len() {
+        ..=SMALL => by_pairs(keys),
+        ..=FEW => by_tree::<FEW_LINKS>(keys),
+        _ => by_tree::<LINKS>(keys),
     }
-    if keys.len() <= FEW {
-        let mut few = few_links();
-        return by_tree(keys, &mut few);
-    }
-    let mut links = no_links();
-    by_tree(keys, &mut links)
 }

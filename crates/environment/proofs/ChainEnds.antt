@@ -6,14 +6,13 @@
 --     name-ended               a name that the table has is on no circle
 --     length-at, reached       how many names are crossed
 use mathlib.Core.Path.{◌≡◌, refl, sym, ap, subst, ◌∙◌}
-use mathlib.Core.Bool.{false}
 use mathlib.Core.List.{List}
 use Prim.Native.Nat.{ℕ, ◌+◌, ◌≤◌, ◌<◌}
 use native.Mathlib.Decide.{ℕ_discrete}
 use native.Mathlib.Omega.{arith}
 use borrow.Author.Tests.{ne_eqb}
-use lib.Dec.{eqb}
 use lib.ListN.{length}
+use Rattle.std.specs.Prelude.{Option, Some}
 use Rattle.format.specs.Book.{Definition}
 use Rattle.format.specs.Encode.{Row}
 use Rattle.format.specs.Layout.{row_at}
@@ -23,13 +22,11 @@ use Rattle.judgement.specs.Environment.{find_type}
 use Rattle.judgement.specs.Aliases.{End, circle, ends, chain, alias_end, alias_length, name_type}
 use Rattle.judgement.proofs.Lengths.{crossed-same, crossed-most}
 use Rattle.judgement.proofs.Lengths as chains
-use Rattle.environment.specs.Tables.{name_end, end_of, end_in, crossed_in, EndAt, ChainAt, Chains, Ended, end_is, end_node, end_crossed, ReachedAs}
-use Rattle.environment.proofs.EndKinds.{is-other, is-none, is-end}
+use Rattle.environment.specs.Tables.{name_end, end_of, end_in, crossed_in, EndAt, ChainAt, Chains, Ended, end_node, end_crossed, ReachedAs}
 use Rattle.environment.proofs.Links.{head-var, head-other}
-use Rattle.environment.proofs.Names.{is-named, to-name}
-use Rattle.environment.proofs.FuncEnds.{node-ends, name-ends}
+use Rattle.environment.proofs.Names.{is-named, to-name, node-ends, name-ends}
 
-pub end-other : (ns ends' : List ℕ) (node : ℕ) (r : Row) → r ≡ row_at ns node → (r.kind ≡ 18 → ⊥) → node ≡ end_node ns ends' node
+pub end-other : (ns ends' : List ℕ) (node : ℕ) (r : Row) → r ≡ row_at ns node → (r.kind ≡ 18 → ⊥) → Some node ≡ end_node ns ends' node
 unfolding end_node
 end-other ns ends' node r is h = rw (← is, ne_eqb r.kind 18 h)
 
@@ -75,11 +72,10 @@ module _ {ns ends' : List ℕ} {node : ℕ} (s : Ended ns ends' node) where
       go (yes k) =
           let v = (row_at ns node).value in
           subst (λ (x : End). EndAt ns (end_node ns ends' node) x) (sym (name-ends s.nodes ds s.inside k))
-          (subst (λ (e : ℕ). EndAt ns e (name_end ds v (find_type ds v))) (end-named ns ends' node (row_at ns node) refl k) (c v ((s.nodes.row node s.inside).name k)).end)
+          (subst (λ (o : Option ℕ). EndAt ns o (name_end ds v (find_type ds v))) (end-named ns ends' node (row_at ns node) refl k) (c v ((s.nodes.row node s.inside).name k)).end)
       go (no k) =
-          let z : node ≡ 65535 → ⊥ = λ h. omega (arith, served-small) in
           subst (λ (x : End). EndAt ns (end_node ns ends' node) x) (sym (node-ends s.nodes ds s.inside k))
-          (subst (λ (e : ℕ). EndAt ns e (ends (tree_at ns node))) (end-other ns ends' node (row_at ns node) refl k) (z, refl))
+          (subst (λ (o : Option ℕ). EndAt ns o (ends (tree_at ns node))) (end-other ns ends' node (row_at ns node) refl k) (node, refl, refl))
 
   -- and how many names it crosses
   pub length-at : (ds : List Definition) → Chains ns ends' s.names ds → end_crossed ns ends' node ≡ alias_length ds (tree_at ns node)
@@ -97,46 +93,26 @@ module _ {ns ends' : List ℕ} {node : ℕ} (s : Ended ns ends' node) where
       go (no k) =
           sym (crossed-other ns ends' node (row_at ns node) refl k) ∙ sym (ap length (chains.crossed-other ds (tree_at ns node) (head-other t (row_at ns node) refl k)))
 
-  module _ {e : ℕ} (is : e ≡ end_node ns ends' node) where
-    pub end-inside : (e ≡ 65535 → ⊥) → e < s.count
-    end-inside z = go (ℕ_discrete (row_at ns node).kind 18)
+  module _ {e : ℕ} (is : Some e ≡ end_node ns ends' node) where
+    pub end-inside : e < s.count
+    end-inside = go (ℕ_discrete (row_at ns node).kind 18)
       where
         go : Dec ((row_at ns node).kind ≡ 18) → e < s.count
-        go (yes k) =
-            let i = is ∙ sym (end-named ns ends' node (row_at ns node) refl k) in
-            rw i (s.table.node (row_at ns node).value (λ q. z (i ∙ q)))
-        go (no k) = let i = is ∙ sym (end-other ns ends' node (row_at ns node) refl k) in omega (arith, i, s.inside)
+        go (yes k) = s.table.node (row_at ns node).value e (end-named ns ends' node (row_at ns node) refl k ∙ sym is)
+        go (no k) =
+            let same : e ≡ node = let other = end-other ns ends' node (row_at ns node) refl k in cc in
+            omega (arith, same, s.inside)
 
-    pub end-whole : (e ≡ 65535 → ⊥) → WholeAt ns e
-    end-whole z = (s.nodes.tree e (end-inside z)).whole
+    pub end-whole : WholeAt ns e
+    end-whole = (s.nodes.tree e end-inside).whole
 
 -- a name whose chain the table has is on no circle
 pub name-ended : {ns : List ℕ} (ds : List Definition) (n e : ℕ) → ChainAt ns ds n e → alias_end ds (name_type n) ≡ circle → ⊥
 name-ended {ns} ds n e c z = subst (EndAt ns (end_of e)) (sym (to-name ds (name_type n) n (is-named n)) ∙ z) c.end
 
--- the kind at the end
-module _ (kind : ℕ) (ns ends' : List ℕ) (node e : ℕ) (is : e ≡ end_node ns ends' node) where
-  pub kind-none : (s : Ended ns ends' node) → e ≡ 65535 → false ≡ end_is kind ns ends' node
-  kind-none s z = go (ℕ_discrete (row_at ns node).kind 18)
-    where
-      go : Dec ((row_at ns node).kind ≡ 18) → false ≡ end_is kind ns ends' node
-      go (yes k) = is-none kind ns ends' node (row_at ns node) refl k (end-named ns ends' node (row_at ns node) refl k ∙ sym is ∙ z)
-      go (no k) = let j : node ≡ 65535 = end-other ns ends' node (row_at ns node) refl k ∙ sym is ∙ z in absurd (omega (arith, served-small s))
-
-  pub kind-at : (e ≡ 65535 → ⊥) → (q : Row) → q ≡ row_at ns e → eqb q.kind kind ≡ end_is kind ns ends' node
-  kind-at z q w = go (ℕ_discrete (row_at ns node).kind 18)
-    where
-      go : Dec ((row_at ns node).kind ≡ 18) → eqb q.kind kind ≡ end_is kind ns ends' node
-      go (yes k) =
-          let j = end-named ns ends' node (row_at ns node) refl k in
-          is-end kind ns ends' node (row_at ns node) refl k (λ i. z (is ∙ sym j ∙ i)) e (is ∙ sym j) q w
-      go (no k) =
-          let j : node ≡ e = end-other ns ends' node (row_at ns node) refl k ∙ sym is in
-          ap (λ (r : Row). eqb r.kind kind) (w ∙ ap (row_at ns) (sym j)) ∙ is-other kind ns ends' node (row_at ns node) refl k
-
 -- so `end_of` says what it is to say
-pub reached : {ns ends' : List ℕ} {node e crossed : ℕ} → e ≡ end_node ns ends' node → crossed ≡ end_crossed ns ends' node → ReachedAs ns ends' node e crossed
-reached {ns} {ends'} {node} {e} {crossed} i j =
+pub reached : {ns ends' : List ℕ} {node crossed : ℕ} {e : Option ℕ} → e ≡ end_node ns ends' node → crossed ≡ end_crossed ns ends' node → ReachedAs ns ends' node e crossed
+reached {ns} {ends'} {node} {crossed} i j =
     record { node-is = i; crossed-is = j; length-is = long; few = λ s ds c. omega (arith, long s ds c, crossed-most ds (tree_at ns node)) }
   where
     long : (s : Ended ns ends' node) (ds : List Definition) → Chains ns ends' s.names ds → crossed ≡ alias_length ds (tree_at ns node)

@@ -1,6 +1,6 @@
 -- What a table says of definitions: one made of entries of those that the entries say, and any of some. Assumes nothing.
 --     defined-binds      a table without repeats has what the definitions say
---     defined-once       the first name defined twice is the one that the check refuses
+--     defined-once       the verdict is that of the check
 --     defined-length     there are as many definitions as entries
 --     binds-some         every table has what some definitions say
 use mathlib.Core.Path.{◌≡◌, refl, sym, ap, ◌∙◌}
@@ -19,8 +19,8 @@ use Rattle.format.specs.Layout.{run, entry_at}
 use Rattle.format.specs.Whole.{tree_at, definition_at}
 use Rattle.format.proofs.Lists.{All, all-between, run-length}
 use Rattle.refusals.specs.declared.Refusal as refusal
-use Rattle.refusals.specs.declared.Verdict.TheVariants.{Passed, Refused}
-use Rattle.refusals.specs.Verdict.{and_then, unless}
+use Rattle.refusals.specs.Verdict.{Verdict, passes, and_then, unless}
+use Rattle.std.specs.Prelude.{Err}
 use Rattle.judgement.specs.Environment.{missing, body, find_type}
 use Rattle.judgement.specs.Check.{member, once_verdict}
 use Rattle.environment.specs.Tables.{Entries, definitions_in, root_in, found_at, Binds, repeated, DefinesAs}
@@ -38,16 +38,15 @@ module _ (ns : List ℕ) where
       go true i = sym (found-some ns e.root a.0)
       go false i = i
 
-  once-in : (l : List Entry) → All (λ (e : Entry). e.name ≡ 65535 → ⊥) l → (seen : List ℕ) →
-      once_verdict seen (map (definition_at ns) l) ≡ cond (eqb (repeated seen l) 65535) Passed (Refused (refusal.Refusal.Twice (repeated seen l)))
+  once-in : (l : List Entry) (seen : List ℕ) → once_verdict seen (map (definition_at ns) l) ≡ repeated seen l
   unfolding once_verdict repeated
-  once-in [] a seen = refl
-  once-in (e ∷ l) a seen = go (member e.name seen) (once-in l a.1 (e.name ∷ seen))
+  once-in [] seen = refl
+  once-in (e ∷ l) seen = go (member e.name seen) (once-in l (e.name ∷ seen))
     where
-      go : (b : Bool) → once_verdict (e.name ∷ seen) (map (definition_at ns) l) ≡ cond (eqb (repeated (e.name ∷ seen) l) 65535) Passed (Refused (refusal.Refusal.Twice (repeated (e.name ∷ seen) l))) →
+      go : (b : Bool) → once_verdict (e.name ∷ seen) (map (definition_at ns) l) ≡ repeated (e.name ∷ seen) l →
           and_then (unless (not b) (refusal.Refusal.Twice e.name)) (once_verdict (e.name ∷ seen) (map (definition_at ns) l))
-          ≡ cond (eqb (cond b e.name (repeated (e.name ∷ seen) l)) 65535) Passed (Refused (refusal.Refusal.Twice (cond b e.name (repeated (e.name ∷ seen) l))))
-      go true i = rw (ne_eqb e.name 65535 a.0)
+          ≡ cond b (Err (refusal.Refusal.Twice e.name)) (repeated (e.name ∷ seen) l)
+      go true i = refl
       go false i = i
 
 -- ---- all entries
@@ -55,23 +54,17 @@ module _ (ns : List ℕ) {es : List ℕ} {names count from to : ℕ} (x : Entrie
   pub defined-length : length (definitions_in ns es from to) ≡ to - from
   defined-length = length-map (run (entry_at es) from (to - from)) (definition_at ns) ∙ run-length (entry_at es) from (to - from)
 
-  module _ {roots : List ℕ} {twice : ℕ} (d : DefinesAs es count from to roots twice) where
-    pub defined-binds : count ≤ 4096 → twice ≡ 65535 → Binds ns roots (definitions_in ns es from to)
-    defined-binds few t n =
-        let l = run (entry_at es) from (to - from) in
-        found-in ns l
-        (all-between (λ (e : Entry). e.root ≡ 65535 → ⊥) (entry_at es) from (to - from)
-        (λ i a b e. let f : ⊥ = omega (arith, x.root i a (omega (arith, x.ordered))) in f))
-        n
-        ∙ ap (found_at ns) (sym (d.root (sym d.twice-is ∙ t) n))
+  pub defined-binds : {roots : List ℕ} → DefinesAs es count from to roots passes → count ≤ 4096 → Binds ns roots (definitions_in ns es from to)
+  defined-binds {roots} d few n =
+      let l = run (entry_at es) from (to - from) in
+      found-in ns l
+      (all-between (λ (e : Entry). e.root ≡ 65535 → ⊥) (entry_at es) from (to - from)
+      (λ i a b e. let f : ⊥ = omega (arith, x.root i a (omega (arith, x.ordered))) in f))
+      n
+      ∙ ap (found_at ns) (sym (d.root n))
 
-    pub defined-once : names ≤ 1024 → once_verdict [] (definitions_in ns es from to) ≡ cond (eqb twice 65535) Passed (Refused (refusal.Refusal.Twice twice))
-    defined-once few =
-        once-in ns (run (entry_at es) from (to - from))
-        (all-between (λ (e : Entry). e.name ≡ 65535 → ⊥) (entry_at es) from (to - from)
-        (λ i a b e. let f : ⊥ = omega (arith, x.name i a (omega (arith, x.ordered))) in f))
-        []
-        ∙ ap (λ (m : ℕ). cond (eqb m 65535) Passed (Refused (refusal.Refusal.Twice m))) (sym d.twice-is)
+  pub defined-once : {roots : List ℕ} {v : Verdict} → DefinesAs es count from to roots v → v ≡ once_verdict [] (definitions_in ns es from to)
+  defined-once d = d.is ∙ sym (once-in ns (run (entry_at es) from (to - from)) [])
 
 -- ---- any table: a definition for each root that it has, the first root being that of name n
 module _ (ns : List ℕ) where

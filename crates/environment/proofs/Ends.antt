@@ -8,18 +8,16 @@ use native.Mathlib.Numerals.{add-one}
 use native.Mathlib.Decide.{ℕ_discrete, dec_lt}
 use native.Mathlib.Omega.{arith}
 use borrow.Author.Tests.{ne_eqb}
-use lib.ListN.{length, get_or, set, length-set}
-use lib.Seq.{get_or-set_same, get_or-set_other}
+use lib.ListN.{length, get_or}
 use Rattle.format.specs.Book.{Definition}
 use Rattle.refusals.specs.declared.Refusal as refusal
-use Rattle.refusals.specs.declared.Verdict.{Verdict}
-use Rattle.refusals.specs.Verdict.{and_then, unless}
+use Rattle.refusals.specs.Verdict.{Verdict, passes, and_then, unless}
+use Rattle.std.specs.Prelude.{Option, Some, None, Err}
 use Rattle.judgement.specs.Environment.{Found, missing, body, find_type}
 use Rattle.judgement.specs.Aliases.{End, unbound, circle, ends}
 use Rattle.judgement.specs.Check.{each_name, is_circle, circle_verdict}
 use Rattle.book.specs.Tables.{zero_table}
 use Rattle.environment.specs.Tables.{Binds, name_end, end_of, end_in, EndAt, EndKnown, FollowedAs, Unfinished, end_before, Unbegun, NotedAs, AliasEndsAs}
-use Rattle.environment.proofs.Links.{get_or-within}
 use Rattle.environment.proofs.Names.{none-known}
 use Rattle.book.proofs.Blank.{zero-length, zero-at}
 
@@ -30,7 +28,7 @@ by-end ds n missing = refl
 by-end ds n (body t) = refl
 
 -- a chain whose end the table has ends
-ended-passes : (ns : List ℕ) (e : ℕ) (x : End) → EndAt ns e x → is_circle x ≡ false
+ended-passes : (ns : List ℕ) (e : Option ℕ) (x : End) → EndAt ns e x → is_circle x ≡ false
 unfolding is_circle
 ended-passes ns e (unbound n) q = refl
 ended-passes ns e circle q = absurd q
@@ -42,48 +40,16 @@ unfolding each_name
 each-cons f n names h = let z : names - n ≡ suc (names - (n + 1)) = omega arith in rw (z, add-one n)
 
 -- ---- the table before any chain is followed
-pub begun-none : (root : ℕ) → root ≡ 65535 → 0 ≡ end_before root
+begun-none : (root : ℕ) → root ≡ 65535 → 0 ≡ end_before root
 unfolding end_before
 begun-none root e = rw e
 
-pub begun-open : (root : ℕ) → (root ≡ 65535 → ⊥) → 1 ≡ end_before root
+begun-open : (root : ℕ) → (root ≡ 65535 → ⊥) → 1 ≡ end_before root
 unfolding end_before
 begun-open root h = rw (ne_eqb root 65535 h)
 
-pub record Begun (roots : List ℕ) (names : ℕ) (ends' : List ℕ) (n : ℕ) : Type 0 where
-  pub passed : n ≤ names
-  pub table : Unbegun roots n ends'
-
-pub begun-start : (roots : List ℕ) (names : ℕ) (ends' : List ℕ) → ends' ≡ zero_table → Begun roots names ends' 0
-begun-start roots names ends' e =
-    record {
-      passed = omega arith;
-      table =
-          record { long = ap length e ∙ zero-length; before = λ m h. absurd (omega arith); beyond = λ m h. ap (λ (l : List ℕ). get_or l m 0) e ∙ zero-at m };
-    }
-
-module _ {roots : List ℕ} {names : ℕ} (long : length roots ≡ 1024) (few : names ≤ 1024) {ends' : List ℕ} {n : ℕ} (s : Begun roots names ends' n) where
-  pub begun-end : names ≤ n → Unbegun roots names ends'
-  begun-end h = let e : n ≡ names = omega (arith, s.passed) in subst (λ (m : ℕ). Unbegun roots m ends') e s.table
-
-  pub begun-on : n < names → (e : ℕ) → e ≡ end_before (get_or roots n 0) → Begun roots names (set ends' n e) (n + 1)
-  begun-on h e i =
-      record {
-        passed = omega arith;
-        table =
-            record {
-              long = simp length-set s.table.long;
-              before = λ m j. before' m j (ℕ_discrete m n);
-              beyond = λ m j. get_or-set_other ends' n m e 0 (λ z. let f : ⊥ = omega arith in f) ∙ s.table.beyond m (omega arith);
-            };
-      }
-    where
-      here : get_or (set ends' n e) n 0 ≡ end_before (get_or roots n 65535)
-      here = get_or-set_same ends' n e 0 (omega (arith, s.table.long)) ∙ i ∙ ap end_before (get_or-within roots n 0 65535 (omega arith))
-
-      before' : (m : ℕ) → m < n + 1 → Dec (m ≡ n) → get_or (set ends' n e) m 0 ≡ end_before (get_or roots m 65535)
-      before' m j (yes z) = rw z here
-      before' m j (no z) = get_or-set_other ends' n m e 0 z ∙ s.table.before m (omega arith)
+pub begun-start : {roots : List ℕ} (ends' : List ℕ) → ends' ≡ zero_table → Unbegun roots 0 ends'
+begun-start ends' e = rw e (record { long = zero-length; before = λ m h. absurd (omega arith); beyond = λ m h. zero-at m })
 
 -- ---- the loop
 abbrev verdicts : List Definition → ℕ → Verdict
@@ -116,42 +82,41 @@ ends-start ns roots names count definitions ends' u =
     known' n h q (no e) = absurd (q (u.before n h ∙ sym (begun-open (get_or roots n 65535) e)))
 
 module _ {ns roots : List ℕ} {names count definitions : ℕ} (few : names ≤ 1024) {ends' : List ℕ} {n : ℕ} (s : EndsLeft ns roots names count definitions ends' n) where
-  pub ends-end : names ≤ n → AliasEndsAs ns roots names count definitions ends' 65535
+  pub ends-end : names ≤ n → AliasEndsAs ns roots names count definitions ends' passes
   unfolding each_name
   ends-end h =
       let z : names - n ≡ 0 = omega arith in
       record {
-        nodes = λ e. record { long = s.table.long; node = λ m q. node' m q (dec_lt m names) };
-        lowest = λ ds b l. sym (s.rest ds b l) ∙ rw z;
-        all = λ e ds b l m i. (s.table.known m i (s.done m (omega arith))).is ds b;
-        beyond = λ e. s.table.beyond;
-        left = λ e. absurd (e refl);
+        nodes = record { long = s.table.long; node = λ m e q. node' m e q (dec_lt m names) };
+        lowest = λ ds b l. sym (sym (s.rest ds b l) ∙ rw z);
+        all = λ ds b l m i. (s.table.known m i (s.done m (omega arith))).is ds b;
+        beyond = s.table.beyond;
+        left = tt;
       }
     where
-      node' : (m : ℕ) → (end_in ends' m ≡ 65535 → ⊥) → Dec (m < names) → end_in ends' m < count
-      node' m q (yes i) = (s.table.known m i (s.done m (omega arith))).node q
-      node' m q (no i) = absurd (q (ap end_of (s.table.beyond m (omega arith))))
+      node' : (m e : ℕ) → end_in ends' m ≡ Some e → Dec (m < names) → e < count
+      node' m e q (yes i) = (s.table.known m i (s.done m (omega arith))).node e q
+      node' m e q (no i) = let none = ap end_of (s.table.beyond m (omega arith)) in cc
 
-  module _ (h : n < names) (e : ℕ) (x : FollowedAs ns roots count definitions n e) where
-    pub ends-circle : e ≡ 1 → {after : List ℕ} → after ≡ zero_table → AliasEndsAs ns roots names count definitions after n
+  module _ (h : n < names) where
+    pub ends-circle : FollowedAs ns roots count definitions n None → {after : List ℕ} → after ≡ zero_table → AliasEndsAs ns roots names count definitions after (Err (refusal.Refusal.Circle n))
     unfolding is_circle
-    ends-circle c z =
-        let never : n ≡ 65535 → ⊥ = λ e. let f : ⊥ = omega arith in f in
+    ends-circle x z =
         record {
-          nodes = λ e. absurd (never e);
-          lowest = λ ds b l. sym (s.rest ds b l) ∙ each-cons (verdicts ds) n names h ∙ rw (by-end ds n (find_type ds n), x.never c ds b l, ne_eqb n 65535 never);
-          all = λ e. absurd (never e);
-          beyond = λ e. absurd (never e);
-          left = λ e. z;
+          nodes = tt;
+          lowest = λ ds b l. sym (sym (s.rest ds b l) ∙ each-cons (verdicts ds) n names h ∙ rw (by-end ds n (find_type ds n), x.never ds b l));
+          all = tt;
+          beyond = tt;
+          left = z;
         }
 
-    pub ends-on : (e ≡ 1 → ⊥) → (after : List ℕ) → NotedAs ns roots names count n ends' after → EndsLeft ns roots names count definitions after (n + 1)
-    ends-on c after w =
+    pub ends-on : {e : ℕ} → EndKnown ns roots count n e → (after : List ℕ) → NotedAs ns roots names count n ends' after → EndsLeft ns roots names count definitions after (n + 1)
+    ends-on {e} x after w =
         record {
           passed = omega arith;
           table = w.table;
           rest = λ ds b l.
-              sym (each-cons (verdicts ds) n names h ∙ rw (by-end ds n (find_type ds n), ended-passes ns (end_of e) (name_end ds n (find_type ds n)) ((x.known c).is ds b).end))
+              sym (each-cons (verdicts ds) n names h ∙ rw (by-end ds n (find_type ds n), ended-passes ns (end_of e) (name_end ds n (find_type ds n)) (x.is ds b).end))
               ∙ s.rest ds b l;
           done = λ m i. done' m i (ℕ_discrete m n);
         }

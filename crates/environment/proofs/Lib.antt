@@ -1,10 +1,9 @@
 -- Laws that the proofs of the functions cite; those that are public are for callers too.
 pub mod Links
 mod Names
-mod BlankTable
+pub mod BlankTable
 mod RootTable
 mod Ends
-mod EndKinds
 pub mod Definitions
 pub mod FuncEnds
 pub mod ChainEnds

@@ -2,14 +2,14 @@
 --     chain-other, chain-unbound, ..    one link of a chain
 --     head-var, head-other              the head of a stored tree
 --     found-none, found-some            what a table of roots has
---     var-none, var-some, ..            the name that a node is
+--     row-within, name-inside           a node, and the name that it is
 --     LinkSays, Bound, link-says        what a link says of a name's definition
---     ChainLeft, chain-start, ..        the loop of `alias_end`
+--     ChainLeft, chain-step, ..        the loop of `alias_end`
 --     get_or-within, in-table             a place within a table
 use mathlib.Core.Path.{◌≡◌, refl, sym, ap, ◌∙◌}
 use mathlib.Core.List.{List, [], ◌∷◌}
+use Rattle.std.specs.Prelude.{Option, Some, None, IfSome, IfNone}
 use Prim.Native.Nat.{ℕ, zero, suc, ◌+◌, ◌-◌, ◌≤◌, ◌<◌}
-use native.Mathlib.Nat.{le_refl}
 use native.Mathlib.Decide.{ℕ_discrete}
 use native.Mathlib.Omega.{arith}
 use borrow.Author.Tests.{ne_eqb}
@@ -85,90 +85,82 @@ found-some ns root h = rw (ne_eqb root 65535 h)
 
 -- ---- the name that a node is
 module _ (ns : List ℕ) (at : ℕ) where
-  pub var-none : ((row_at ns at).kind ≡ 18 → ⊥) → var_at ns at ≡ 65535
+  var-none : ((row_at ns at).kind ≡ 18 → ⊥) → var_at ns at ≡ None
   unfolding var_at
   var-none k = rw (ne_eqb (row_at ns at).kind 18 k)
 
-  pub var-some : (row_at ns at).kind ≡ 18 → var_at ns at ≡ (row_at ns at).value
+  var-some : (row_at ns at).kind ≡ 18 → var_at ns at ≡ Some (row_at ns at).value
   unfolding var_at
   var-some k = rw k
 
-  kind-var : (var_at ns at ≡ 65535 → ⊥) → Dec ((row_at ns at).kind ≡ 18) → (row_at ns at).kind ≡ 18
-  kind-var h (yes k) = k
-  kind-var h (no k) = absurd (h (var-none k))
+  is-var : {n : ℕ} → var_at ns at ≡ Some n → Dec ((row_at ns at).kind ≡ 18) → ((row_at ns at).kind ≡ 18) × ((row_at ns at).value ≡ n)
+  is-var e (yes k) = (k, cc (var-some k))
+  is-var e (no k) = cc (var-none k)
 
 module _ {ns : List ℕ} {names count at : ℕ} (x : Nodes ns names count) (inside : at < count) where
   pub row-within : Within ns (at + 1)
   row-within = record { held = omega (arith, x.within.held); few = x.within.few }
 
-  pub row-name : (r : Row) → r ≡ row_at ns at → r.kind ≡ 18 → r.value < names
-  row-name r is k = rw is ((x.row at inside).name (ap (λ (q : Row). q.kind) (sym is) ∙ k))
+  no-name : var_at ns at ≡ None → head (tree_at ns at) ≡ other
+  no-name e = head-other (x.tree at inside).whole (row_at ns at) refl (λ k. cc (var-some ns at k))
 
-  no-name : var_at ns at ≡ 65535 → head (tree_at ns at) ≡ other
-  no-name e =
-      head-other (x.tree at inside).whole (row_at ns at) refl
-      (λ k. let z : ⊥ = omega (arith, sym (var-some ns at k) ∙ e, row-name _ refl k, x.few_names) in z)
+  module _ {n : ℕ} (e : var_at ns at ≡ Some n) where
+    a-name : head (tree_at ns at) ≡ named n
+    a-name =
+        let v = is-var ns at e (ℕ_discrete _ _) in
+        head-var (x.tree at inside).whole (row_at ns at) refl v.0 ∙ ap named v.1
 
-  module _ (some : var_at ns at ≡ 65535 → ⊥) where
-    var : (row_at ns at).kind ≡ 18
-    var = kind-var ns at some (ℕ_discrete _ _)
-
-    a-name : head (tree_at ns at) ≡ named (var_at ns at)
-    a-name = head-var (x.tree at inside).whole (row_at ns at) refl var ∙ ap named (sym (var-some ns at var))
-
-    name-inside : var_at ns at < names
-    name-inside = rw (var-some ns at var) (row-name _ refl var)
+    pub name-inside : n < names
+    name-inside =
+        let v = is-var ns at e (ℕ_discrete _ _) in
+        omega (arith, (x.row at inside).name v.0, v.1)
 
 -- ---- what a link says of a name's definition
-pub link-none : (ns : List ℕ) (root : ℕ) → root ≡ 65535 → link_of ns root ≡ record { root = root; next = 65535 }
+link-none : (ns : List ℕ) (root : ℕ) → root ≡ 65535 → link_of ns root ≡ None
 unfolding link_of
 link-none ns root e = rw e
 
-pub link-some : (ns : List ℕ) (root : ℕ) → (root ≡ 65535 → ⊥) → link_of ns root ≡ record { root = root; next = var_at ns root }
+link-some : (ns : List ℕ) (root : ℕ) → (root ≡ 65535 → ⊥) → link_of ns root ≡ Some (record { root = root; next = var_at ns root })
 unfolding link_of
 link-some ns root e = rw (ne_eqb root 65535 e)
 
-link-root : (ns : List ℕ) (root : ℕ) → (link_of ns root).root ≡ root
-unfolding link_of
-link-root ns root = refl
-
 -- where there is one
 pub record Bound (ns roots : List ℕ) (names count n : ℕ) (s : Link) : Type 0 where
-  pub some : s.root ≡ 65535 → ⊥
   pub inside : s.root < count
   pub is : (ds : List Definition) → Binds ns roots ds → find_type ds n ≡ body (tree_at ns s.root)
   pub next-is : s.next ≡ var_at ns s.root
-  pub stops : s.next ≡ 65535 → head (tree_at ns s.root) ≡ other
-  pub goes-on : (s.next ≡ 65535 → ⊥) → head (tree_at ns s.root) ≡ named s.next
-  pub next-inside : (s.next ≡ 65535 → ⊥) → s.next < names
+  pub stops : s.next ≡ None → head (tree_at ns s.root) ≡ other
+  pub goes-on : (m : ℕ) → s.next ≡ Some m → head (tree_at ns s.root) ≡ named m
+  pub next-inside : (m : ℕ) → s.next ≡ Some m → m < names
 
-pub record LinkSays (ns roots : List ℕ) (names count n : ℕ) (s : Link) : Type 0 where
-  pub root-is : s.root ≡ get_or roots n 65535
-  pub lacks : s.root ≡ 65535 → (ds : List Definition) → Binds ns roots ds → find_type ds n ≡ missing
-  pub bound : (s.root ≡ 65535 → ⊥) → Bound ns roots names count n s
+pub record LinkSays (ns roots : List ℕ) (names count n : ℕ) (s : Option Link) : Type 0 where
+  pub lacks : IfNone s ((get_or roots n 65535 ≡ 65535) × ((ds : List Definition) → Binds ns roots ds → find_type ds n ≡ missing))
+  pub bound : IfSome s (Bound ns roots names count n)
 
-pub link-says : {ns roots : List ℕ} {names count : ℕ} → Nodes ns names count → Roots roots count → (n : ℕ) (s : Link) →
+pub link-says : {ns roots : List ℕ} {names count : ℕ} → Nodes ns names count → Roots roots count → (n : ℕ) (s : Option Link) →
     s ≡ link_of ns (get_or roots n 65535) → LinkSays ns roots names count n s
-link-says {ns} {roots} {names} {count} x y n s is =
-    record { root-is = root-is; lacks = λ e ds b. b n ∙ found-none ns _ (sym root-is ∙ e); bound = bound }
+link-says {ns} {roots} {names} {count} x y n s is = go (ℕ_discrete (get_or roots n 65535) 65535)
   where
-    root-is : s.root ≡ get_or roots n 65535
-    root-is = ap (λ (q : Link). q.root) is ∙ link-root ns _
+    root : ℕ
+    root = get_or roots n 65535
 
-    bound : (s.root ≡ 65535 → ⊥) → Bound ns roots names count n s
-    bound some =
-        let here : (get_or roots n 65535 ≡ 65535 → ⊥) = λ e. some (root-is ∙ e) in
-        let inside : s.root < count = rw root-is (y.node n here) in
-        let next : s.next ≡ var_at ns s.root = ap (λ (q : Link). q.next) (is ∙ link-some ns _ here) ∙ ap (var_at ns) (sym root-is) in
-        record {
-          some = some;
-          inside = inside;
-          is = λ ds b. b n ∙ found-some ns _ here ∙ ap (λ (r : ℕ). body (tree_at ns r)) (sym root-is);
-          next-is = next;
-          stops = λ e. no-name x inside (sym next ∙ e);
-          goes-on = λ more. a-name x inside (λ e. more (next ∙ e)) ∙ ap named (sym next);
-          next-inside = λ more. rw next (name-inside x inside (λ e. more (next ∙ e)));
-        }
+    go : Dec (get_or roots n 65535 ≡ 65535) → LinkSays ns roots names count n s
+    go (yes e) = rw (is, link-none ns (get_or roots n 65535) e) (record { lacks = (e, λ ds b. b n ∙ found-none ns _ e); bound = tt })
+    go (no h) =
+        let inside : get_or roots n 65535 < count = y.node n h in
+        rw (is, link-some ns (get_or roots n 65535) h)
+        (record {
+          lacks = tt;
+          bound =
+              record {
+                inside = inside;
+                is = λ ds b. b n ∙ found-some ns _ h;
+                next-is = refl;
+                stops = λ e. no-name x inside e;
+                goes-on = λ m e. a-name x inside e;
+                next-inside = λ m e. name-inside x inside e;
+              };
+        })
 
 -- ---- the loop: what is left of the chain ends where all of it does, and crosses the names that are not crossed yet
 abbrev pub last_end : Chain → End
@@ -177,12 +169,12 @@ last_end c = c.last
 abbrev pub length_of : Chain → ℕ
 length_of c = length c.crossed
 
-pub record ChainLeft (ns roots : List ℕ) (nodes left node at n k : ℕ) : Type 0 where
+pub record ChainLeft (ns roots : List ℕ) (nodes left node at crossed : ℕ) (next : Option ℕ) : Type 0 where
   pub inside : at < nodes
-  pub name : n ≡ var_at ns at
-  pub fewer : k ≤ left
-  pub same : (ds : List Definition) → Binds ns roots ds → last_end (chain_from k ds (tree_at ns at)) ≡ last_end (chain_from left ds (tree_at ns node))
-  pub crossed : (ds : List Definition) → Binds ns roots ds → left - k + length_of (chain_from k ds (tree_at ns at)) ≡ length_of (chain_from left ds (tree_at ns node))
+  pub name : next ≡ var_at ns at
+  pub few : crossed ≤ left
+  pub same : (ds : List Definition) → Binds ns roots ds → last_end (chain_from (left - crossed) ds (tree_at ns at)) ≡ last_end (chain_from left ds (tree_at ns node))
+  pub counted : (ds : List Definition) → Binds ns roots ds → crossed + length_of (chain_from (left - crossed) ds (tree_at ns at)) ≡ length_of (chain_from left ds (tree_at ns node))
 
 pub record AliasAs (ns roots : List ℕ) (nodes left node : ℕ) (a : Alias) : Type 0 where
   pub within : InRange nodes a.end
@@ -190,58 +182,58 @@ pub record AliasAs (ns roots : List ℕ) (nodes left node : ℕ) (a : Alias) : T
   pub crossed-is : (ds : List Definition) → Binds ns roots ds → a.crossed ≡ length (chain_from left ds (tree_at ns node)).crossed
   pub few : a.crossed ≤ left
 
-pub chain-start : (ns roots : List ℕ) (nodes left node n : ℕ) → node < nodes → n ≡ var_at ns node → ChainLeft ns roots nodes left node node n left
-chain-start ns roots nodes left node n h e = record { inside = h; name = e; fewer = le_refl left; same = λ ds b. refl; crossed = λ ds b. omega arith }
-
-module _ {ns roots : List ℕ} {names nodes left node at n k : ℕ} (x : Nodes ns names nodes)
-    (l : ChainLeft ns roots nodes left node at n k) where
+module _ {ns roots : List ℕ} {names nodes left node at crossed : ℕ} {next : Option ℕ} (x : Nodes ns names nodes)
+    (l : ChainLeft ns roots nodes left node at crossed next) where
   -- nothing more is crossed
-  stopped : (e : End) → ((ds : List Definition) → Binds ns roots ds → chain_from k ds (tree_at ns at) ≡ record { crossed = []; last = e }) →
-      (a : Alias) → a.crossed ≡ left - k → InRange nodes a.end → as_end ns a.end ≡ e → AliasAs ns roots nodes left node a
+  stopped : (e : End) → ((ds : List Definition) → Binds ns roots ds → chain_from (left - crossed) ds (tree_at ns at) ≡ record { crossed = []; last = e }) →
+      (a : Alias) → a.crossed ≡ crossed → InRange nodes a.end → as_end ns a.end ≡ e → AliasAs ns roots nodes left node a
   stopped e c a j w i =
       record {
         within = w;
         is = λ ds b. i ∙ sym (ap last_end (c ds b)) ∙ l.same ds b;
-        crossed-is = λ ds b. let z : length_of (chain_from k ds (tree_at ns at)) ≡ 0 = ap length_of (c ds b) in omega (arith, l.crossed ds b);
-        few = omega arith;
+        crossed-is = λ ds b. let z : length_of (chain_from (left - crossed) ds (tree_at ns at)) ≡ 0 = ap length_of (c ds b) in omega (arith, l.counted ds b);
+        few = omega (arith, l.few);
       }
 
-  pub alias-ends : n ≡ 65535 → AliasAs ns roots nodes left node (record { crossed = left - k; end = Ends at })
+  pub alias-ends : next ≡ None → AliasAs ns roots nodes left node (record { crossed = crossed; end = Ends at })
   unfolding as_end
-  alias-ends e = stopped (ends (tree_at ns at)) (λ ds b. chain-other ds (tree_at ns at) k (no-name x l.inside (sym l.name ∙ e))) _ refl l.inside refl
+  alias-ends e = stopped (ends (tree_at ns at)) (λ ds b. chain-other ds (tree_at ns at) _ (no-name x l.inside (sym l.name ∙ e))) _ refl l.inside refl
 
-  module _ (is-name : n ≡ 65535 → ⊥) where
+  module _ {n : ℕ} (is-name : next ≡ Some n) where
     pub chain-name : n < names
-    chain-name = rw l.name (name-inside x l.inside (λ e. is-name (l.name ∙ e)))
+    chain-name = name-inside x l.inside (sym l.name ∙ is-name)
 
     here : head (tree_at ns at) ≡ named n
-    here = a-name x l.inside (λ e. is-name (l.name ∙ e)) ∙ ap named (sym l.name)
+    here = a-name x l.inside (sym l.name ∙ is-name)
 
-    module _ {s : Link} where
-      pub alias-unbound : LinkSays ns roots names nodes n s → s.root ≡ 65535 → AliasAs ns roots nodes left node (record { crossed = left - k; end = Unbound n })
+    pub alias-unbound : LinkSays ns roots names nodes n None → AliasAs ns roots nodes left node (record { crossed = crossed; end = Unbound n })
+    unfolding as_end
+    alias-unbound i = stopped (unbound n) (λ ds b. chain-unbound ds (tree_at ns at) n here _ (i.lacks.1 ds b)) _ refl tt refl
+
+    module _ {s : Link} (i : Bound ns roots names nodes n s) where
+      pub alias-circle : crossed ≡ left → AliasAs ns roots nodes left node (record { crossed = left; end = Circle })
       unfolding as_end
-      alias-unbound i e = stopped (unbound n) (λ ds b. chain-unbound ds (tree_at ns at) n here k (i.lacks e ds b)) _ refl tt refl
+      alias-circle z =
+          let none : left - crossed ≡ 0 = omega arith in
+          stopped circle
+          (λ ds b. ap (λ (m : ℕ). chain_from m ds (tree_at ns at)) none ∙ chain-circle ds (tree_at ns at) n here _ (i.is ds b))
+          _ (sym z) tt refl
 
-      module _ (i : Bound ns roots names nodes n s) where
-        pub alias-circle : k ≡ 0 → AliasAs ns roots nodes left node (record { crossed = left; end = Circle })
-        unfolding as_end
-        alias-circle z =
-            stopped circle
-            (λ ds b. ap (λ (m : ℕ). chain_from m ds (tree_at ns at)) z ∙ chain-circle ds (tree_at ns at) n here _ (i.is ds b))
-            _ (omega arith) tt refl
-
-        pub chain-step : (k ≡ 0 → ⊥) → ChainLeft ns roots nodes left node s.root s.next (k - 1)
-        chain-step z =
-            record {
-              inside = i.inside;
-              name = i.next-is;
-              fewer = omega (arith, l.fewer);
-              same = λ ds b. sym (ap last_end (crosses ds b)) ∙ l.same ds b;
-              crossed = λ ds b. omega (arith, l.fewer, ap length_of (crosses ds b), l.crossed ds b);
-            }
-          where
-            crosses : (ds : List Definition) → Binds ns roots ds → chain_from k ds (tree_at ns at) ≡ cross n (chain_from (k - 1) ds (tree_at ns s.root))
-            crosses ds b = chain-on ds (tree_at ns at) n here _ k (i.is ds b) (omega arith)
+      pub chain-step : (crossed ≡ left → ⊥) → ChainLeft ns roots nodes left node s.root (crossed + 1) s.next
+      chain-step z =
+          record {
+            inside = i.inside;
+            name = i.next-is;
+            few = omega (arith, l.few);
+            same = λ ds b. sym (ap last_end (crosses ds b)) ∙ l.same ds b;
+            counted = λ ds b. omega (arith, ap length_of (crosses ds b), l.counted ds b);
+          }
+        where
+          crosses : (ds : List Definition) → Binds ns roots ds → chain_from (left - crossed) ds (tree_at ns at) ≡ cross n (chain_from (left - (crossed + 1)) ds (tree_at ns s.root))
+          crosses ds b =
+              let one_less : left - crossed - 1 ≡ left - (crossed + 1) = omega arith in
+              chain-on ds (tree_at ns at) n here _ (left - crossed) (i.is ds b) (omega (arith, l.few))
+              ∙ ap (λ (k : ℕ). cross n (chain_from k ds (tree_at ns s.root))) one_less
 
 -- ---- a place within a list has one element, whatever stands for places beyond
 pub get_or-within : (l : List ℕ) (n a b : ℕ) → n < length l → get_or l n a ≡ get_or l n b

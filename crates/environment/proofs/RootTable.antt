@@ -12,6 +12,9 @@ use lib.Seq.{get_or-set_same, get_or-set_other}
 use Rattle.format.specs.Encode.{Entry}
 use Rattle.format.specs.Layout.{run, entry_at}
 use Rattle.format.proofs.Lists.{run-none, run-cons}
+use Rattle.refusals.specs.declared.Refusal as refusal
+use Rattle.refusals.specs.Verdict.{passes}
+use Rattle.std.specs.Prelude.{Err}
 use Rattle.judgement.specs.Check.{member}
 use Rattle.book.specs.Tables.{blank_table}
 use Rattle.environment.specs.Tables.{Entries, root_in, repeated, DefinesAs}
@@ -43,16 +46,15 @@ table-start es names count from to x =
 
 module _ {es : List ℕ} {names count from to : ℕ} (x : Entries es names count from to) (few : names ≤ 1024) (small : count ≤ 4096)
     {roots : List ℕ} {d : ℕ} (l : TableLeft es names count from to roots d) where
-  pub table-end : to ≤ d → DefinesAs es count from to roots 65535
+  pub table-end : to ≤ d → DefinesAs es count from to roots passes
   unfolding root_in repeated
   table-end h =
       let z : to - d ≡ 0 = omega arith in
-      let r : repeated [] (run (entry_at es) from (to - from)) ≡ 65535 = sym l.rest ∙ rw (z, run-none (entry_at es) d) in
       record {
-        twice-is = sym r;
-        table = λ e. record { long = l.long; node = l.node };
-        root = λ e n. go n (ℕ_discrete (get_or roots n 65535) 65535);
-        left = λ n. absurd (n refl);
+        is = sym (sym l.rest ∙ rw (z, run-none (entry_at es) d));
+        table = record { long = l.long; node = l.node };
+        root = λ n. go n (ℕ_discrete (get_or roots n 65535) 65535);
+        left = tt;
       }
     where
       go : (n : ℕ) → Dec (get_or roots n 65535 ≡ 65535) → get_or roots n 65535 ≡ root_in (run (entry_at es) from (to - from)) n
@@ -69,12 +71,10 @@ module _ {es : List ℕ} {names count from to : ℕ} (x : Entries es names count
     root-fits : e.root < count
     root-fits = rw is (x.root d l.began h)
 
-    pub table-twice : (get_or roots e.name 65535 ≡ 65535 → ⊥) → {after : List ℕ} → after ≡ blank_table → DefinesAs es count from to after e.name
+    pub table-twice : (get_or roots e.name 65535 ≡ 65535 → ⊥) → {after : List ℕ} → after ≡ blank_table → DefinesAs es count from to after (Err (refusal.Refusal.Twice e.name))
     unfolding repeated
     table-twice n z =
-        let r : repeated [] (run (entry_at es) from (to - from)) ≡ e.name = sym l.rest ∙ rw (left, l.marks e.name, ne_eqb _ _ n) in
-        let never : e.name ≡ 65535 → ⊥ = λ q. let f : ⊥ = omega (arith, name-fits) in f in
-        record { twice-is = sym r; table = λ q. absurd (never (sym r ∙ q)); root = λ q. absurd (never (sym r ∙ q)); left = λ q. z }
+        record { is = sym (sym l.rest ∙ rw (left, l.marks e.name, ne_eqb _ _ n)); table = tt; root = tt; left = z }
 
     pub table-on : get_or roots e.name 65535 ≡ 65535 → TableLeft es names count from to (set roots e.name e.root) (d + 1)
     unfolding root_in repeated member

@@ -181,7 +181,7 @@ pub blank-nodes : (count : ℕ) (table : List ℕ) → table ≡ blank_table →
 blank-nodes count table e = rw e (record { long = blank-length; node = λ n h. absurd (h (blank-at n)) })
 
 pub no-ends : (count : ℕ) (table : List ℕ) → table ≡ zero_table → EndNodes table count
-no-ends count table e = rw e (record { long = zero-length; node = λ n h. absurd (h (ap end_of (zero-at n))) })
+no-ends count table e = rw e (record { long = zero-length; node = λ n m h. let none = ap end_of (zero-at n) in cc })
 
 -- where no table is asked for
 pub top : {ns : List ℕ} {names count : ℕ} → AllTrees ns names count → {n : ℕ} → n < count → Top ns n

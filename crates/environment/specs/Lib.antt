@@ -2,3 +2,5 @@
 pub mod Tables
 pub mod Trees
 pub mod Merging
+pub mod Props
+pub mod Scopes

@@ -2,7 +2,7 @@
 use Rattle.std.specs.Prelude.{◌≡◌, Bool, true, cond, ◌&&◌, List, ℕ, ◌≤◌, ◌<◌, length, get_or, eqb}
 use Rattle.labels.specs.declared.Label.{Label}
 use Rattle.labels.specs.declared.Label.TheVariants.{Id, Named, Unnamed}
-use Rattle.book.specs.Tables.{HashesOf}
+use Rattle.book.specs.Tables.{HashesOf, HashesAgree}
 use Rattle.format.specs.declared.Place.{Place}
 use Rattle.format.specs.declared.Place.TheVariants.{Root}
 use Rattle.format.specs.Node.{Node}
@@ -33,12 +33,15 @@ hash_in hashes (Unnamed n) = 0
 unfoldable pub same_node : List (List ℕ) → Place → Node → Node → Bool
 same_node names p n m = same_kind n.kind m.kind && same_label names p n.label m.label
 
+-- What is answered where the table has the label numbers of these names.
+abbrev pub ByNames : List ℕ → (List (List ℕ) → Type 0) → Type 0
+ByNames hashes P = (names : List (List ℕ)) → HashesAgree hashes names → P names
+
 -- The trees from node a and those from node b on are trees of a book.
-pub record Compared (ns hashes : List ℕ) (a a-until b b-until : ℕ) : Type 0 where
+pub record Compared (ns : List ℕ) (a a-until b b-until : ℕ) : Type 0 where
   pub names : ℕ
   pub count : ℕ
   pub nodes : Nodes ns names count
-  pub hashed : HashTable hashes
   pub first : Whole ns a a-until
   pub first-in : a-until ≤ count
   pub second : Whole ns b b-until
@@ -56,11 +59,10 @@ pub record Mergeable (ns hashes init main : List ℕ) (names : ℕ) : Type 0 whe
   pub second : Roots main count
 
 -- A root of each table, that is none or a node.
-pub record ComparedRoots (ns hashes : List ℕ) (a b : ℕ) : Type 0 where
+pub record ComparedRoots (ns : List ℕ) (a b : ℕ) : Type 0 where
   pub names : ℕ
   pub count : ℕ
   pub nodes : Nodes ns names count
-  pub hashed : HashTable hashes
   pub first : (a ≡ 65535 → ⊥) → a < count
   pub second : (b ≡ 65535 → ⊥) → b < count
 

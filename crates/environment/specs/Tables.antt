@@ -1,5 +1,5 @@
 -- Tables by name number, and what they say of an environment. Definitions; assumes nothing.
-use Rattle.std.specs.Prelude.{◌≡◌, Bool, false, cond, List, [], ◌∷◌, map, ℕ, ◌-◌, ◌*◌, ◌/◌, ◌%◌, ◌≤◌, ◌<◌, length, get_or, eqb}
+use Rattle.std.specs.Prelude.{◌≡◌, Bool, false, cond, List, [], ◌∷◌, map, ℕ, ◌-◌, ◌*◌, ◌/◌, ◌%◌, ◌≤◌, ◌<◌, length, get_or, eqb, Option, Some, None, IfSome, IfNone, Err, OnOk, OnErr}
 use Rattle.format.specs.Book.{Definition}
 use Rattle.format.specs.Encode.{Entry}
 use Rattle.format.specs.Layout.{run, entry_at, row_at}
@@ -9,7 +9,7 @@ use Rattle.judgement.specs.Aliases.{End, unbound, circle, ends, alias_end, alias
 use Rattle.judgement.specs.Check.{member, each_name, circle_verdict}
 use Rattle.book.specs.Tables.{blank_table, zero_table}
 use Rattle.refusals.specs.declared.Refusal as refusal
-use Rattle.refusals.specs.declared.Verdict.TheVariants.{Passed, Refused}
+use Rattle.refusals.specs.Verdict.{Verdict, passes}
 use Rattle.environment.specs.declared.End as code
 use Rattle.environment.specs.declared.End.TheVariants.{Unbound, Circle, Ends}
 use Rattle.environment.specs.declared.Link.{Link}
@@ -55,19 +55,19 @@ Binds ns roots ds = (n : ℕ) → find_type ds n ≡ found_at ns (get_or roots n
 abbrev pub Tabled : List ℕ → List ℕ → ℕ → List Definition → Type 0
 Tabled ns roots definitions ds = Binds ns roots ds × (length ds ≡ definitions)
 
--- The first name that an earlier entry has; 65,535 where there is none.
-unfoldable pub repeated : List ℕ → List Entry → ℕ
-repeated seen [] = 65535
-repeated seen (e ∷ es) = cond (member e.name seen) e.name (repeated (e.name ∷ seen) es)
+-- 2: the first name that an earlier entry has.
+unfoldable pub repeated : List ℕ → List Entry → Verdict
+repeated seen [] = passes
+repeated seen (e ∷ es) = cond (member e.name seen) (Err (refusal.Refusal.Twice e.name)) (repeated (e.name ∷ seen) es)
 
 -- ---- One link of an alias chain
--- The name that a node is; 65,535 where it is none.
-unfoldable pub var_at : List ℕ → ℕ → ℕ
-var_at ns node = cond (eqb (row_at ns node).kind 18) (row_at ns node).value 65535
+-- The name that a node is.
+unfoldable pub var_at : List ℕ → ℕ → Option ℕ
+var_at ns node = cond (eqb (row_at ns node).kind 18) (Some (row_at ns node).value) None
 
--- From a name of this root to the name that its definition is; 65,535 where it has no definition too.
-unfoldable pub link_of : List ℕ → ℕ → Link
-link_of ns root = record { root = root; next = cond (eqb root 65535) 65535 (var_at ns root) }
+-- From a name of this root to where its definition stands, and the name that this is.
+unfoldable pub link_of : List ℕ → ℕ → Option Link
+link_of ns root = cond (eqb root 65535) None (Some (record { root = root; next = var_at ns root }))
 
 -- ---- The alias end, as the code answers it
 unfoldable pub as_end : List ℕ → code.End → End
@@ -80,24 +80,24 @@ InRange count (Unbound n) = Unit {0}
 InRange count Circle = Unit {0}
 InRange count (Ends n) = n < count
 
--- The table of entries: the first name defined twice, and, where there is none, the root of each name; where there is one, nothing.
-pub record DefinesAs (es : List ℕ) (count from to : ℕ) (roots : List ℕ) (twice : ℕ) : Type 0 where
-  pub twice-is : twice ≡ repeated [] (run (entry_at es) from (to - from))
-  pub table : repeated [] (run (entry_at es) from (to - from)) ≡ 65535 → Roots roots count
-  pub root : repeated [] (run (entry_at es) from (to - from)) ≡ 65535 → (n : ℕ) → get_or roots n 65535 ≡ root_in (run (entry_at es) from (to - from)) n
-  pub left : (twice ≡ 65535 → ⊥) → roots ≡ blank_table
+-- The table of entries: 2 with the first name defined twice, and, where there is none, the root of each name; where there is one, nothing.
+pub record DefinesAs (es : List ℕ) (count from to : ℕ) (roots : List ℕ) (v : Verdict) : Type 0 where
+  pub is : v ≡ repeated [] (run (entry_at es) from (to - from))
+  pub table : OnOk v (Roots roots count)
+  pub root : OnOk v ((n : ℕ) → get_or roots n 65535 ≡ root_in (run (entry_at es) from (to - from)) n)
+  pub left : OnErr v (roots ≡ blank_table)
 
 -- The end of the chain from a name's definition; a name without definition is unbound.
 unfoldable pub name_end : List Definition → ℕ → Found → End
 name_end ds n missing = unbound n
 name_end ds n (body t) = alias_end ds t
 
--- ---- A table of alias ends: for each name the number of names that its chain crosses, times 65,536, and 65,535 less the node where it ends, which
--- is 65,535 for none
-abbrev pub end_of : ℕ → ℕ
-end_of e = 65535 - e % 65536
+-- ---- A table of alias ends: for each name the number of names that its chain crosses, times 65,536, and 65,535 less the node where it ends, or 0
+-- for none
+abbrev pub end_of : ℕ → Option ℕ
+end_of e = cond (eqb (e % 65536) 0) None (Some (65535 - e % 65536))
 
-abbrev pub end_in : List ℕ → ℕ → ℕ
+abbrev pub end_in : List ℕ → ℕ → Option ℕ
 end_in ends' n = end_of (get_or ends' n 0)
 
 abbrev pub crossed_in : List ℕ → ℕ → ℕ
@@ -105,13 +105,13 @@ crossed_in ends' n = get_or ends' n 0 / 65536
 
 pub record EndNodes (ends' : List ℕ) (count : ℕ) : Type 0 where
   pub long : length ends' ≡ 1024
-  pub node : (n : ℕ) → (end_in ends' n ≡ 65535 → ⊥) → end_in ends' n < count
+  pub node : (n e : ℕ) → end_in ends' n ≡ Some e → e < count
 
 -- The node at which a chain ends.
-abbrev pub EndAt : List ℕ → ℕ → End → Type 0
-EndAt ns e (unbound n) = e ≡ 65535
-EndAt ns e circle = ⊥
-EndAt ns e (ends t) = (e ≡ 65535 → ⊥) × (t ≡ tree_at ns e)
+abbrev pub EndAt : List ℕ → Option ℕ → End → Type 0
+EndAt ns o (unbound n) = o ≡ None
+EndAt ns o circle = ⊥
+EndAt ns o (ends t) = (e : ℕ) × (o ≡ Some e) × (t ≡ tree_at ns e)
 
 -- What such a table has for a name: where the chain of its definition ends, and the length of that of the type that is the name.
 pub record ChainAt (ns : List ℕ) (ds : List Definition) (n e : ℕ) : Type 0 where
@@ -123,13 +123,13 @@ Chains ns ends' names ds = (n : ℕ) → n < names → ChainAt ns ds n (get_or e
 
 -- The same of a name whose chain ends, whatever the definitions are that the table of roots was made of.
 pub record EndKnown (ns roots : List ℕ) (count n e : ℕ) : Type 0 where
-  pub node : (end_of e ≡ 65535 → ⊥) → end_of e < count
+  pub node : (m : ℕ) → end_of e ≡ Some m → m < count
   pub is : (ds : List Definition) → Binds ns roots ds → ChainAt ns ds n e
 
--- What the table is to have for a name; 1 if its chain never ends.
-pub record FollowedAs (ns roots : List ℕ) (count definitions n e : ℕ) : Type 0 where
-  pub never : e ≡ 1 → (ds : List Definition) → Binds ns roots ds → length ds ≡ definitions → name_end ds n (find_type ds n) ≡ circle
-  pub known : (e ≡ 1 → ⊥) → EndKnown ns roots count n e
+-- What the table is to have for a name; nothing if its chain never ends.
+pub record FollowedAs (ns roots : List ℕ) (count definitions n : ℕ) (e : Option ℕ) : Type 0 where
+  pub never : IfNone e ((ds : List Definition) → Binds ns roots ds → length ds ≡ definitions → name_end ds n (find_type ds n) ≡ circle)
+  pub known : IfSome e (EndKnown ns roots count n)
 
 -- A table of alias ends that is being made: 1 for a name with a definition whose end is not known yet.
 pub record Unfinished (ns roots : List ℕ) (names count : ℕ) (ends' : List ℕ) : Type 0 where
@@ -154,14 +154,13 @@ pub record NotedAs (ns roots : List ℕ) (names count n : ℕ) (before after : L
   pub kept : (m : ℕ) → (get_or before m 0 ≡ 1 → ⊥) → get_or after m 0 ≡ get_or before m 0
   pub known : get_or after n 0 ≡ 1 → ⊥
 
--- The lowest name whose chain never ends, as the check refuses it; and, where there is none, all ends; where there is one, nothing.
-pub record AliasEndsAs (ns roots : List ℕ) (names count definitions : ℕ) (ends' : List ℕ) (circle' : ℕ) : Type 0 where
-  pub nodes : circle' ≡ 65535 → EndNodes ends' count
-  pub lowest : (ds : List Definition) → Binds ns roots ds → length ds ≡ definitions →
-      each_name (λ n. circle_verdict ds n (find_type ds n)) 0 names ≡ cond (eqb circle' 65535) Passed (Refused (refusal.Refusal.Circle circle'))
-  pub all : circle' ≡ 65535 → (ds : List Definition) → Binds ns roots ds → length ds ≡ definitions → Chains ns ends' names ds
-  pub beyond : circle' ≡ 65535 → (n : ℕ) → names ≤ n → get_or ends' n 0 ≡ 0
-  pub left : (circle' ≡ 65535 → ⊥) → ends' ≡ zero_table
+-- 7 with the lowest name whose chain never ends, as the check refuses it; and, where there is none, all ends; where there is one, nothing.
+pub record AliasEndsAs (ns roots : List ℕ) (names count definitions : ℕ) (ends' : List ℕ) (v : Verdict) : Type 0 where
+  pub nodes : OnOk v (EndNodes ends' count)
+  pub lowest : (ds : List Definition) → Binds ns roots ds → length ds ≡ definitions → v ≡ each_name (λ n. circle_verdict ds n (find_type ds n)) 0 names
+  pub all : OnOk v ((ds : List Definition) → Binds ns roots ds → length ds ≡ definitions → Chains ns ends' names ds)
+  pub beyond : OnOk v ((n : ℕ) → names ≤ n → get_or ends' n 0 ≡ 0)
+  pub left : OnErr v (ends' ≡ zero_table)
 
 -- A node of a book, with a table of alias ends.
 pub record Ended (ns ends' : List ℕ) (node : ℕ) : Type 0 where
@@ -171,16 +170,18 @@ pub record Ended (ns ends' : List ℕ) (node : ℕ) : Type 0 where
   pub table : EndNodes ends' count
   pub inside : node < count
 
--- The chain from a node ends at a node of this kind, by a table of alias ends.
-unfoldable pub end_is : ℕ → List ℕ → List ℕ → ℕ → Bool
-end_is kind ns ends' node =
-    cond (eqb (row_at ns node).kind 18)
-    (let e = end_in ends' (row_at ns node).value in cond (eqb e 65535) false (eqb (row_at ns e).kind kind))
-    (eqb (row_at ns node).kind kind)
+-- The node at which the chain from a node ends, by a table of alias ends.
+unfoldable pub end_node : List ℕ → List ℕ → ℕ → Option ℕ
+end_node ns ends' node = cond (eqb (row_at ns node).kind 18) (end_in ends' (row_at ns node).value) (Some node)
 
--- The node at which the chain from a node ends; 65,535 for none.
-unfoldable pub end_node : List ℕ → List ℕ → ℕ → ℕ
-end_node ns ends' node = cond (eqb (row_at ns node).kind 18) (end_in ends' (row_at ns node).value) node
+-- There is a node, and it is of this kind.
+abbrev pub is_kind : ℕ → List ℕ → Option ℕ → Bool
+is_kind kind ns None = false
+is_kind kind ns (Some e) = eqb (row_at ns e).kind kind
+
+-- The chain from a node ends at a node of this kind.
+unfoldable pub end_is : ℕ → List ℕ → List ℕ → ℕ → Bool
+end_is kind ns ends' node = is_kind kind ns (end_node ns ends' node)
 
 -- How many names it crosses.
 unfoldable pub end_crossed : List ℕ → List ℕ → ℕ → ℕ
@@ -188,7 +189,7 @@ end_crossed ns ends' node = cond (eqb (row_at ns node).kind 18) (crossed_in ends
 
 -- The end of the chain from a node, by the table; the count is the chain's length, whatever definitions the table is of, and at most their
 -- number.
-pub record ReachedAs (ns ends' : List ℕ) (node e crossed : ℕ) : Type 0 where
+pub record ReachedAs (ns ends' : List ℕ) (node : ℕ) (e : Option ℕ) (crossed : ℕ) : Type 0 where
   pub node-is : e ≡ end_node ns ends' node
   pub crossed-is : crossed ≡ end_crossed ns ends' node
   pub length-is : (s : Ended ns ends' node) (ds : List Definition) → Chains ns ends' s.names ds → crossed ≡ alias_length ds (tree_at ns node)

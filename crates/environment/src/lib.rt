@@ -1,69 +1,81 @@
 // What names stand for: type_env.rs. A table from name number to definition is made once a call, and so is one of alias ends, with the length of
-// each chain; both are lent by the caller.
+// each chain; both are lent by the caller, from fixed memory, so that a number in them stands for nothing: Entry::NO_ROOT, and ChainEnd::NONE.
 // Functions ask of their caller what an admitted book gives: nodes that are whole trees with numbers in range (specs/Tables.antt).
 #![tactic(auto)]
 
-ghost use Rattle.std.specs.Prelude.{◌≡◌, List, ℕ, ◌≤◌, ◌<◌, length, get_or};
+ghost use Rattle.std.specs.Prelude.{◌≡◌, List, ℕ, ◌+◌, ◌-◌, ◌/◌, ◌≤◌, ◌<◌, length, get_or};
 ghost use Rattle.format.specs.Book.{Definition};
-ghost use Rattle.format.specs.Whole.{tree_at};
-ghost use Rattle.judgement.specs.Aliases.{chain_from};
 ghost use Rattle.book.specs.Tables.{blank_table, zero_table};
-ghost use Rattle.environment.specs.Tables.{Nodes, Entries, Roots, Binds, Tabled, var_at, link_of, as_end, InRange, DefinesAs, crossed_in, Ended, EndKnown, FollowedAs, Unfinished, end_before, Unbegun, NotedAs, AliasEndsAs, ReachedAs, LookupAs};
+ghost use Rattle.environment.specs.Tables.{Nodes, Entries, Roots, Tabled, var_at, link_of, DefinesAs, end_of, crossed_in, Ended, AliasEndsAs, ReachedAs, LookupAs};
 
 pub mod merge;
+pub mod scope;
 
+use crate::scope::Scope;
 use book::kinds::Kind;
 use book::read::{Entry, Node};
 use format::Limits;
-
-// What a table of roots has for a name: a node, or NONE.
-#[derive(Clone, Copy)]
-pub struct Table {
-    pub entry: u16,
-}
-
-impl Table {
-    // No node, and no name.
-    pub const NONE: u16 = 65535;
-}
+use refusals::{Refusal, Verdict};
 
 // For each of the 1,024 names how many names its alias chain crosses, itself among them, and the node where that ends, as one number.
 pub type EndByName = [u32; Limits::NAMES];
 
-// What a table of alias ends has for a name: CROSSED for each name crossed, and how far the node is below NONE; or one of the others. So a table
+// What a table of alias ends has for a name: CROSSED for each name crossed, and how far the node is below 65,535; or NONE or OPEN. So a table
 // that has nothing is 0 throughout, which is made fastest.
 #[derive(Clone, Copy)]
-struct EndTable {
-    pub entry: u32,
-}
+pub(crate) struct ChainEnd(u32);
 
-impl EndTable {
-    const CROSSED: u32 = 65536;
+impl ChainEnd {
+    pub(crate) const CROSSED: u32 = 65536;
 
     // No node: of a name without definition, which crosses none.
-    const NONE: u32 = 0;
+    pub(crate) const NONE: u32 = 0;
 
-    // An end that is not known yet, in a table that is being made; and that of a chain that never ends. No node is so close to NONE.
-    const OPEN: u32 = 1;
+    // An end that is not known yet, in a table that is being made. No node is so close to 65,535.
+    pub(crate) const OPEN: u32 = 1;
+
+    // Of a name whose definition stands at this root, and is no name.
+    pub(crate) fn at(root: usize) -> u32
+        requires { root < 4096 }
+        ensures { result ≡ 65535 - root + 65536 }
+    {
+        65535 - root as u32 + ChainEnd::CROSSED
+    }
+
+    // The node at which the chain ends.
+    fn node(self) -> Option<u16>
+        ensures { result ≡ end_of self.0 }
+    {
+        let below = self.0 % ChainEnd::CROSSED;
+        if below == 0 {
+            None
+        } else {
+            Some((65535 - below) as u16)
+        }
+    }
+
+    // How many names it crosses.
+    fn crossed(self) -> u16
+        ensures { result ≡ self.0 / 65536 }
+    {
+        (self.0 / ChainEnd::CROSSED) as u16
+    }
 }
 
 // A table of alias ends that has nothing.
+#[tactic(auto, unfolding(book::specs::Tables::zero_table))]
 pub fn no_ends() -> EndByName
     ensures { result ≡ zero_table }
 {
-    book::tables::zeros()
+    [ChainEnd::NONE; Limits::NAMES]
 }
 
-// Takes all that a table has out of it.
+// Takes all that a table of roots has out of it: a `fill` that promises the blank table.
 pub fn clear(table: &mut [u16])
     requires { length table.old ≡ 1024 }
     ensures { table.new ≡ blank_table }
 {
-    let mut n = 0;
-    while n < Limits::NAMES {
-        table[n] = Table::NONE;
-        n += 1;
-    }
+    table.fill(Entry::NO_ROOT);
 }
 
 // The same of a table of alias ends.
@@ -71,15 +83,11 @@ pub fn clear_ends(table: &mut [u32])
     requires { length table.old ≡ 1024 }
     ensures { table.new ≡ zero_table }
 {
-    let mut n = 0;
-    while n < Limits::NAMES {
-        table[n] = EndTable::NONE;
-        n += 1;
-    }
+    table.fill(ChainEnd::NONE);
 }
 
-// Enters the definitions of entries `from` up to `to` in a table that has nothing: the first name defined twice, or NONE. With a name defined
-// twice the table has nothing, as it was lent.
+// Enters the definitions of entries `from` up to `to` in a table that has nothing: 2 with the first name defined twice. Then the table has
+// nothing, as it was lent.
 pub fn enter(
     entries: &[u8],
     names: usize,
@@ -87,62 +95,55 @@ pub fn enter(
     from: usize,
     to: usize,
     roots: &mut [u16],
-) -> u16
+) -> Verdict
     requires { Entries entries.now names nodes from to × (names ≤ 1024) × (nodes ≤ 4096) × (roots.old ≡ blank_table) }
     ensures { DefinesAs entries.now nodes from to roots.new result }
 {
-    let mut d = from;
-    while d < to {
+    for d in from..to {
         let e = Entry::at(entries, d);
         let n = e.name as usize;
-        if roots[n] != Table::NONE {
-            clear(roots);
-            return e.name;
+        if roots[n] != Entry::NO_ROOT {
+            roots.fill(Entry::NO_ROOT);
+            return Err(Refusal::Twice(e.name));
         }
         roots[n] = e.root;
-        d += 1;
     }
-    Table::NONE
+    Ok(())
 }
 
-// One link of an alias chain: where the definition of a name stands, and the name that it is. Each is NONE where there is none.
+// One link of an alias chain: where the definition of a name stands, and the name that it is.
 #[derive(Clone, Copy)]
 pub struct Link {
     pub root: usize,
-    pub next: usize,
+    pub next: Option<usize>,
 }
 
-impl Link {
-    // No node, and no name: `Table::NONE`, as wide as an index.
-    pub const NONE: usize = 65535;
-}
-
-// The name that a node is, or NONE.
-fn var_at(rows: &[u8], node: usize) -> usize
+// The name that a node is.
+#[tactic(auto, unfolding(crate::specs::Tables::var_at))]
+fn var_at(rows: &[u8], node: usize) -> Option<usize>
     requires { (names nodes : ℕ) × Nodes rows.now names nodes × (node < nodes) }
     ensures { result ≡ var_at rows.now node }
 {
     let t = Node::at(rows, node);
-    if t.kind != Kind::VAR {
-        return Link::NONE;
+    if t.kind == Kind::Var as u8 {
+        Some(t.value as usize)
+    } else {
+        None
     }
-    t.value as usize
 }
 
-// Follows a name to the next. Whoever follows an alias chain takes this step, in a loop.
-pub fn step(rows: &[u8], roots: &[u16], n: usize) -> Link
+// Follows a name to the next, where it has a definition.
+#[tactic(auto, unfolding(crate::specs::Tables::link_of))]
+pub fn step(rows: &[u8], roots: &[u16], n: usize) -> Option<Link>
     requires { (names nodes : ℕ) × Nodes rows.now names nodes × Roots roots.now nodes × (n < names) }
     ensures { result ≡ link_of rows.now (get_or roots.now n 65535) }
 {
-    let root = roots[n] as usize;
-    if root == Link::NONE {
-        return Link {
-            root,
-            next: Link::NONE,
-        };
+    if roots[n] == Entry::NO_ROOT {
+        return None;
     }
+    let root = roots[n] as usize;
     let next = var_at(rows, root);
-    Link { root, next }
+    Some(Link { root, next })
 }
 
 // Where an alias chain ends: at a name without definition, never, or at a node that is no name.
@@ -160,138 +161,7 @@ pub struct Alias {
     pub end: End,
 }
 
-// The end of the chain from a node, which crosses at most `left` names: with as many as there are definitions, one more never ends.
-pub fn alias_end(
-    rows: &[u8],
-    roots: &[u16],
-    names: usize,
-    nodes: usize,
-    left: usize,
-    node: usize,
-) -> Alias
-    requires { Nodes rows.now names nodes × Roots roots.now nodes × (node < nodes) }
-    ensures within { InRange nodes result.end }
-    ensures is { (ds : List Definition) → Binds rows.now roots.now ds →
-        as_end rows.now result.end ≡ (chain_from left ds (tree_at rows.now node)).last }
-    ensures crossed { (ds : List Definition) → Binds rows.now roots.now ds →
-        result.crossed ≡ length (chain_from left ds (tree_at rows.now node)).crossed }
-    ensures few { result.crossed ≤ left }
-{
-    let mut at = node;
-    let mut n = var_at(rows, node);
-    let mut k = left;
-    while n != Link::NONE {
-        let s = step(rows, roots, n);
-        if s.root == Link::NONE {
-            return Alias {
-                crossed: left - k,
-                end: End::Unbound(n as u16),
-            };
-        }
-        if k == 0 {
-            return Alias {
-                crossed: left,
-                end: End::Circle,
-            };
-        }
-        k -= 1;
-        at = s.root;
-        n = s.next;
-    }
-    Alias {
-        crossed: left - k,
-        end: End::Ends(at),
-    }
-}
-
-// What the table has for a name of this root before any chain is followed.
-fn end_before(root: u16) -> u32
-    ensures { result ≡ end_before root }
-{
-    if root == Table::NONE {
-        return EndTable::NONE;
-    }
-    EndTable::OPEN
-}
-
-// Opens the ends of all names that have a definition, in a table that has nothing.
-fn open_ends(roots: &[u16], names: usize, ends: &mut [u32])
-    requires { (length roots.now ≡ 1024) × (names ≤ 1024) × (ends.old ≡ zero_table) }
-    ensures { Unbegun roots.now names ends.new }
-{
-    let mut n = 0;
-    while n < names {
-        ends[n] = end_before(roots[n]);
-        n += 1;
-    }
-}
-
-// Follows the chain of a name as far as the first name on it whose end is known, and answers what the table is to have; `OPEN` if it never ends.
-// With at most 512 definitions no sum of CROSSED runs over.
-fn follow(
-    rows: &[u8],
-    roots: &[u16],
-    ends: &[u32],
-    names: usize,
-    nodes: usize,
-    definitions: usize,
-    n: usize,
-) -> u32
-    requires { Nodes rows.now names nodes × Roots roots.now nodes ×
-        Unfinished rows.now roots.now names nodes ends.now × (n < names) × ((ds : List Definition) × Tabled rows.now roots.now definitions ds) × (definitions ≤ 512) }
-    ensures { FollowedAs rows.now roots.now nodes definitions n result }
-{
-    let mut m = n;
-    let mut k = definitions;
-    let mut crossed: u32 = 0;
-    loop {
-        let known = ends[m];
-        if known != EndTable::OPEN {
-            return known + crossed;
-        }
-        if k == 0 {
-            return EndTable::OPEN;
-        }
-        k -= 1;
-        crossed += EndTable::CROSSED;
-        let s = step(rows, roots, m);
-        if s.next == Link::NONE {
-            return (Link::NONE - s.root) as u32 + crossed;
-        }
-        m = s.next;
-    }
-}
-
-// Writes down what the table is to have for a name, and for each name on its chain, as far as the first whose end is known: each crosses one name
-// less than the one before it.
-fn note(
-    rows: &[u8],
-    roots: &[u16],
-    names: usize,
-    nodes: usize,
-    n: usize,
-    end: u32,
-    ends: &mut [u32],
-)
-    requires { Nodes rows.now names nodes × Roots roots.now nodes ×
-        Unfinished rows.now roots.now names nodes ends.old × (n < names) × EndKnown rows.now roots.now nodes n end × ((ds : List Definition) × Binds rows.now roots.now ds) }
-    ensures { NotedAs rows.now roots.now names nodes n ends.old ends.new }
-{
-    let mut m = n;
-    let mut e = end;
-    while ends[m] == EndTable::OPEN {
-        ends[m] = e;
-        let s = step(rows, roots, m);
-        if s.next == Link::NONE {
-            return;
-        }
-        e -= EndTable::CROSSED;
-        m = s.next;
-    }
-}
-
-// Finds the alias ends of all names once, with how many names each chain crosses, in a table that has nothing. The names that a chain crosses
-// are noted with it, so that no later chain is followed beyond them. With a chain that never ends the table has nothing, as it was lent.
+// `Scope::find_ends` for who lends book and table at two lifetimes, as typing does: a struct with one for both gets no generated proof there.
 pub fn find_ends(
     rows: &[u8],
     roots: &[u16],
@@ -299,47 +169,37 @@ pub fn find_ends(
     nodes: usize,
     definitions: usize,
     ends: &mut [u32],
-) -> u16
+) -> Verdict
     requires { Nodes rows.now names nodes × Roots roots.now nodes × (ends.old ≡ zero_table) × ((ds : List Definition) × Tabled rows.now roots.now definitions ds) × (definitions ≤ 512) }
     ensures { AliasEndsAs rows.now roots.now names nodes definitions ends.new result }
 {
-    open_ends(roots, names, ends);
-    let mut n = 0;
-    while n < names {
-        let end = follow(rows, roots, ends, names, nodes, definitions, n);
-        if end == EndTable::OPEN {
-            clear_ends(ends);
-            return n as u16;
-        }
-        note(rows, roots, names, nodes, n, end, ends);
-        n += 1;
-    }
-    Table::NONE
+    Scope::new(rows, roots, names, nodes).find_ends(definitions, ends)
 }
 
-// The node at which a chain ends, or NONE, and how many names it crosses.
+// The node at which a chain ends, and how many names it crosses.
 #[derive(Clone, Copy)]
 pub struct Reached {
-    pub node: u16,
+    pub node: Option<u16>,
     pub crossed: u16,
 }
 
-// The end of the chain from a node, by the table of alias ends.
+// The end of the chain from a node, by the table of alias ends. Rows and ends are no struct: its facts would need the numbers of names and nodes,
+// which nothing here reads.
 pub fn end_of(rows: &[u8], ends: &[u32], node: usize) -> Reached
     requires { Ended rows.now ends.now node }
     ensures { ReachedAs rows.now ends.now node result.node result.crossed }
 {
     let t = Node::at(rows, node);
-    if t.kind != Kind::VAR {
+    if t.kind != Kind::Var as u8 {
         return Reached {
-            node: node as u16,
+            node: Some(node as u16),
             crossed: 0,
         };
     }
-    let e = ends[t.value as usize];
+    let e = ChainEnd(ends[t.value as usize]);
     Reached {
-        node: Table::NONE - (e % EndTable::CROSSED) as u16,
-        crossed: (e / EndTable::CROSSED) as u16,
+        node: e.node(),
+        crossed: e.crossed(),
     }
 }
 
@@ -348,14 +208,14 @@ pub fn names_crossed(ends: &[u32], n: usize) -> u16
     requires { (length ends.now ≡ 1024) × (n < 1024) }
     ensures { result ≡ crossed_in ends.now n }
 {
-    (ends[n] / EndTable::CROSSED) as u16
+    ChainEnd(ends[n]).crossed()
 }
 
 // What a lookup finds: the end of a chain, whether it is of the kind that is looked for, and, found or not, how many names were crossed.
 #[derive(Clone, Copy)]
 pub struct Lookup {
     pub found: bool,
-    pub node: u16,
+    pub node: Option<u16>,
     pub crossed: u16,
 }
 
@@ -364,28 +224,20 @@ fn look_up(rows: &[u8], ends: &[u32], node: usize, kind: u8) -> Lookup
     requires { Ended rows.now ends.now node }
     ensures { LookupAs kind rows.now ends.now node result }
 {
-    let e = end_of(rows, ends, node);
-    if e.node == Table::NONE {
-        return Lookup {
-            found: false,
-            node: e.node,
-            crossed: e.crossed,
-        };
-    }
-    let t = Node::at(rows, e.node as usize);
+    let Reached { node: end, crossed } = end_of(rows, ends, node);
     Lookup {
-        found: t.kind == kind,
-        node: e.node,
-        crossed: e.crossed,
+        found: end.is_some_and(|e| Node::at(rows, e as usize).kind == kind),
+        node: end,
+        crossed,
     }
 }
 
-// Whether the chain from a node ends at a function: `as_func`, by the table of alias ends.
+// Whether the chain from a node ends at a function: `as_func`, by the table of alias ends. It and `as_service` are names of type_env.rs.
 pub fn as_func(rows: &[u8], ends: &[u32], node: usize) -> Lookup
     requires { Ended rows.now ends.now node }
     ensures { LookupAs 23 rows.now ends.now node result }
 {
-    look_up(rows, ends, node, Kind::FUNC)
+    look_up(rows, ends, node, Kind::Func as u8)
 }
 
 // Whether it ends at a service: `as_service`, of what stands below a class's top. A class adds nothing to the names that are crossed.
@@ -393,5 +245,5 @@ pub fn as_service(rows: &[u8], ends: &[u32], node: usize) -> Lookup
     requires { Ended rows.now ends.now node }
     ensures { LookupAs 24 rows.now ends.now node result }
 {
-    look_up(rows, ends, node, Kind::SERVICE)
+    look_up(rows, ends, node, Kind::Service as u8)
 }

@@ -11,104 +11,94 @@ ghost use Rattle.judgement.specs.Environment.{same_forest};
 ghost use Rattle.judgement.specs.Check.{merge_verdict};
 ghost use Rattle.environment.specs.Tables.{Binds};
 ghost use Rattle.book.specs.Tables.{HashesAgree};
-ghost use Rattle.environment.specs.Merging.{HashTable, NameIn, hash_in, same_node, Compared, Mergeable, ComparedRoots, same_roots, either_root, MergedAs};
+ghost use Rattle.environment.specs.Merging.{NameIn, hash_in, same_node, ByNames, Compared, Mergeable, ComparedRoots, same_roots, either_root, MergedAs};
 
-use crate::Table;
 use book::kinds::Kind;
-use book::read::Node;
+use book::read::{Entry, Node};
+use book::walks::Siblings;
 use format::{Limits, Place};
 use labels::Label;
 use refusals::{Refusal, Verdict};
 
-// The label number of the name that a label is; 0 of one that is no name.
-fn hash_of(hashes: &[u32], label: Label) -> u32
-    requires { (length hashes.now ≡ 1024) × NameIn label }
-    ensures { result ≡ hash_in hashes.now label }
-{
-    match label {
-        Label::Id(_) => 0,
-        Label::Named(n) => hashes[n as usize],
-        Label::Unnamed(_) => 0,
-    }
+// The nodes of a book, beside the label number of each of its names.
+#[derive(Clone, Copy)]
+struct Comparison<'a> {
+    rows: &'a [u8],
+    hashes: &'a [u32],
+    ghost long: { length hashes.now ≡ 1024 },
 }
 
-// Whether two labels at a place are the same: fields by number, methods by name.
-fn same_label(hashes: &[u32], place: Place, a: Label, b: Label) -> bool
-    requires { HashTable hashes.now × NameIn a × NameIn b }
-    ensures { (names : List (List ℕ)) → HashesAgree hashes.now names → result ≡ same_label names place (labelled a) (labelled b) }
-{
-    match place {
-        Place::Root => true,
-        Place::Field => a.same(hash_of(hashes, a), b, hash_of(hashes, b)),
-        Place::Method => a.value() == b.value(),
-        Place::Inner => true,
+impl<'a> Comparison<'a> {
+    // The label number of the name that a label is; 0 of one that is no name.
+    fn hash_of(self, label: Label) -> u32
+        requires { NameIn label }
+        ensures { result ≡ hash_in self.entry.hashes.now label }
+    {
+        match label {
+            Label::Named(n) => self.hashes[n as usize],
+            Label::Id(_) | Label::Unnamed(_) => 0,
+        }
     }
-}
 
-// Whether two nodes at a place are the same but for what is below them.
-fn same_node(hashes: &[u32], place: Place, a: Node, b: Node) -> bool
-    requires { HashTable hashes.now × RowFits 1024 (as_row a) × RowFits 1024 (as_row b) }
-    ensures { (names : List (List ℕ)) → HashesAgree hashes.now names → result ≡ same_node names place (node_of (as_row a)) (node_of (as_row b)) }
-{
-    if a.kind != b.kind {
-        return false;
+    // Whether two labels at a place are the same: fields by number, methods by name.
+    fn same_label(self, place: Place, a: Label, b: Label) -> bool
+        requires { NameIn a × NameIn b }
+        ensures { ByNames self.entry.hashes.now (λ names. result ≡ same_label names place (labelled a) (labelled b)) }
+    {
+        match place {
+            Place::Root | Place::Inner => true,
+            Place::Field => a.same(self.hash_of(a), b, self.hash_of(b)),
+            Place::Method => a.value() == b.value(),
+        }
     }
-    if a.value != b.value {
-        return false;
-    }
-    same_label(hashes, place, a.label(), b.label())
-}
 
-// Whether the trees from node a up to node `a_until` are the same as those from node b up to node `b_until`, where all stand at `place`.
-fn same_trees(
-    rows: &[u8],
-    hashes: &[u32],
-    place: Place,
-    a: usize,
-    a_until: usize,
-    b: usize,
-    b_until: usize,
-) -> bool
-    requires { Compared rows.now hashes.now a a_until b b_until }
-    ensures { (names : List (List ℕ)) → HashesAgree hashes.now names → result ≡ same_forest names place (siblings rows.now a a_until) (siblings rows.now b b_until) }
-{
-    let mut i = a;
-    let mut j = b;
-    while i < a_until {
-        if b_until <= j {
+    // Whether two nodes at a place are the same but for what is below them. A derived comparison would compare their sizes too.
+    fn same_node(self, place: Place, a: Node, b: Node) -> bool
+        requires { RowFits 1024 (as_row a) × RowFits 1024 (as_row b) }
+        ensures { ByNames self.entry.hashes.now (λ names. result ≡ same_node names place (node_of (as_row a)) (node_of (as_row b))) }
+    {
+        if a.kind != b.kind || a.value != b.value {
             return false;
         }
-        let t = Node::at(rows, i);
-        let u = Node::at(rows, j);
-        if !same_node(hashes, place, t, u) {
-            return false;
-        }
-        let below = Kind::place_below(t.kind);
-        if !same_trees(rows, hashes, below, i + 1, i + t.size, j + 1, j + u.size) {
-            return false;
-        }
-        i += t.size;
-        j += u.size;
+        self.same_label(place, a.label(), b.label())
     }
-    b_until <= j
-}
 
-// Whether the trees at two roots are the same, or one is none.
-fn same_roots(rows: &[u8], hashes: &[u32], a: u16, b: u16) -> bool
-    requires { ComparedRoots rows.now hashes.now a b }
-    ensures { (names : List (List ℕ)) → HashesAgree hashes.now names → result ≡ same_roots names rows.now a b }
-{
-    if a == Table::NONE {
-        return true;
+    // Whether the trees from node a up to node `a_until` are the same as those from node b up to node `b_until`, where all stand at `place`.
+    fn same_trees(self, place: Place, a: usize, a_until: usize, b: usize, b_until: usize) -> bool
+        requires { Compared self.rows.now a a_until b b_until }
+        ensures { ByNames self.entry.hashes.now (λ names.
+            result ≡ same_forest names place (siblings self.entry.rows.now a a_until) (siblings self.entry.rows.now b b_until)) }
+    {
+        let mut others = Siblings::new(self.rows, b, b_until);
+        for (i, t) in Siblings::new(self.rows, a, a_until) {
+            let Some((j, u)) = others.next() else {
+                return false;
+            };
+            if !self.same_node(place, t, u) {
+                return false;
+            }
+            let below = Kind::place_below(t.kind);
+            if !self.same_trees(below, i + 1, i + t.size, j + 1, j + u.size) {
+                return false;
+            }
+        }
+        others.next().is_none()
     }
-    if b == Table::NONE {
-        return true;
+
+    // Whether the trees at two roots are the same, or one is none.
+    fn same_roots(self, a: u16, b: u16) -> bool
+        requires { ComparedRoots self.rows.now a b }
+        ensures { ByNames self.entry.hashes.now (λ names. result ≡ same_roots names self.entry.rows.now a b) }
+    {
+        if a == Entry::NO_ROOT || b == Entry::NO_ROOT {
+            return true;
+        }
+        let i = a as usize;
+        let j = b as usize;
+        let t = Node::at(self.rows, i);
+        let u = Node::at(self.rows, j);
+        self.same_trees(Place::Root, i, i + t.size, j, j + u.size)
     }
-    let i = a as usize;
-    let j = b as usize;
-    let t = Node::at(rows, i);
-    let u = Node::at(rows, j);
-    same_trees(rows, hashes, Place::Root, i, i + t.size, j, j + u.size)
 }
 
 // Whether two tables of roots agree; the lowest name on which they differ.
@@ -117,24 +107,21 @@ pub fn merge(rows: &[u8], hashes: &[u32], init: &[u16], main: &[u16], names: usi
     ensures { (ns : List (List ℕ)) (ids ds : List Definition) → HashesAgree hashes.now ns → length ns ≡ names →
         Binds rows.now init.now ids → Binds rows.now main.now ds → result ≡ merge_verdict ns ids ds }
 {
-    let mut n = 0;
-    while n < names {
-        if !same_roots(rows, hashes, init[n], main[n]) {
-            return Verdict::Refused(Refusal::Differs(n as u16));
+    let trees = Comparison { rows, hashes };
+    for n in 0..names {
+        if !trees.same_roots(init[n], main[n]) {
+            return Err(Refusal::Differs(n as u16));
         }
-        n += 1;
     }
-    Verdict::Passed
+    Ok(())
 }
 
 // The first root, or the second where the first is none.
+#[tactic(auto, unfolding(crate::specs::Merging::either_root))]
 fn either_root(a: u16, b: u16) -> u16
     ensures { result ≡ either_root a b }
 {
-    if a == Table::NONE {
-        return b;
-    }
-    a
+    if a == Entry::NO_ROOT { b } else { a }
 }
 
 // The table of both, into `both`: a name that both have keeps its first definition.
@@ -142,9 +129,7 @@ pub fn merged(init: &[u16], main: &[u16], both: &mut [u16])
     requires { (length init.now ≡ 1024) × (length main.now ≡ 1024) × (length both.old ≡ 1024) }
     ensures { MergedAs init.now main.now both.new }
 {
-    let mut n = 0;
-    while n < Limits::NAMES {
+    for n in 0..Limits::NAMES {
         both[n] = either_root(init[n], main[n]);
-        n += 1;
     }
 }

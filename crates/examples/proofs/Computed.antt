@@ -13,7 +13,7 @@ use Rattle.judgement.specs.Resolve.{methods_of, imported_methods, merged_actor}
 use Rattle.judgement.specs.Check.{service_verdict, imported_verdict, hashes_verdict, main_verdict, check_bytes, init_check_bytes}
 use Rattle.listing.specs.Recursive.{note, note_name, mark_arm, go, see, listed, infer_from, infer_rec, sorted}
 use Rattle.listing.specs.Project.{without, take', project_from, lowest, left_over, projected, project}
-use Rattle.refusals.specs.declared.Verdict.{Verdict}
+use Rattle.refusals.specs.Verdict.{Verdict}
 use Rattle.refusals.specs.Outcome.{Outcome, after, asked, judged}
 use Rattle.listing.specs.Marks.{marked, marks_over}
 use Rattle.format.specs.Within.{within}

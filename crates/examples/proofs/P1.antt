@@ -22,10 +22,9 @@ use Rattle.format.proofs.Admission.{admitted-says, admitted-whole}
 use Rattle.format.proofs.Raising.{full-admits}
 use Rattle.format.proofs.Repeats.{labels-say}
 use Rattle.refusals.specs.declared.Refusal.TheVariants.{Short, OverLimit}
-use Rattle.refusals.specs.declared.Answer.{Answer}
-use Rattle.refusals.specs.declared.Answer.TheVariants.{Given, Refused}
-use Rattle.refusals.specs.Handed.{HandedAs}
-use Rattle.refusals.specs.declared.Verdict.TheVariants.{Passed}
+use Rattle.std.specs.Prelude.{Ok, Err}
+use Rattle.refusals.specs.Verdict.{passes}
+use Rattle.refusals.specs.Handed.{Answer, HandedAs}
 use Rattle.judgement.specs.Actor.{main_actor}
 use Rattle.judgement.specs.Resolve.{resolve_actor}
 use Rattle.judgement.specs.Check.{check}
@@ -62,16 +61,16 @@ pub p1-admitted : admitted p1-source ≡ given p1
 p1-admitted = full-admits bytes.p1 p1-read p1-labels
 
 -- ---- As a book: it passes, and has an actor
-passes : check p1 ≡ Passed
+p1-passes : check p1 ≡ passes
 unfolding marks-computed samples-computed
-passes = refl
+p1-passes = refl
 
 has-actor : resolve_actor p1 ≡ end → ⊥
 unfolding marks-computed samples-computed
 has-actor e = let z : ◌≡◌ {A = ℕ} 0 1 = cc in omega arith
 
 pub p1-sent : Sent p1-source p1
-p1-sent = sent-bytes p1-source p1 p1-admitted passes has-actor
+p1-sent = sent-bytes p1-source p1 p1-admitted p1-passes has-actor
 
 abbrev pub p1-answers : Answers p1
 p1-answers = p1-sent.answers
@@ -87,10 +86,10 @@ p1-listed = let e = sym p1-answers.list_given.0 ∙ p1-list in cc
 listed-in : Delivers (HandedAs (on_bytes list p1-source)) 2 (3 ∷ 6 ∷ [])
 listed-in = rw p1-listed at p1-sent.list_sent
 
-pub p1-in-three : {x y z : ℕ} {new : List ℕ} {r : Answer} → HandedAs (on_bytes list p1-source) (x ∷ y ∷ z ∷ []) new r → (r ≡ Given 2) × (new ≡ 3 ∷ 6 ∷ z ∷ [])
+pub p1-in-three : {x y z : ℕ} {new : List ℕ} {r : Answer} → HandedAs (on_bytes list p1-source) (x ∷ y ∷ z ∷ []) new r → (r ≡ Ok 2) × (new ≡ 3 ∷ 6 ∷ z ∷ [])
 p1-in-three {new = new} h = let d = listed-in.enough h (omega arith) in (d.answer, sym (take-append-drop 2 new) ∙ ap₂ ◌++◌ d.front d.rest)
 
-pub p1-in-one : {x : ℕ} {new : List ℕ} {r : Answer} → HandedAs (on_bytes list p1-source) (x ∷ []) new r → (r ≡ Refused (Short 2)) × (new ≡ x ∷ [])
+pub p1-in-one : {x : ℕ} {new : List ℕ} {r : Answer} → HandedAs (on_bytes list p1-source) (x ∷ []) new r → (r ≡ Err (Short 2)) × (new ≡ x ∷ [])
 p1-in-one h = let k = listed-in.short h (omega arith) in (k.answer, k.same)
 
 pub p1-marks : marks_over p1 (3 ∷ 6 ∷ []) ≡ given (6 ∷ [])

@@ -4,7 +4,7 @@ use mathlib.Core.Path.{◌≡◌, refl, ap, ◌∙◌}
 use mathlib.Core.Bool.{Bool, cond}
 use mathlib.Core.List.{[], Memᴰ}
 use Rattle.refusals.specs.declared.Refusal.TheVariants.{Repeated, OverLimit}
-use Rattle.refusals.specs.declared.Verdict.TheVariants.{Passed}
+use Rattle.refusals.specs.Verdict.{passes}
 use Rattle.refusals.specs.Outcome.{refused, after}
 use Rattle.format.specs.declared.Limits.{Limits}
 use Rattle.format.specs.declared.Place.TheVariants.{Root}
@@ -43,6 +43,6 @@ twins-refused l h =
     admitted-whole (encode twins under l) twins twins-laid
     ∙ ap (λ (t : Bool). cond t (refused (Repeated 65535)) (refused OverLimit)) (is-true (within (size_of twins) l) ((within-says (size_of twins) l).1 h))
 
-pub twins-pass : check twins ≡ Passed
+pub twins-pass : check twins ≡ passes
 unfolding marks-computed ascii_bytes spelled twins
 twins-pass = refl

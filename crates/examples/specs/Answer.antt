@@ -4,8 +4,8 @@ use Rattle.std.specs.Prelude.{List, map, ℕ}
 use Rattle.labels.specs.Number.{label_number}
 use Rattle.format.specs.Book.{Book}
 use Rattle.refusals.specs.declared.Refusal.{Refusal}
-use Rattle.refusals.specs.declared.Verdict.{Verdict}
-use Rattle.refusals.specs.declared.Verdict.TheVariants.{Passed, Refused}
+use Rattle.std.specs.Prelude.{Ok, Err}
+use Rattle.refusals.specs.Verdict.{Verdict}
 use Rattle.refusals.specs.Refusal as refusals
 use Rattle.format.specs.Layout.{name_in}
 use Rattle.judgement.specs.Check.{check_bytes, init_check_bytes}
@@ -36,8 +36,8 @@ unfoldable pub refused_as : List ℕ → Refusal → Answer
 refused_as bs r = refused (refusals.number_of r) (name_in bs (refusals.name_of r))
 
 unfoldable pub of_verdict : List ℕ → Verdict → Answer
-of_verdict bs Passed = passes
-of_verdict bs (Refused r) = refused_as bs r
+of_verdict bs (Ok tt) = passes
+of_verdict bs (Err r) = refused_as bs r
 
 unfoldable pub of_outcome : List ℕ → (List ℕ → Answer) → Outcome (List ℕ) → Answer
 of_outcome bs say (outcomes.refused r) = refused_as bs r

@@ -19,17 +19,24 @@ ghost use Rattle.exports.specs.Places.{limits_of, in_places};
 
 use format::Limits;
 
+// Limits as C hands them over, which are three numbers in include/ludzepin.h.
+fn limits_of(names: u32, nodes: u32, definitions: u32) -> Limits
+    ensures { result ≡ limits_of names nodes definitions }
+{
+    Limits {
+        names,
+        nodes,
+        definitions,
+    }
+}
+
 // The check of a book.
 #[unsafe(no_mangle)]
 pub extern "C" fn ludzepin_check(book: &[u8], names: u32, nodes: u32, definitions: u32) -> u32
     ensures answer { result ≡ coded (check_bytes (book.now under limits_of names nodes definitions)) }
     ensures read { ReadVerdict (check_bytes (book.now under limits_of names nodes definitions)) result }
 {
-    let limits = Limits {
-        names,
-        nodes,
-        definitions,
-    };
+    let limits = limits_of(names, nodes, definitions);
     codes::code(questions::check(book, limits))
 }
 
@@ -39,11 +46,7 @@ pub extern "C" fn ludzepin_init_check(book: &[u8], names: u32, nodes: u32, defin
     ensures answer { result ≡ coded (init_check_bytes (book.now under limits_of names nodes definitions)) }
     ensures read { ReadVerdict (init_check_bytes (book.now under limits_of names nodes definitions)) result }
 {
-    let limits = Limits {
-        names,
-        nodes,
-        definitions,
-    };
+    let limits = limits_of(names, nodes, definitions);
     codes::code(questions::init_check(book, limits))
 }
 
@@ -62,13 +65,8 @@ pub extern "C" fn ludzepin_list(
     ensures left { out.new ≡
         left_in (in_places list (book.now under limits_of names nodes definitions) (length out.old)) out.old }
 {
-    let limits = Limits {
-        names,
-        nodes,
-        definitions,
-    };
-    let listed = questions::list(book, limits, out);
-    codes::answer_code(listed)
+    let limits = limits_of(names, nodes, definitions);
+    codes::answer_code(questions::list(book, limits, out))
 }
 
 // The definition list of its init arguments; 512 places are always enough.
@@ -86,13 +84,8 @@ pub extern "C" fn ludzepin_init_list(
     ensures left { out.new ≡
         left_in (in_places init_list (book.now under limits_of names nodes definitions) (length out.old)) out.old }
 {
-    let limits = Limits {
-        names,
-        nodes,
-        definitions,
-    };
-    let of_init = questions::init_list(book, limits, out);
-    codes::answer_code(of_init)
+    let limits = limits_of(names, nodes, definitions);
+    codes::answer_code(questions::init_list(book, limits, out))
 }
 
 // The definition list of a draft; 512 places are always enough.
@@ -110,13 +103,8 @@ pub extern "C" fn ludzepin_draft_list(
     ensures left { out.new ≡
         left_in (in_places draft_list (book.now under limits_of names nodes definitions) (length out.old)) out.old }
 {
-    let limits = Limits {
-        names,
-        nodes,
-        definitions,
-    };
-    let of_draft = questions::draft_list(book, limits, out);
-    codes::answer_code(of_draft)
+    let limits = limits_of(names, nodes, definitions);
+    codes::answer_code(questions::draft_list(book, limits, out))
 }
 
 // The names to be marked where these definitions are laid out in this order; 512 places are always enough.
@@ -135,13 +123,8 @@ pub extern "C" fn ludzepin_marks(
     ensures left { out.new ≡
         left_in (in_places (λ b. marks_over b list.now) (book.now under limits_of names nodes definitions) (length out.old)) out.old }
 {
-    let limits = Limits {
-        names,
-        nodes,
-        definitions,
-    };
-    let marked = questions::marks(book, limits, list, out);
-    codes::answer_code(marked)
+    let limits = limits_of(names, nodes, definitions);
+    codes::answer_code(questions::marks(book, limits, list, out))
 }
 
 // The names that become empty; 512 places are always enough.
@@ -159,13 +142,8 @@ pub extern "C" fn ludzepin_emptiness(
     ensures left { out.new ≡
         left_in (in_places emptiness (book.now under limits_of names nodes definitions) (length out.old)) out.old }
 {
-    let limits = Limits {
-        names,
-        nodes,
-        definitions,
-    };
-    let empty = questions::emptiness(book, limits, out);
-    codes::answer_code(empty)
+    let limits = limits_of(names, nodes, definitions);
+    codes::answer_code(questions::emptiness(book, limits, out))
 }
 
 // The positions of the asked methods; 4,096 places are always enough.
@@ -184,13 +162,8 @@ pub extern "C" fn ludzepin_project(
     ensures left { out.new ≡
         left_in (in_places (λ b. project b asked.now) (book.now under limits_of names nodes definitions) (length out.old)) out.old }
 {
-    let limits = Limits {
-        names,
-        nodes,
-        definitions,
-    };
-    let taken = questions::project(book, limits, asked, out);
-    codes::answer_code(taken)
+    let limits = limits_of(names, nodes, definitions);
+    codes::answer_code(questions::project(book, limits, asked, out))
 }
 
 // The uses of a name, three numbers for each entry; the answer counts entries.
@@ -209,13 +182,8 @@ pub extern "C" fn ludzepin_uses(
     ensures left { out.new ≡
         uses_left (in_places (λ b. uses b name) (book.now under limits_of names nodes definitions) (length out.old / 3)) out.old }
 {
-    let limits = Limits {
-        names,
-        nodes,
-        definitions,
-    };
-    let used = questions::uses(book, limits, name, out);
-    codes::uses_code(used)
+    let limits = limits_of(names, nodes, definitions);
+    codes::uses_code(questions::uses(book, limits, name, out))
 }
 
 // How many names the alias chain of a name crosses, and the last of these.
@@ -230,10 +198,6 @@ pub extern "C" fn ludzepin_alias(
     ensures answer { result ≡ coded_alias (alias_answer (on_bytes (λ b. alias b name) (book.now under limits_of names nodes definitions))) }
     ensures read { ReadAlias (alias_answer (on_bytes (λ b. alias b name) (book.now under limits_of names nodes definitions))) result }
 {
-    let limits = Limits {
-        names,
-        nodes,
-        definitions,
-    };
+    let limits = limits_of(names, nodes, definitions);
     codes::alias_code(questions::alias(book, limits, name))
 }

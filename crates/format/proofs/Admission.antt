@@ -16,8 +16,8 @@ use Prim.Native.Nat.{ℕ}
 use Rattle.refusals.specs.declared.Refusal.{Refusal}
 use Rattle.refusals.specs.declared.Refusal.TheVariants.{OverLimit}
 use Rattle.refusals.specs.Refusal.{number_of}
-use Rattle.refusals.specs.declared.Verdict.{Verdict}
-use Rattle.refusals.specs.declared.Verdict.TheVariants.{Passed, Refused}
+use Rattle.std.specs.Prelude.{Ok, Err}
+use Rattle.refusals.specs.Verdict.{Verdict, passes}
 use Rattle.refusals.specs.Outcome.{Outcome, refused, given, after, asked, judged, fit}
 use Rattle.refusals.proofs.Verdicts.{refused-passed}
 use Rattle.format.specs.Book.{Book, trees}
@@ -35,18 +35,18 @@ use Rattle.format.proofs.Repeats.{labels-say, labels-refuse, first-refused}
 module _ (bs : Source) where
   -- a layout that is admitted is that of the book, which is within what the limits count as, and whose labels pass
   by-layout : {b : Book} (l : Layout) → admitted_by bs.limits l ≡ given b →
-      (l ≡ whole b) × Within (size_of b) (clamped bs.limits) × (labels_verdict b ≡ Passed)
+      (l ≡ whole b) × Within (size_of b) (clamped bs.limits) × (labels_verdict b ≡ passes)
   unfolding admitted_by after
   by-layout {b} broken e = clash cc
   by-layout {b} (whole c) e = go (within (size_of c) (clamped bs.limits)) refl (labels_verdict c) refl e
     where
       go : (t : Bool) → within (size_of c) (clamped bs.limits) ≡ t → (v : Verdict) → labels_verdict c ≡ v → cond t (after v (given c)) (refused OverLimit) ≡ given b →
-          (whole c ≡ whole b) × Within (size_of b) (clamped bs.limits) × (labels_verdict b ≡ Passed)
-      go true w Passed v e =
+          (whole c ≡ whole b) × Within (size_of b) (clamped bs.limits) × (labels_verdict b ≡ passes)
+      go true w (Ok tt) v e =
           let same : c ≡ b = cc in
-          subst (λ (d : Book). (whole c ≡ whole d) × Within (size_of d) (clamped bs.limits) × (labels_verdict d ≡ Passed)) same
+          subst (λ (d : Book). (whole c ≡ whole d) × Within (size_of d) (clamped bs.limits) × (labels_verdict d ≡ passes)) same
           (refl, (within-says (size_of c) (clamped bs.limits)).0 (of-true (within (size_of c) (clamped bs.limits)) w), v)
-      go true w (Refused r) v e = clash cc
+      go true w (Err r) v e = clash cc
       go false w x v e = clash cc
 
   pub admitted-laid : {b : Book} → admitted bs ≡ given b → layout bs.bytes ≡ whole b
@@ -92,8 +92,8 @@ module _ (bs : Source) where
 
       look : (b : Book) → layout bs.bytes ≡ whole b → (t : Bool) → within (size_of b) (clamped bs.limits) ≡ t → (v : Verdict) → labels_verdict b ≡ v →
           cond t (after v (given b)) (refused OverLimit) ≡ refused r → AdmissionRow bs r
-      look b w true t Passed v e = clash cc
-      look b w true t (Refused q) v e =
+      look b w true t (Ok tt) v e = clash cc
+      look b w true t (Err q) v e =
           let (n, name, first) = labels-refuse b v in
           let h = (within-says (size_of b) (clamped bs.limits)).0 (of-true (within (size_of b) (clamped bs.limits)) t) in
           let h' = (clamped-says b ((found bs.bytes b).0 w).0 bs.limits).0 h in
@@ -115,17 +115,17 @@ module _ (bs : Source) where
 
   -- ---- A check
   module _ (f : Book → Verdict) (P : Book → Type 0) where
-    pub judged-says : ((b : Book) → Fits b → (f b ≡ Passed) ↔ P b) → (judged f (admitted bs) ≡ Passed) ↔ BookIn bs P
+    pub judged-says : ((b : Book) → Fits b → (f b ≡ passes) ↔ P b) → (judged f (admitted bs) ≡ passes) ↔ BookIn bs P
     unfolding judged
     judged-says says = (go (admitted bs) refl, λ x. rw x.laid_out ((says x.book (admitted-fits x.laid_out)).1 x.holds))
       where
-        go : (o : Outcome Book) → admitted bs ≡ o → judged f o ≡ Passed → BookIn bs P
+        go : (o : Outcome Book) → admitted bs ≡ o → judged f o ≡ passes → BookIn bs P
         go (refused r) w e = refused-passed e
         go (given b) w e = record { book = b; laid_out = w; holds = (says b (admitted-fits w)).0 e }
 
     -- in terms of what is laid out, where Q is P with labels that differ
-    pub judged-laid : ((b : Book) → Fits b → (f b ≡ Passed) ↔ P b) → (Q : Book → Type 0) → ((b : Book) → (Labels b.names (trees b) × P b) ↔ Q b) →
-        (judged f (admitted bs) ≡ Passed) ↔ LaidIn bs Q
+    pub judged-laid : ((b : Book) → Fits b → (f b ≡ passes) ↔ P b) → (Q : Book → Type 0) → ((b : Book) → (Labels b.names (trees b) × P b) ↔ Q b) →
+        (judged f (admitted bs) ≡ passes) ↔ LaidIn bs Q
     judged-laid says Q same =
         let j = judged-says says in
         let a = admitted-book P in (
@@ -134,21 +134,21 @@ module _ (bs : Source) where
         )
 
   module _ (f : Book → Verdict) (Row : Book → Refusal → Type 0) {r : Refusal} where
-    pub judged-row : ((b : Book) → Fits b → f b ≡ Refused r → Row b r) → judged f (admitted bs) ≡ Refused r → InRow bs Row r
+    pub judged-row : ((b : Book) → Fits b → f b ≡ Err r → Row b r) → judged f (admitted bs) ≡ Err r → InRow bs Row r
     unfolding judged
     judged-row row = go (admitted bs) refl
       where
-        go : (o : Outcome Book) → admitted bs ≡ o → judged f o ≡ Refused r → InRow bs Row r
+        go : (o : Outcome Book) → admitted bs ≡ o → judged f o ≡ Err r → InRow bs Row r
         go (refused q) w e = inl (not-admitted (w ∙ ap refused cc))
         go (given b) w e = inr record { book = b; laid_out = w; holds = row b (admitted-fits w) e }
 
     -- what lies in a row does not pass
-    pub row-judged : ((b : Book) → Fits b → Row b r → f b ≡ Passed → ⊥) → InRow bs Row r → judged f (admitted bs) ≡ Passed → ⊥
+    pub row-judged : ((b : Book) → Fits b → Row b r → f b ≡ passes → ⊥) → InRow bs Row r → judged f (admitted bs) ≡ passes → ⊥
     unfolding judged
     row-judged row (inl x) e = refused-passed (rw (admission-refuses x) at e)
     row-judged row (inr x) e = row x.book (admitted-fits x.laid_out) x.holds (rw x.laid_out at e)
 
-    pub judged-refuses : ((b : Book) → Fits b → (f b ≡ Refused r) ↔ Row b r) → (judged f (admitted bs) ≡ Refused r) ↔ InRow bs Row r
+    pub judged-refuses : ((b : Book) → Fits b → (f b ≡ Err r) ↔ Row b r) → (judged f (admitted bs) ≡ Err r) ↔ InRow bs Row r
     unfolding judged
     judged-refuses says = (
       judged-row (λ b fits. (says b fits).0),

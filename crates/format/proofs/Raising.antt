@@ -15,12 +15,10 @@ use native.Mathlib.Omega.{arith}
 use lib.ListN.{length}
 use Rattle.refusals.specs.declared.Refusal.{Refusal}
 use Rattle.refusals.specs.declared.Refusal.TheVariants.{OverLimit}
-use Rattle.refusals.specs.declared.Verdict.{Verdict}
-use Rattle.refusals.specs.declared.Verdict.TheVariants.{Refused}
-use Rattle.refusals.specs.declared.Answer.{Answer}
-use Rattle.refusals.specs.declared.Answer.TheVariants.{Refused as RefusedAnswer}
+use Rattle.std.specs.Prelude.{Err}
+use Rattle.refusals.specs.Verdict.{Verdict}
 use Rattle.refusals.specs.Outcome.{Outcome, refused, given, asked, judged, fit}
-use Rattle.refusals.specs.Handed.{Use, answer_of, left_in, HandedAs, uses_left, UsesAs}
+use Rattle.refusals.specs.Handed.{Answer, Use, answer_of, left_in, HandedAs, uses_left, UsesAs}
 use Rattle.format.specs.declared.Limits.{Limits}
 use Rattle.format.specs.Book.{Book, trees}
 use Rattle.format.specs.Layout.{Layout, broken, whole, layout}
@@ -85,7 +83,7 @@ module _ (bs : List ℕ) where
     pub raised-answer : {A : Type 0} (answer : Outcome Book → A) → Raised (answer (refused OverLimit)) (answer (admitted (bs under l))) (answer (admitted (bs under m)))
     raised-answer answer = ⊎_elim (λ e. inl (ap answer e)) (λ e. inr (ap answer e)) raised
 
-    pub raised-check : (f : Book → Verdict) → Raised (Refused OverLimit) (judged f (admitted (bs under l))) (judged f (admitted (bs under m)))
+    pub raised-check : (f : Book → Verdict) → Raised (Err OverLimit) (judged f (admitted (bs under l))) (judged f (admitted (bs under m)))
     unfolding judged
     raised-check f = raised-answer (judged f)
 
@@ -102,13 +100,13 @@ module _ (bs : List ℕ) where
           ⊎_elim (λ e. inl (a ∙ ap answer e, b ∙ ap left e)) (λ e. inr (a ∙ ap answer e ∙ sym c, b ∙ ap left e ∙ sym d)) raised
 
       pub raised-handed : (question : Book → Outcome (List ℕ)) {old : List ℕ} → HandedAs (on_bytes question (bs under l)) old new r → HandedAs (on_bytes question (bs under m)) old new' r' →
-          ((r ≡ RefusedAnswer OverLimit) × (new ≡ old)) ⊎ ((r ≡ r') × (new ≡ new'))
+          ((r ≡ Err OverLimit) × (new ≡ old)) ⊎ ((r ≡ r') × (new ≡ new'))
       unfolding asked fit answer_of left_in
       raised-handed question {old} x y =
           called (λ o. answer_of (fit (length old) (asked question o))) (λ o. left_in (fit (length old) (asked question o)) old) x.answer x.left y.answer y.left
 
       pub raised-uses : (question : Book → Outcome (List Use)) {old : List ℕ} → UsesAs (on_bytes question (bs under l)) old new r → UsesAs (on_bytes question (bs under m)) old new' r' →
-          ((r ≡ RefusedAnswer OverLimit) × (new ≡ old)) ⊎ ((r ≡ r') × (new ≡ new'))
+          ((r ≡ Err OverLimit) × (new ≡ old)) ⊎ ((r ≡ r') × (new ≡ new'))
       unfolding asked fit answer_of uses_left
       raised-uses question {old} x y =
           called (λ o. answer_of (fit (length old / 3) (asked question o))) (λ o. uses_left (fit (length old / 3) (asked question o)) old) x.answer x.left y.answer y.left

@@ -16,7 +16,8 @@ use lib.Dec.{T}
 use borrow.Author.Tests.{eqb-true, eq-eqb}
 use Rattle.refusals.specs.declared.Refusal.{Refusal}
 use Rattle.refusals.specs.declared.Refusal.TheVariants.{Repeated}
-use Rattle.refusals.specs.declared.Verdict.TheVariants.{Passed, Refused}
+use Rattle.std.specs.Prelude.{Err}
+use Rattle.refusals.specs.Verdict.{passes}
 use Rattle.format.specs.declared.Place.{Place}
 use Rattle.format.specs.declared.Place.TheVariants.{Root}
 use Rattle.format.specs.Forest.{Forest, end, tree, count}
@@ -425,26 +426,26 @@ module _ (names : List (List ℕ)) where
 
 -- ---- Of a book
 module _ (b : Book) where
-  pub labels-say : (labels_verdict b ≡ Passed) ↔ Labels b.names (trees b)
+  pub labels-say : (labels_verdict b ≡ passes) ↔ Labels b.names (trees b)
   unfolding labels_verdict
   labels-say = (
     λ e. apart-labels b.names (trees b) (found-none b.names (trees b) (passed (first_repeat b.names Root [] 0 (trees b)) e)),
     λ h. ap repeat_verdict (none-found b.names (trees b) (labels-apart b.names (trees b) h)),
   )
     where
-      passed : (r : Repeat) → repeat_verdict r ≡ Passed → r ≡ none
+      passed : (r : Repeat) → repeat_verdict r ≡ passes → r ≡ none
       passed none e = refl
       passed (repeat j l) e = clash cc
 
   -- 18 is that of the first repeat
-  pub labels-refuse : {r : Refusal} → labels_verdict b ≡ Refused r → (n : ℕ) × (r ≡ Repeated n) × RepeatOf b n
+  pub labels-refuse : {r : Refusal} → labels_verdict b ≡ Err r → (n : ℕ) × (r ≡ Repeated n) × RepeatOf b n
   unfolding labels_verdict
   labels-refuse {r} = go (first_repeat b.names Root [] 0 (trees b)) refl
     where
-      go : (x : Repeat) → first_repeat b.names Root [] 0 (trees b) ≡ x → repeat_verdict x ≡ Refused r → (n : ℕ) × (r ≡ Repeated n) × RepeatOf b n
+      go : (x : Repeat) → first_repeat b.names Root [] 0 (trees b) ≡ x → repeat_verdict x ≡ Err r → (n : ℕ) × (r ≡ Repeated n) × RepeatOf b n
       go none w e = clash cc
       go (repeat j l) w e = (spelling l, cc, record { j = j; l = l; first = found-first b.names (trees b) j l w; named = refl })
 
-  pub first-refused : {n : ℕ} → RepeatOf b n → labels_verdict b ≡ Refused (Repeated n)
+  pub first-refused : {n : ℕ} → RepeatOf b n → labels_verdict b ≡ Err (Repeated n)
   unfolding labels_verdict
-  first-refused o = ap repeat_verdict (first-found b.names (trees b) o.j o.l o.first) ∙ ap (λ (k : ℕ). Refused (Repeated k)) (sym o.named)
+  first-refused o = ap repeat_verdict (first-found b.names (trees b) o.j o.l o.first) ∙ ap (λ (k : ℕ). Err (Repeated k)) (sym o.named)

@@ -4,8 +4,8 @@
 use Rattle.std.specs.Prelude.{◌≡◌, ◌⊎◌, Bool, true, false, cond, ◌&&◌, ◌||◌, List, [], ◌∷◌, ℕ, suc, ◌+◌, ◌≤◌, ◌<◌}
 use Rattle.labels.specs.declared.Label.TheVariants.{Id, Named, Unnamed}
 use Rattle.refusals.specs.declared.Refusal.TheVariants.{Repeated}
-use Rattle.refusals.specs.declared.Verdict.{Verdict}
-use Rattle.refusals.specs.declared.Verdict.TheVariants.{Passed, Refused}
+use Rattle.std.specs.Prelude.{Err}
+use Rattle.refusals.specs.Verdict.{Verdict, passes}
 use Rattle.format.specs.declared.Place.{Place}
 use Rattle.format.specs.declared.Place.TheVariants.{Root, Field, Method, Inner}
 use Rattle.format.specs.Forest.{Forest, end, tree, count}
@@ -93,8 +93,8 @@ first_repeat names p earlier i (tree n kids next) =
 
 -- 18, of all the trees of a book.
 abbrev pub repeat_verdict : Repeat → Verdict
-repeat_verdict none = Passed
-repeat_verdict (repeat i l) = Refused (Repeated (spelling l))
+repeat_verdict none = passes
+repeat_verdict (repeat i l) = Err (Repeated (spelling l))
 
 unfoldable pub labels_verdict : Book → Verdict
 labels_verdict b = repeat_verdict (first_repeat b.names Root [] 0 (trees b))

@@ -6,7 +6,7 @@ ghost use Rattle.std.specs.Prelude.{◌≡◌};
 ghost use Rattle.format.specs.Within.{full, within};
 
 // Where a node stands: a root; a child of a record or a variant; a method; any other child.
-#[derive(Clone, Copy)]
+#[derive(Clone, Copy, PartialEq, Eq, Debug)]
 pub enum Place {
     Root,
     Field,
@@ -15,7 +15,7 @@ pub enum Place {
 }
 
 // The most that a terminal model takes of a book. A limit above document 01's figure counts as that figure.
-#[derive(Clone, Copy)]
+#[derive(Clone, Copy, PartialEq, Eq, Debug)]
 pub struct Limits {
     pub names: u32,
     pub nodes: u32,
@@ -45,12 +45,13 @@ impl Limits {
         }
     }
 
-    // Whether none is more than the other's. `&` has no branches, so that this is the definition itself.
+    // Whether none is more than the other's.
+    #[tactic(auto, unfolding(crate::specs::Within::within))]
     pub fn within(self, other: Limits) -> bool
         ensures { result ≡ within self other }
     {
-        (self.names <= other.names)
-            & (self.nodes <= other.nodes)
-            & (self.definitions <= other.definitions)
+        self.names <= other.names
+            && self.nodes <= other.nodes
+            && self.definitions <= other.definitions
     }
 }

@@ -1,12 +1,16 @@
 -- What the walk of `replace_empty` asks and says, and its marks as bytes. Definitions; assumes nothing.
-use Rattle.std.specs.Prelude.{◌≡◌, Bool, true, false, cond, ◌&&◌, ◌||◌, List, [], ◌∷◌, map, ℕ, zero, suc, ◌+◌, ◌≤◌, ◌<◌, length, get_or, set, take, replicate, eqb, ltb}
+use Rattle.std.specs.Prelude.{◌≡◌, Bool, true, false, cond, ◌&&◌, ◌||◌, List, [], ◌∷◌, map, ℕ, suc, ◌+◌, ◌≤◌, ◌<◌, length, get_or, set, take, All, eqb, ltb, Option, Some, None}
 use Rattle.format.specs.Book.{Definition}
+use Rattle.format.specs.Encode.{Row}
 use Rattle.format.specs.Layout.{row_at, siblings}
 use Rattle.format.specs.Whole.{Within, Whole}
 use Rattle.judgement.specs.Environment.{Found, is_missing}
 use Rattle.listing.specs.Empty.{Mark, unvisited, visiting, answered, Visit, not_empty, visit_fields, replace_empty}
 use Rattle.environment.specs.Tables.{Nodes, Roots, Binds}
+use Rattle.book.specs.declared.read.Node.{Node}
+use Rattle.book.specs.Reading.{as_row}
 use Rattle.book.specs.Tables.{flagged}
+use Rattle.inhabitants.specs.declared.empty.Waiting.{Waiting}
 
 -- Nodes of a book, and a table of roots, which is that of some definitions.
 pub record Environment (ns roots : List ℕ) (names : ℕ) : Type 0 where
@@ -37,9 +41,12 @@ pub record Visited (ns roots : List ℕ) (names : ℕ) (visit : List Definition 
 unfoldable pub names_from : ℕ → ℕ → ℕ
 names_from k node = cond (eqb k 21) (node + 1) node
 
--- Node n is a name whose answer is not that it is not empty.
+-- A row is a name whose answer is not that it is not empty; node n is.
+abbrev pub open_row : List ℕ → Row → Bool
+open_row bytes r = eqb r.kind 18 && ltb (get_or bytes r.value 0) 3
+
 abbrev pub may_be_empty : List ℕ → List ℕ → ℕ → Bool
-may_be_empty ns bytes n = eqb (row_at ns n).kind 18 && ltb (get_or bytes (row_at ns n).value 0) 3
+may_be_empty ns bytes n = open_row bytes (row_at ns n)
 
 -- The names of nodes before node `until` have a mark each.
 abbrev pub MarkEach : (ns bytes : List ℕ) (until : ℕ) → Type 0
@@ -57,10 +64,17 @@ pub record PassedOver (ns bytes : List ℕ) (from until at : ℕ) : Type 0 where
   pub same : (visit : ℕ → List Mark → Visit) (marks : List Mark) → Unchanged ns bytes until visit marks →
       visit_fields visit (siblings ns at until) marks ≡ visit_fields visit (siblings ns from until) marks
 
--- And the type at that node, if there is one, is a name that may be empty.
-pub record NextName (ns bytes : List ℕ) (from until at : ℕ) : Type 0 where
+-- And the type at that node is a name that may be empty.
+pub record NextName (ns bytes : List ℕ) (from until at : ℕ) (t : Node) : Type 0 where
   pub passed : PassedOver ns bytes from until at
-  pub open' : at < until → may_be_empty ns bytes at ≡ true
+  pub inside : at < until
+  pub open' : may_be_empty ns bytes at ≡ true
+  pub row : as_row t ≡ row_at ns at
+
+-- The first such type, or none.
+abbrev pub NextAs : (ns bytes : List ℕ) (from until : ℕ) → Option (ℕ × Node) → Type 0
+NextAs ns bytes from until None = PassedOver ns bytes from until until
+NextAs ns bytes from until (Some x) = NextName ns bytes from until x.0 x.1
 
 -- ---- The walk without recursion
 
@@ -78,22 +92,15 @@ new_in (b ∷ bytes) = cond (eqb b 0) (suc (new_in bytes)) (new_in bytes)
 abbrev pub new_marks : ℕ → List ℕ → ℕ
 new_marks names bytes = new_in (take names bytes)
 
--- A stack that has nothing.
-unfoldable pub no_stack : List ℕ
-no_stack = replicate 1024 0
+-- The rows that wait are nodes with the number of a name.
+pub record Stacked (ns : List ℕ) (waiting : List Waiting) : Type 0 where
+  pub within : All (λ w. Within ns (w.row + 1)) waiting
+  pub small : All (λ w. (row_at ns w.row).value < 1024) waiting
 
--- The lowest `depth` rows of a stack are nodes with the number of a name.
-pub record Stacked (ns stack : List ℕ) (depth : ℕ) : Type 0 where
-  pub room : depth ≤ length stack
-  pub few : depth ≤ 1024
-  pub node : (d : ℕ) → d < depth → get_or stack d 0 < 4096
-  pub within : (d : ℕ) → d < depth → Within ns (get_or stack d 0 + 1)
-  pub small : (d : ℕ) → d < depth → (row_at ns (get_or stack d 0)).value < 1024
-
--- Their names are empty, from the top down.
-unfoldable pub all_empty : (ns stack : List ℕ) (depth : ℕ) (bytes : List ℕ) → List ℕ
-all_empty ns stack zero bytes = bytes
-all_empty ns stack (suc d) bytes = all_empty ns stack d (set bytes (row_at ns (get_or stack d 0)).value 1)
+-- Their names are empty.
+unfoldable pub all_empty : (ns : List ℕ) (waiting : List Waiting) (bytes : List ℕ) → List ℕ
+all_empty ns [] bytes = bytes
+all_empty ns (w ∷ ws) bytes = all_empty ns ws (set bytes (row_at ns w.row).value 1)
 
 -- ---- All names
 

@@ -1,253 +1,195 @@
-// The names that become empty: `is_empty` and `replace_empty` of type_env.rs. The marks of a walk go by value and come back with the answer.
+// The names that become empty: `is_empty` and `replace_empty` of type_env.rs. The marks of a walk are lent to it.
 // Functions ask of their caller what an admitted book gives (specs/Empty.antt).
 ghost use Rattle.std.specs.Prelude.{◌≡◌, suc, ◌+◌, ◌<◌, length};
 ghost use Rattle.format.specs.Layout.{row_at, siblings};
 ghost use Rattle.format.specs.Whole.{Within, Whole};
+ghost use Rattle.book.specs.Reading.{as_row};
 ghost use Rattle.listing.specs.Empty.{visit_fields, is_empty};
-ghost use Rattle.inhabitants.specs.Empty.{Environment, names_from, may_be_empty, MarkEach, NextName, no_stack, Stacked, all_empty, Fields, new_marks, Visited, is_settled, EmptiedAs};
+ghost use Rattle.inhabitants.specs.Empty.{Environment, names_from, open_row, MarkEach, NextAs, Stacked, all_empty, Fields, new_marks, Visited, is_settled, EmptiedAs};
 
+use arrayvec::ArrayVec;
 use book::kinds::Kind;
-use book::read::Node;
+use book::read::{Entry, Node};
 use book::tables::Flags;
-use environment::Table;
+use book::walks::Siblings;
 use format::Limits;
 
-// What a walk knows of a name. EMPTY is a flag that is set, and no other mark is.
-#[derive(Clone, Copy)]
-struct Mark {
-    number: u8,
-}
-
-impl Mark {
-    const UNVISITED: u8 = 0;
-
-    const EMPTY: u8 = 1;
-
-    const VISITING: u8 = 2;
-
-    const NOT_EMPTY: u8 = 3;
-}
-
-// What a visit answers, and the marks after it.
-#[derive(Clone, Copy)]
-struct Visit {
-    pub empty: bool,
-    pub marks: Flags,
+// What a walk knows of a name. Its number is stored, a byte for each name, so that the bytes of a walk that is over are flags: Empty is one
+// that is set, and no other mark is.
+#[derive(Clone, Copy, PartialEq, Eq, PartialOrd, Ord, Debug)]
+enum Mark {
+    Unvisited,
+    Empty,
+    Visiting,
+    NotEmpty,
 }
 
 // Where the types stand that the type at a node is visited by: a record's fields; else the type itself.
+#[tactic(auto, unfolding(crate::specs::Empty::names_from))]
 fn names_from(rows: &[u8], node: usize) -> usize
     requires { Within rows.now (node + 1) }
     ensures { result ≡ names_from (row_at rows.now node).kind node }
 {
     let t = Node::at(rows, node);
-    if t.kind != Kind::RECORD {
-        return node;
+    if t.kind == Kind::Record as u8 {
+        node + 1
+    } else {
+        node
     }
-    node + 1
 }
 
-// Whether the type at a node is a name that may be empty: its answer is not that it is not.
-fn may_be_empty(rows: &[u8], marks: &[u8], node: usize) -> bool
-    requires { Within rows.now (node + 1) × ((row_at rows.now node).kind ≡ 18 → (row_at rows.now node).value < length marks.now) }
-    ensures { result ≡ may_be_empty rows.now marks.now node }
+// Whether a type is a name that may be empty: its answer is not that it is not.
+fn may_be_empty(marks: &[u8], t: Node) -> bool
+    requires { t.kind ≡ 18 → t.value < length marks.now }
+    ensures { result ≡ open_row marks.now (as_row t) }
 {
-    let t = Node::at(rows, node);
-    if t.kind != Kind::VAR {
-        return false;
-    }
-    marks[t.value as usize] < Mark::NOT_EMPTY
+    t.kind == Kind::Var as u8 && marks[t.value as usize] < Mark::NotEmpty as u8
 }
 
-// The first type that is a name that may be empty, among those side by side from node `from` up to node `until`; `until` where none is.
-fn next_name(rows: &[u8], marks: &[u8], from: usize, until: usize) -> usize
+// The first type that is a name that may be empty, among those side by side from node `from` up to node `until`.
+fn next_name(rows: &[u8], marks: &[u8], from: usize, until: usize) -> Option<(usize, Node)>
     requires { Whole rows.now from until × MarkEach rows.now marks.now until }
-    ensures { NextName rows.now marks.now from until result }
+    ensures { NextAs rows.now marks.now from until result }
 {
-    let mut i = from;
-    while i < until {
-        if may_be_empty(rows, marks, i) {
-            return i;
+    for (i, t) in Siblings::new(rows, from, until) {
+        if may_be_empty(marks, t) {
+            return Some((i, t));
         }
-        let t = Node::at(rows, i);
-        i += t.size;
     }
-    i
+    None
 }
 
-// A number for each name that is being visited.
-type Stack = [u16; Limits::NAMES];
-
-fn no_stack() -> Stack
-    ensures { result ≡ no_stack }
-{
-    [0; Limits::NAMES]
+// A name that waits while the types of its definition are visited: its row, and the end of the rows beside it.
+#[derive(Clone, Copy, Default)]
+struct Waiting {
+    row: u16,
+    end: u16,
 }
 
-// The names of all rows on the stack are empty.
-fn all_empty(rows: &[u8], stack: &[u16], depth: usize, marks: Flags) -> Flags
-    requires { Stacked rows.now stack.now depth }
-    ensures { result ≡ all_empty rows.now stack.now depth marks }
+// The names of all rows that wait are empty.
+fn all_empty(rows: &[u8], waiting: &[Waiting], marks: &mut Flags)
+    requires { Stacked rows.now waiting.now }
+    ensures { marks.new ≡ all_empty rows.now waiting.now marks.old }
 {
-    let mut marked = marks;
-    let mut d = depth;
-    while d > 0 {
-        d -= 1;
-        let t = Node::at(rows, stack[d] as usize);
-        marked[t.value as usize] = Mark::EMPTY;
+    for w in waiting {
+        let t = Node::at(rows, w.row as usize);
+        marks[t.value as usize] = Mark::Empty as u8;
     }
-    marked
 }
 
-// The types side by side from node `from` up to node `until`, as a record's fields: whether one is empty. Nothing recurses, so that marks are
-// copied once and not for each name: a name that is visited waits with its row and the end of the rows beside it. One that is empty ends all.
+// The types side by side from node `from` up to node `until`, as a record's fields: whether one is empty. Nothing recurses: a name that is
+// visited waits, and one that is empty ends all. What is read stands beside the marks that change: one value of both would have to say of each
+// change what stays.
 fn visit_fields(
     rows: &[u8],
     roots: &[u16],
     names: usize,
     from: usize,
     until: usize,
-    marks: Flags,
-) -> Visit
-    requires { Fields rows.now roots.now names from until × (new_marks names marks < names) }
+    marks: &mut Flags,
+) -> bool
+    requires { Fields rows.now roots.now names from until × (new_marks names marks.old < names) }
     ensures { Visited rows.now roots.now names
-        (λ ds. visit_fields (is_empty ds names) (siblings rows.now from until)) marks result.empty result.marks }
+        (λ ds. visit_fields (is_empty ds names) (siblings rows.now from until)) marks.old result marks.new }
 {
-    let mut marked = marks;
-    let mut stack = no_stack();
-    let mut ends = no_stack();
-    let mut depth = 0;
+    let mut waiting: ArrayVec<Waiting, { Limits::NAMES }> = ArrayVec::new();
     let mut at = from;
     let mut end = until;
-    loop {
-        let i = next_name(rows, &marked, at, end);
-        if i < end {
-            let t = Node::at(rows, i);
-            let n = t.value as usize;
-            if marked[n] != Mark::UNVISITED {
-                marked[n] = Mark::EMPTY;
-                let emptied = all_empty(rows, &stack, depth, marked);
-                return Visit {
-                    empty: true,
-                    marks: emptied,
-                };
-            }
-            let root = roots[n];
-            if root == Table::NONE {
-                marked[n] = Mark::NOT_EMPTY;
-                at = i + t.size;
-                continue;
-            }
-            marked[n] = Mark::VISITING;
-            stack[depth] = i as u16;
-            ends[depth] = end as u16;
-            depth += 1;
-            let node = root as usize;
-            let u = Node::at(rows, node);
-            end = node + u.size;
-            at = names_from(rows, node);
-            continue;
-        }
-        if depth == 0 {
-            return Visit {
-                empty: false,
-                marks: marked,
+    'walk: loop {
+        let Some((i, t)) = next_name(rows, marks, at, end) else {
+            let Some(w) = waiting.pop() else {
+                return false;
             };
+            let row = w.row as usize;
+            let u = Node::at(rows, row);
+            marks[u.value as usize] = Mark::NotEmpty as u8;
+            at = row + u.size;
+            end = w.end as usize;
+            continue 'walk;
+        };
+        let n = t.value as usize;
+        if marks[n] != Mark::Unvisited as u8 {
+            marks[n] = Mark::Empty as u8;
+            all_empty(rows, waiting.as_slice(), marks);
+            return true;
         }
-        depth -= 1;
-        let row = stack[depth] as usize;
-        let t = Node::at(rows, row);
-        marked[t.value as usize] = Mark::NOT_EMPTY;
-        end = ends[depth] as usize;
-        at = row + t.size;
+        let root = roots[n];
+        if root == Entry::NO_ROOT {
+            marks[n] = Mark::NotEmpty as u8;
+            at = i + t.size;
+            continue 'walk;
+        }
+        marks[n] = Mark::Visiting as u8;
+        waiting.push(Waiting {
+            row: i as u16,
+            end: end as u16,
+        });
+        let node = root as usize;
+        let u = Node::at(rows, node);
+        end = node + u.size;
+        at = names_from(rows, node);
     }
 }
 
 // `is_empty`: whether a name is empty. The answers of all names that are visited are left in the marks. A type without a name that may be
 // empty is not walked: most are so, and a walk makes its stack.
-fn is_empty(rows: &[u8], roots: &[u16], names: usize, n: usize, marks: Flags) -> Visit
+fn is_empty(rows: &[u8], roots: &[u16], names: usize, n: usize, marks: &mut Flags) -> bool
     requires { Environment rows.now roots.now names × (n < names) }
-    ensures { Visited rows.now roots.now names (λ ds. is_empty ds (suc names) n) marks result.empty result.marks }
+    ensures { Visited rows.now roots.now names (λ ds. is_empty ds (suc names) n) marks.old result marks.new }
 {
-    let mut marked = marks;
-    let mark = marked[n];
-    if mark == Mark::EMPTY {
-        return Visit {
-            empty: true,
-            marks: marked,
-        };
+    let mark = marks[n];
+    if mark == Mark::Empty as u8 {
+        return true;
     }
-    if mark == Mark::VISITING {
-        marked[n] = Mark::EMPTY;
-        return Visit {
-            empty: true,
-            marks: marked,
-        };
+    if mark == Mark::Visiting as u8 {
+        marks[n] = Mark::Empty as u8;
+        return true;
     }
-    if mark != Mark::UNVISITED {
-        return Visit {
-            empty: false,
-            marks: marked,
-        };
+    if mark != Mark::Unvisited as u8 {
+        return false;
     }
     let root = roots[n];
-    if root == Table::NONE {
-        marked[n] = Mark::NOT_EMPTY;
-        return Visit {
-            empty: false,
-            marks: marked,
-        };
+    if root == Entry::NO_ROOT {
+        marks[n] = Mark::NotEmpty as u8;
+        return false;
     }
-    marked[n] = Mark::VISITING;
+    marks[n] = Mark::Visiting as u8;
     let node = root as usize;
     let t = Node::at(rows, node);
     let until = node + t.size;
     let from = names_from(rows, node);
-    if next_name(rows, &marked, from, until) >= until {
-        marked[n] = Mark::NOT_EMPTY;
-        return Visit {
-            empty: false,
-            marks: marked,
-        };
+    if next_name(rows, marks, from, until).is_none() {
+        marks[n] = Mark::NotEmpty as u8;
+        return false;
     }
-    let mut v = visit_fields(rows, roots, names, from, until, marked);
-    if v.empty {
-        v.marks[n] = Mark::EMPTY;
-        return v;
-    }
-    v.marks[n] = Mark::NOT_EMPTY;
-    v
+    let empty = visit_fields(rows, roots, names, from, until, marks);
+    marks[n] = if empty {
+        Mark::Empty as u8
+    } else {
+        Mark::NotEmpty as u8
+    };
+    empty
 }
 
 // Whether a visit of all names passes over this one: it has no definition, or its answer is known.
+#[tactic(auto, unfolding(crate::specs::Empty::is_settled))]
 fn is_settled(roots: &[u16], marks: &[u8], n: usize) -> bool
     requires { (n < length roots.now) × (n < length marks.now) }
     ensures { result ≡ is_settled roots.now marks.now n }
 {
-    if roots[n] == Table::NONE {
-        return true;
-    }
-    if marks[n] == Mark::EMPTY {
-        return true;
-    }
-    marks[n] == Mark::NOT_EMPTY
+    roots[n] == Entry::NO_ROOT || marks[n] == Mark::Empty as u8 || marks[n] == Mark::NotEmpty as u8
 }
 
-// `replace_empty`: the names that become empty. Marks go by value only where a name is visited.
+// `replace_empty`: the names that become empty.
 pub fn replace_empty(rows: &[u8], roots: &[u16], names: usize) -> Flags
     requires { Environment rows.now roots.now names }
     ensures { EmptiedAs rows.now roots.now names result }
 {
-    let mut marks = book::tables::no_flags();
-    let mut n = 0;
-    while n < names {
-        if is_settled(roots, &marks, n) {
-            n += 1;
-            continue;
+    let mut marks = [0; Limits::NAMES];
+    for n in 0..names {
+        if !is_settled(roots, &marks, n) {
+            let _ = is_empty(rows, roots, names, n, &mut marks);
         }
-        let v = is_empty(rows, roots, names, n, marks);
-        marks = v.marks;
-        n += 1;
     }
     marks
 }

@@ -28,9 +28,8 @@ use Rattle.format.proofs.Trees.{fits-join}
 use Rattle.format.proofs.Logic.{is-false}
 use Rattle.refusals.specs.declared.Refusal.{Refusal}
 use Rattle.refusals.specs.declared.Refusal.TheVariants.{Unbound, NoService, ImportWithoutActor, ImportNoService, SameHash}
-use Rattle.refusals.specs.declared.Verdict.{Verdict}
-use Rattle.refusals.specs.declared.Verdict.TheVariants.{Refused}
-use Rattle.refusals.specs.Verdict.{unless}
+use Rattle.std.specs.Prelude.{Err}
+use Rattle.refusals.specs.Verdict.{Verdict, unless}
 use Rattle.refusals.proofs.Verdicts.{refused-passed, passed-refused}
 use Rattle.judgement.specs.Environment.{head, head_kind, is_serv_kind, kids_of}
 use Rattle.judgement.specs.Aliases.{End, unbound, circle, ends, alias_end, root_passes, as_service}
@@ -118,7 +117,7 @@ module _ (ds : List Definition) (pass : DefinitionsPass ds) where
   pub stands-meets : {t : Forest Node} {n : ℕ} → MeetsUnbound ds n t → StandsFor is_serv_kind ds t → ⊥
   stands-meets m s = stands-unbound (meets-end ds once m) s
 
-  unserved-unbound : (other : Refusal) (t : Forest Node) (n : ℕ) → alias_end ds t ≡ unbound n → {r : Refusal} → Unserved ds other t r → Refused (Unbound n) ≡ Refused r
+  unserved-unbound : (other : Refusal) (t : Forest Node) (n : ℕ) → alias_end ds t ≡ unbound n → {r : Refusal} → Unserved ds other t r → ◌≡◌ {A = Verdict} (Err (Unbound n)) (Err r)
   unserved-unbound other t n e (order.unbound m) = let q = meets-end ds once m in cc
   unserved-unbound other t n e (elsewhere l) = let q = leads-end ds once l.1 in let z : ◌≡◌ {A = ℕ} 0 1 = cc in absurd (omega arith)
 

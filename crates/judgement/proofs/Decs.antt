@@ -19,8 +19,7 @@ use Rattle.format.specs.Distinct.{Distinct, FirstRepeat}
 use Rattle.format.proofs.Logic.{both, join, is-false}
 use Rattle.refusals.specs.declared.Refusal.{Refusal}
 use Rattle.refusals.specs.declared.Refusal.TheVariants.{Twice, Circle, NoFunction}
-use Rattle.refusals.specs.declared.Verdict.TheVariants.{Passed}
-use Rattle.refusals.specs.Verdict.{unless}
+use Rattle.refusals.specs.Verdict.{passes, unless}
 use Rattle.refusals.proofs.Verdicts.{passed-refused}
 use Rattle.judgement.specs.Environment.{Found, missing, body, find_type}
 use Rattle.judgement.specs.Aliases.{alias_end}
@@ -53,7 +52,7 @@ FirstTwice ds r = (d : Definition) × (r ≡ Twice d.name) × FirstRepeat define
 pub once-say : (ds : List Definition) → Says (once_verdict [] ds) (Distinct (map defined_name ds)) (FirstTwice ds)
 once-say ds = rw (once-repeats [] ds) (says-repeats defined_name (λ d. Twice d.name) ds)
 
-pub once-says : (ds : List Definition) → (once_verdict [] ds ≡ Passed) ↔ Distinct (map defined_name ds)
+pub once-says : (ds : List Definition) → (once_verdict [] ds ≡ passes) ↔ Distinct (map defined_name ds)
 once-says ds = (once-say ds).passed
 
 -- an element of a list that stands in its first part stands again

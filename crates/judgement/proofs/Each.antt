@@ -12,9 +12,7 @@ use Prim.Native.Nat.{ℕ, zero, suc, ◌+◌, ◌≤◌, ◌<◌}
 use native.Mathlib.Decide.{ℕ_discrete}
 use native.Mathlib.Omega.{arith}
 use Rattle.refusals.specs.declared.Refusal.{Refusal}
-use Rattle.refusals.specs.declared.Verdict.{Verdict}
-use Rattle.refusals.specs.declared.Verdict.TheVariants.{Passed}
-use Rattle.refusals.specs.Verdict.{and_then, unless}
+use Rattle.refusals.specs.Verdict.{Verdict, passes, and_then, unless}
 use Rattle.judgement.specs.Check.{member, each_name}
 use Rattle.format.specs.Distinct.{Distinct, none, more, FirstRepeat}
 use Rattle.refusals.proofs.Verdicts.{passed-refused, both-pass, pass-both}
@@ -26,7 +24,7 @@ use Rattle.judgement.proofs.Says.{Says, says-if, says-then, says-as}
 -- ---- Each element in turn
 module _ {A : Type 0} (f : A → Verdict) where
   unfoldable pub each : List A → Verdict
-  each [] = Passed
+  each [] = passes
   each (a ∷ l) = and_then (f a) (each l)
 
 -- The first bad element of no elements, and of an element and others.
@@ -85,14 +83,14 @@ from-or P n i l p q = go (ℕ_discrete n i)
     go (no h) = q (omega arith)
 
 module _ (f : ℕ → Verdict) where
-  pub names-passed : (n k : ℕ) → each_name f n k ≡ Passed → (i : ℕ) → n ≤ i → i < n + k → f i ≡ Passed
+  pub names-passed : (n k : ℕ) → each_name f n k ≡ passes → (i : ℕ) → n ≤ i → i < n + k → f i ≡ passes
   unfolding each_name
   names-passed n zero e i l u = let z : ⊥ = omega arith in absurd z
   names-passed n (suc k) e i l u =
       let p = both-pass (f n) (each_name f (suc n) k) e in
-      from-or (λ j. f j ≡ Passed) n i l p.0 (λ m. names-passed (suc n) k p.1 i m (omega arith))
+      from-or (λ j. f j ≡ passes) n i l p.0 (λ m. names-passed (suc n) k p.1 i m (omega arith))
 
-  pub passed-names : (n k : ℕ) → ((i : ℕ) → n ≤ i → i < n + k → f i ≡ Passed) → each_name f n k ≡ Passed
+  pub passed-names : (n k : ℕ) → ((i : ℕ) → n ≤ i → i < n + k → f i ≡ passes) → each_name f n k ≡ passes
   unfolding each_name
   passed-names n zero h = refl
   passed-names n (suc k) h =
@@ -175,7 +173,7 @@ record Again {A : Type 0} (key : A → ℕ) (seen : List ℕ) (l : List A) (a : 
 
 module _ {A : Type 0} (key : A → ℕ) (refuse : A → Refusal) where
   unfoldable pub repeats : List ℕ → List A → Verdict
-  repeats seen [] = Passed
+  repeats seen [] = passes
   repeats seen (a ∷ l) = and_then (unless (not (member (key a) seen)) (refuse a)) (repeats (key a ∷ seen) l)
 
   -- none, and one that is new before others that are

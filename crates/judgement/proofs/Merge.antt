@@ -15,8 +15,7 @@ use Rattle.format.specs.Node.{Node}
 use Rattle.format.specs.Book.{Definition, Book}
 use Rattle.format.specs.Fits.{Fits}
 use Rattle.refusals.specs.declared.Refusal.TheVariants.{Differs}
-use Rattle.refusals.specs.declared.Verdict.{Verdict}
-use Rattle.refusals.specs.declared.Verdict.TheVariants.{Passed}
+use Rattle.refusals.specs.Verdict.{Verdict, passes}
 use Rattle.judgement.specs.Environment.{main_definitions, init_definitions, Found, missing, body, find_type, same_forest}
 use Rattle.judgement.specs.Check.{same_verdict, merge_verdict}
 use Rattle.format.specs.Distinct.{Distinct}
@@ -88,7 +87,7 @@ module _ (b : Book) (fits : Fits b) where
     same-say n = go (find_type (init_definitions b) n) (find_type (main_definitions b) n) refl refl
       where
         -- a name that one of the two lacks
-        lacks : (Disagree b n → ⊥) → Says Passed (Disagree b n → ⊥) (λ r. (r ≡ Differs n) × Disagree b n)
+        lacks : (Disagree b n → ⊥) → Says passes (Disagree b n → ⊥) (λ r. (r ≡ Differs n) × Disagree b n)
         lacks h = record { passed = (λ e. h, λ g. refl); refused = λ r. (λ e. passed-refused e, λ x. absurd (h x.1)) }
 
         go : (f g : Found) → find_type (init_definitions b) n ≡ f → find_type (main_definitions b) n ≡ g →

@@ -14,8 +14,8 @@ use Rattle.format.specs.Forest.{Forest, end, tree, breadth}
 use Rattle.format.specs.Node.{Node}
 use Rattle.format.specs.Book.{Definition}
 use Rattle.refusals.specs.declared.Refusal.TheVariants.{Unbound, Circle}
-use Rattle.refusals.specs.declared.Verdict.{Verdict}
-use Rattle.refusals.specs.declared.Verdict.TheVariants.{Passed, Refused}
+use Rattle.std.specs.Prelude.{Err}
+use Rattle.refusals.specs.Verdict.{Verdict, passes}
 use Rattle.judgement.specs.Environment.{merge_definitions, Found, missing, body, find_type, named, head}
 use Rattle.judgement.specs.Aliases.{End, unbound, ends, chain, alias_end}
 use Rattle.judgement.specs.Check.{name_verdict, kind_verdict, check_forest, once_verdict, bodies_verdict, each_name, is_circle, circle_verdict, decs_verdict}
@@ -39,7 +39,7 @@ module _ (ds : List Definition) where
   run-ended (loses b) = tt
   run-ended (crosses s r) = run-ended r
 
-  ended-passed : (n : ℕ) (f : Found) → ((t : Forest Node) → f ≡ body t → Ended t) → circle_verdict ds n f ≡ Passed
+  ended-passed : (n : ℕ) (f : Found) → ((t : Forest Node) → f ≡ body t → Ended t) → circle_verdict ds n f ≡ passes
   unfolding circle_verdict
   ended-passed n missing h = refl
   ended-passed n (body t) h =
@@ -54,7 +54,7 @@ module _ (ds : List Definition) where
         | inr p ↦ absurd (subst (λ (e : End). T (not (is_circle e))) p.0 c)
       ]
 
-  passed-ended : (n : ℕ) (f : Found) (t : Forest Node) → f ≡ body t → circle_verdict ds n f ≡ Passed → Ended t
+  passed-ended : (n : ℕ) (f : Found) (t : Forest Node) → f ≡ body t → circle_verdict ds n f ≡ passes → Ended t
   unfolding circle_verdict
   passed-ended n missing t q e = not-both-found refl q
   passed-ended n (body u) t q e =
@@ -65,16 +65,16 @@ module _ (ds : List Definition) where
   abbrev BoundHead : Forest Node → Type 0
   BoundHead t = (n : ℕ) → head t ≡ named n → find_type ds n ≡ missing → ⊥
 
-  walk-bound : (t : Forest Node) → check_forest true false ds t ≡ Passed → BoundHead t
+  walk-bound : (t : Forest Node) → check_forest true false ds t ≡ passes → BoundHead t
   unfolding check_forest head kind_verdict name_verdict
   walk-bound end e n h m = other-named refl h
   walk-bound (tree c kids next) e n h m =
       let v = kind_verdict ds c.kind (breadth kids) (check_forest true false ds kids) in
       let p = both-pass v _ (both-pass _ (check_forest true false ds next) e).0 in
-      let q : v ≡ Refused (Unbound n) = rw (named-var c.kind h, m) in
+      let q : v ≡ Err (Unbound n) = rw (named-var c.kind h, m) in
       refused-passed (sym q ∙ p.0)
 
-  bodies-bound : (es : List Definition) → bodies_verdict ds es ≡ Passed → (d : Definition) → Memᴰ d es → BoundHead d.body
+  bodies-bound : (es : List Definition) → bodies_verdict ds es ≡ passes → (d : Definition) → Memᴰ d es → BoundHead d.body
   unfolding bodies_verdict
   bodies-bound [] e d m = absurd (Memᴰ.not-nil m)
   bodies-bound (c ∷ es) e d m =
@@ -82,7 +82,7 @@ module _ (ds : List Definition) where
       ⊎_elim (λ (q : d ≡ c). rw q (walk-bound c.body p.0)) (bodies-bound es p.1 d) (Memᴰ.cases_cons m)
 
   -- What passes: names have definitions, and each name's chain ends.
-  module _ (k : ℕ) (passed : decs_verdict k ds ≡ Passed) where
+  module _ (k : ℕ) (passed : decs_verdict k ds ≡ passes) where
     decs-bound : (n : ℕ) (t : Forest Node) → find_type ds n ≡ body t → BoundHead t
     unfolding decs_verdict
     decs-bound n t g =
@@ -103,8 +103,8 @@ module _
     (k : ℕ)
     (ids ds : List Definition)
     (exists : (d : Definition) → Memᴰ d ids → d.name < k)
-    (init : decs_verdict k ids ≡ Passed)
-    (main : decs_verdict k ds ≡ Passed) where
+    (init : decs_verdict k ids ≡ passes)
+    (main : decs_verdict k ds ≡ passes) where
   abbrev merged : List Definition
   merged = merge_definitions ids ds
 
@@ -147,7 +147,7 @@ module _
         | inr f ↦ let e : body f.0 ≡ body t = sym (merge-first ids ds n f.0 f.1) ∙ g in init-ended n t (f.1 ∙ e)
       ]
 
-  pub merged-no-circle : each_name (λ n. circle_verdict (merge_definitions ids ds) n (find_type (merge_definitions ids ds) n)) 0 k ≡ Passed
+  pub merged-no-circle : each_name (λ n. circle_verdict (merge_definitions ids ds) n (find_type (merge_definitions ids ds) n)) 0 k ≡ passes
   merged-no-circle =
       passed-names (λ n. circle_verdict merged n (find_type merged n)) 0 k
       (λ n l u. ended-passed merged n (find_type merged n) (λ t g. merged-ended n t (omega arith) g))

@@ -37,7 +37,7 @@ use Rattle.format.proofs.Numbered.{node-occurs}
 use Rattle.format.proofs.Admission.{judged-row}
 use Rattle.refusals.specs.declared.Refusal.{Refusal}
 use Rattle.refusals.specs.declared.Refusal.TheVariants.{Repeated}
-use Rattle.refusals.specs.declared.Verdict.TheVariants.{Refused}
+use Rattle.std.specs.Prelude.{Err}
 use Rattle.judgement.specs.Actor.{init_tree}
 use Rattle.judgement.specs.Check.{check, init_check, check_bytes, init_check_bytes}
 use Rattle.judgement.specs.WellFormed.{defined_name, Defined}
@@ -157,10 +157,10 @@ module _ (b : Book) (fits : Fits b) where
   init-row-names = ⊎_elim row-names init-names
 
 -- ---- What is refused
-pub check-names : (b : Book) → Fits b → {r : Refusal} → check b ≡ Refused r → NamesPlace (length b.names) r
+pub check-names : (b : Book) → Fits b → {r : Refusal} → check b ≡ Err r → NamesPlace (length b.names) r
 check-names b fits e = row-names b fits (check-row b fits e)
 
-pub init-check-names : (b : Book) → Fits b → {r : Refusal} → init_check b ≡ Refused r → NamesPlace (length b.names) r
+pub init-check-names : (b : Book) → Fits b → {r : Refusal} → init_check b ≡ Err r → NamesPlace (length b.names) r
 init-check-names b fits e = init-row-names b fits (init-check-row b fits e)
 
 -- ---- On bytes
@@ -206,10 +206,10 @@ admission-names bs (is_repeated {n = n} x) b w =
     whole-one : {c d : Book} → whole c ≡ whole d → c ≡ d
     whole-one e = cc
 
-pub check-bytes-names : (bs : Source) {r : Refusal} → check_bytes bs ≡ Refused r → InRow bs (λ b. NamesPlace (length b.names)) r
+pub check-bytes-names : (bs : Source) {r : Refusal} → check_bytes bs ≡ Err r → InRow bs (λ b. NamesPlace (length b.names)) r
 unfolding check_bytes
 check-bytes-names bs = judged-row bs check (λ b. NamesPlace (length b.names)) (λ b fits. check-names b fits)
 
-pub init-check-bytes-names : (bs : Source) {r : Refusal} → init_check_bytes bs ≡ Refused r → InRow bs (λ b. NamesPlace (length b.names)) r
+pub init-check-bytes-names : (bs : Source) {r : Refusal} → init_check_bytes bs ≡ Err r → InRow bs (λ b. NamesPlace (length b.names)) r
 unfolding init_check_bytes
 init-check-bytes-names bs = judged-row bs init_check (λ b. NamesPlace (length b.names)) (λ b fits. init-check-names b fits)

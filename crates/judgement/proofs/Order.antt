@@ -12,7 +12,7 @@ use Rattle.format.specs.Admission.{InRow, Source}
 use Rattle.format.proofs.Admission.{judged-refuses}
 use Rattle.refusals.specs.declared.Refusal.{Refusal}
 use Rattle.refusals.specs.declared.Refusal.TheVariants.{Twice, ImportWithoutActor}
-use Rattle.refusals.specs.declared.Verdict.TheVariants.{Refused}
+use Rattle.std.specs.Prelude.{Err}
 use Rattle.judgement.specs.Environment.{main_definitions}
 use Rattle.judgement.specs.Check.{check, init_check, check_bytes, init_check_bytes}
 use Rattle.judgement.specs.Order.{Once, ImportsHaveActors, CheckRefuses, InitCheckRefuses}
@@ -20,10 +20,10 @@ use Rattle.judgement.specs.Order as order
 use Rattle.judgement.proofs.Steps.{check-say, init-check-say}
 use Rattle.judgement.proofs.Theorems.{steps-typed}
 
-pub check-refuses : (b : Book) → Fits b → (r : Refusal) → (check b ≡ Refused r) ↔ CheckRefuses b r
+pub check-refuses : (b : Book) → Fits b → (r : Refusal) → (check b ≡ Err r) ↔ CheckRefuses b r
 check-refuses b fits r = (check-say b fits).refused r
 
-pub init-refuses : (b : Book) → Fits b → (r : Refusal) → (init_check b ≡ Refused r) ↔ InitCheckRefuses b r
+pub init-refuses : (b : Book) → Fits b → (r : Refusal) → (init_check b ≡ Err r) ↔ InitCheckRefuses b r
 init-refuses b fits r =
     let says = (init-check-say b fits).refused r in
     let typed = steps-typed b fits in
@@ -31,7 +31,7 @@ init-refuses b fits r =
 
 -- ---- What it comes to: there is one refusal, and a later one tells that the earlier steps pass
 pub refuses-one : (b : Book) → Fits b → {r s : Refusal} → CheckRefuses b r → CheckRefuses b s → r ≡ s
-refuses-one b fits {r} {s} x y = let e : Refused r ≡ Refused s = sym ((check-refuses b fits r).1 x) ∙ (check-refuses b fits s).1 y in cc
+refuses-one b fits {r} {s} x y = let e : Err r ≡ Err s = sym ((check-refuses b fits r).1 x) ∙ (check-refuses b fits s).1 y in cc
 
 pub refuses-once : {b : Book} {r : Refusal} → CheckRefuses b r → ((n : ℕ) → r ≡ ImportWithoutActor n → ⊥) → ((n : ℕ) → r ≡ Twice n → ⊥) →
     ImportsHaveActors b × Once (main_definitions b)
@@ -44,10 +44,10 @@ refuses-once (order.resolving a p i x) h k = (a, p.0.once)
 refuses-once (order.actor a p i x) h k = (a, p.0.once)
 
 -- ---- On bytes
-pub check-bytes-refuses : (bs : Source) (r : Refusal) → (check_bytes bs ≡ Refused r) ↔ InRow bs CheckRefuses r
+pub check-bytes-refuses : (bs : Source) (r : Refusal) → (check_bytes bs ≡ Err r) ↔ InRow bs CheckRefuses r
 unfolding check_bytes
 check-bytes-refuses bs r = judged-refuses bs check CheckRefuses (λ b fits. check-refuses b fits r)
 
-pub init-check-bytes-refuses : (bs : Source) (r : Refusal) → (init_check_bytes bs ≡ Refused r) ↔ InRow bs InitCheckRefuses r
+pub init-check-bytes-refuses : (bs : Source) (r : Refusal) → (init_check_bytes bs ≡ Err r) ↔ InRow bs InitCheckRefuses r
 unfolding init_check_bytes
 init-check-bytes-refuses bs r = judged-refuses bs init_check InitCheckRefuses (λ b fits. init-refuses b fits r)

@@ -17,8 +17,7 @@ use Rattle.format.specs.Distinct.{Distinct, FirstRepeat}
 use Rattle.format.specs.Labels.{method_names}
 use Rattle.refusals.specs.declared.Refusal.{Refusal}
 use Rattle.refusals.specs.declared.Refusal.TheVariants.{NoService, ImportNoService, SameHash}
-use Rattle.refusals.specs.declared.Verdict.TheVariants.{Passed}
-use Rattle.refusals.specs.Verdict.{and_then}
+use Rattle.refusals.specs.Verdict.{passes, and_then}
 use Rattle.refusals.proofs.Verdicts.{passed-refused}
 use Rattle.judgement.specs.Environment.{main_definitions, is_serv_kind, kids_of}
 use Rattle.judgement.specs.Actor.{service_imports, main_actor, below_class, merged_of}
@@ -44,7 +43,7 @@ pub record Resolved (b : Book) : Type 0 where
   pub hashes : (service_imports b.files ≡ []) ⊎ Distinct (hashes_of b.names (kids_of (below_class (resolve_actor b))))
 
 module _ (names : List (List ℕ)) (ds : List Definition) (main resolved : Forest Node) where
-  no-imports : (fs : List File) → fs ≡ [] → resolve_verdict names ds main fs resolved ≡ Passed
+  no-imports : (fs : List File) → fs ≡ [] → resolve_verdict names ds main fs resolved ≡ passes
   unfolding resolve_verdict
   no-imports fs e = rw e
 

@@ -25,7 +25,8 @@ use Rattle.format.proofs.Distinct.{distinct-head, distinct-tail}
 use Rattle.format.proofs.Admission.{judged-row, row-judged, row-numbers}
 use Rattle.refusals.specs.declared.Refusal.{Refusal}
 use Rattle.refusals.specs.declared.Refusal.TheVariants.{NoService, ImportWithoutActor, ImportNoService, MethodNoFunction}
-use Rattle.refusals.specs.declared.Verdict.TheVariants.{Passed, Refused}
+use Rattle.std.specs.Prelude.{Err}
+use Rattle.refusals.specs.Verdict.{passes}
 use Rattle.refusals.specs.Refusal.{number_of}
 use Rattle.judgement.specs.Environment.{main_definitions, is_func_kind, is_serv_kind}
 use Rattle.judgement.specs.Actor.{service_imports, main_actor, below_class}
@@ -153,10 +154,10 @@ module _ (b : Book) where
   init-refuses-row (order.differs pass d l) = rows.differs d l
   init-refuses-row (order.arguments pass agree f) = rows.walk (trees-row f)
 
-pub check-row : (b : Book) → Fits b → {r : Refusal} → check b ≡ Refused r → CheckRow b r
+pub check-row : (b : Book) → Fits b → {r : Refusal} → check b ≡ Err r → CheckRow b r
 check-row b fits {r} e = refuses-row b ((check-refuses b fits r).0 e)
 
-pub init-check-row : (b : Book) → Fits b → {r : Refusal} → init_check b ≡ Refused r → CheckRow b r ⊎ InitRow b r
+pub init-check-row : (b : Book) → Fits b → {r : Refusal} → init_check b ≡ Err r → CheckRow b r ⊎ InitRow b r
 init-check-row b fits {r} e = ⊎_map (refuses-row b) (λ x. init-refuses-row b x.1) ((init-refuses b fits r).0 e)
 
 -- ---- What lies in a row does not pass
@@ -212,7 +213,7 @@ module _ (b : Book) (pass : DefinitionsPass (main_definitions b)) (resolved : Re
       ((sound-formed (main_definitions b) (below_top (resolve_actor b))).1 (resolved.actor, resolved.modes))
   row-refused (rows.actor x) = actor-refused x
 
-pub row-refuses : (b : Book) → Fits b → {r : Refusal} → CheckRow b r → check b ≡ Passed → ⊥
+pub row-refuses : (b : Book) → Fits b → {r : Refusal} → CheckRow b r → check b ≡ passes → ⊥
 row-refuses b fits x e = let s = (check-say b fits).passed.0 e in row-refused b s.1.0 s.1.1 x
 
 init-refused : {b : Book} {r : Refusal} → InitRow b r → InitSteps b → ⊥
@@ -220,7 +221,7 @@ init-refused (rows.definitions y) i = definitions-refused y i.0
 init-refused (rows.differs {n = n} d l) i = i.1.0 n d
 init-refused (rows.walk y) i = trees-unsound y i.1.1
 
-pub init-row-refuses : (b : Book) → Fits b → {r : Refusal} → CheckRow b r ⊎ InitRow b r → init_check b ≡ Passed → ⊥
+pub init-row-refuses : (b : Book) → Fits b → {r : Refusal} → CheckRow b r ⊎ InitRow b r → init_check b ≡ passes → ⊥
 init-row-refuses b fits x e =
     let s = (init-check-say b fits).passed.0 e in
     ⊎_elim (row-refused b s.0.1.0 s.0.1.1) (λ y. init-refused y s.1) x
@@ -273,25 +274,25 @@ module _ (b : Book) (r : Refusal) where
       ⊎_elim (λ x. Memᴰ.tail (check-numbers x)) (λ x. ⊎_elim (λ t. Memᴰ.tail (among t)) Memᴰ.head (init-number x))
 
 -- ---- On bytes
-pub check-bytes-row : (bs : Source) {r : Refusal} → check_bytes bs ≡ Refused r → InRow bs CheckRow r
+pub check-bytes-row : (bs : Source) {r : Refusal} → check_bytes bs ≡ Err r → InRow bs CheckRow r
 unfolding check_bytes
 check-bytes-row bs = judged-row bs check CheckRow (λ b fits. check-row b fits)
 
-pub init-check-bytes-row : (bs : Source) {r : Refusal} → init_check_bytes bs ≡ Refused r → InRow bs (λ b r. CheckRow b r ⊎ InitRow b r) r
+pub init-check-bytes-row : (bs : Source) {r : Refusal} → init_check_bytes bs ≡ Err r → InRow bs (λ b r. CheckRow b r ⊎ InitRow b r) r
 unfolding init_check_bytes
 init-check-bytes-row bs = judged-row bs init_check (λ b r. CheckRow b r ⊎ InitRow b r) (λ b fits. init-check-row b fits)
 
-pub bytes-row-refuses : (bs : Source) {r : Refusal} → InRow bs CheckRow r → check_bytes bs ≡ Passed → ⊥
+pub bytes-row-refuses : (bs : Source) {r : Refusal} → InRow bs CheckRow r → check_bytes bs ≡ passes → ⊥
 unfolding check_bytes
 bytes-row-refuses bs = row-judged bs check CheckRow (λ b fits. row-refuses b fits)
 
-pub init-bytes-row-refuses : (bs : Source) {r : Refusal} → InRow bs (λ b r. CheckRow b r ⊎ InitRow b r) r → init_check_bytes bs ≡ Passed → ⊥
+pub init-bytes-row-refuses : (bs : Source) {r : Refusal} → InRow bs (λ b r. CheckRow b r ⊎ InitRow b r) r → init_check_bytes bs ≡ passes → ⊥
 unfolding init_check_bytes
 init-bytes-row-refuses bs = row-judged bs init_check (λ b r. CheckRow b r ⊎ InitRow b r) (λ b fits. init-row-refuses b fits)
 
 -- The rows that there are, with those of admission.
-pub check-bytes-numbers : (bs : Source) {r : Refusal} → check_bytes bs ≡ Refused r → Memᴰ (number_of r) (admission_rows ++ check_rows)
+pub check-bytes-numbers : (bs : Source) {r : Refusal} → check_bytes bs ≡ Err r → Memᴰ (number_of r) (admission_rows ++ check_rows)
 check-bytes-numbers bs {r} e = row-numbers bs CheckRow check_rows r (λ b. check-numbers b r) (check-bytes-row bs e)
 
-pub init-check-bytes-numbers : (bs : Source) {r : Refusal} → init_check_bytes bs ≡ Refused r → Memᴰ (number_of r) (admission_rows ++ 11 ∷ check_rows)
+pub init-check-bytes-numbers : (bs : Source) {r : Refusal} → init_check_bytes bs ≡ Err r → Memᴰ (number_of r) (admission_rows ++ 11 ∷ check_rows)
 init-check-bytes-numbers bs {r} e = row-numbers bs (λ b r. CheckRow b r ⊎ InitRow b r) (11 ∷ check_rows) r (λ b. init-numbers b r) (init-check-bytes-row bs e)

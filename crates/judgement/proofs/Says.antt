@@ -8,20 +8,19 @@ use mathlib.Core.Logic.{◌↔◌, ◌⊎◌, ⊎_elim, ⊎_map}
 use mathlib.Core.Bool.{Bool, true, false, not}
 use lib.Dec.{T}
 use Rattle.refusals.specs.declared.Refusal.{Refusal}
-use Rattle.refusals.specs.declared.Verdict.{Verdict}
-use Rattle.refusals.specs.declared.Verdict.TheVariants.{Passed, Refused}
-use Rattle.refusals.specs.Verdict.{and_then, unless}
+use Rattle.std.specs.Prelude.{Err}
+use Rattle.refusals.specs.Verdict.{Verdict, passes, and_then, unless}
 use Rattle.refusals.proofs.Verdicts.{both-pass, pass-both, which-refused, unless-passed, passed-unless, unless-refused, not-says, fails-not}
 
 pub record Says (v : Verdict) (Passes : Type 0) (Refuses : Refusal → Type 0) : Type 0 where
-  pub passed : (v ≡ Passed) ↔ Passes
-  pub refused : (r : Refusal) → (v ≡ Refused r) ↔ Refuses r
+  pub passed : (v ≡ passes) ↔ Passes
+  pub refused : (r : Refusal) → (v ≡ Err r) ↔ Refuses r
 
 -- A test that fails, with its refusal.
 abbrev pub Fails : Type 0 → Refusal → Refusal → Type 0
 Fails Good r s = (s ≡ r) × (Good → ⊥)
 
-refused-unless : (t : Bool) (r : Refusal) {s : Refusal} → Fails (T t) r s → unless t r ≡ Refused s
+refused-unless : (t : Bool) (r : Refusal) {s : Refusal} → Fails (T t) r s → unless t r ≡ Err s
 refused-unless true r x = absurd (x.1 tt)
 refused-unless false r x = cc
 
@@ -41,10 +40,10 @@ says-if t r i = record {
 }
 
 -- A verdict of two in order refuses by the first, or by the second where the first passes.
-refused-first : (v w : Verdict) {r : Refusal} → v ≡ Refused r → and_then v w ≡ Refused r
+refused-first : (v w : Verdict) {r : Refusal} → v ≡ Err r → and_then v w ≡ Err r
 refused-first v w e = rw e
 
-refused-second : (v w : Verdict) {r : Refusal} → v ≡ Passed → w ≡ Refused r → and_then v w ≡ Refused r
+refused-second : (v w : Verdict) {r : Refusal} → v ≡ passes → w ≡ Err r → and_then v w ≡ Err r
 refused-second v w d e = rw d e
 
 module _ {v w : Verdict} {P Q : Type 0} {R S : Refusal → Type 0} where

@@ -28,7 +28,8 @@ use Rattle.format.proofs.Lists.{all-of}
 use Rattle.format.proofs.Admission.{judged-laid}
 use Rattle.format.proofs.Raising.{raised-check}
 use Rattle.refusals.specs.declared.Refusal.TheVariants.{OverLimit}
-use Rattle.refusals.specs.declared.Verdict.TheVariants.{Passed, Refused}
+use Rattle.std.specs.Prelude.{Err}
+use Rattle.refusals.specs.Verdict.{passes}
 use Rattle.refusals.proofs.Verdicts.{pass-both, and-passed}
 use Rattle.judgement.specs.Environment.{role_at, main_definitions, init_definitions, find_type, merge_definitions, kids_of}
 use Rattle.judgement.specs.Actor.{service_imports, init_tree, NoInit, below_class}
@@ -53,14 +54,14 @@ steps-typed b fits = (
   λ h. let x = typed-resolved b fits h.0.definitions h.1.modes h.0 h.1 in (λ f m. none-stands (x.imported f m), ((h.0.definitions, h.1.modes), x)),
 )
 
-pub check-typed : (b : Book) → Fits b → (check b ≡ Passed) ↔ (Typed b × Rust b)
+pub check-typed : (b : Book) → Fits b → (check b ≡ passes) ↔ (Typed b × Rust b)
 check-typed b fits =
     let p = (check-say b fits).passed in
     let s = steps-typed b fits in
     (λ e. s.0 (p.0 e), λ h. p.1 (s.1 h))
 
 -- ---- The actor of a book that passes
-module _ (b : Book) (fits : Fits b) (passed : check b ≡ Passed) where
+module _ (b : Book) (fits : Fits b) (passed : check b ≡ passes) where
   abbrev steps : Steps b
   steps = (check-say b fits).passed.0 passed
 
@@ -87,7 +88,7 @@ init-typed b fits =
       λ h. ((h.0.definitions, h.1.modes), (agree.1 h.1.merged, formed.1 (h.0.arguments, h.1.argument_modes))),
     )
 
-pub init-check-typed : (b : Book) → Fits b → (init_check b ≡ Passed) ↔ ((Typed b × Rust b) × (TypedInit b × RustInit b))
+pub init-check-typed : (b : Book) → Fits b → (init_check b ≡ passes) ↔ ((Typed b × Rust b) × (TypedInit b × RustInit b))
 init-check-typed b fits =
     let p = (init-check-say b fits).passed in
     let s = steps-typed b fits in
@@ -117,15 +118,15 @@ unfolding init_tree
 no-init-tree [] h = refl
 no-init-tree (f ∷ fs) h = rw (other-role f.role (h f (Memᴰ.head refl))) (no-init-tree fs (λ g m. h g (Memᴰ.tail m)))
 
-no-decs : (n : ℕ) → decs_verdict n [] ≡ Passed
+no-decs : (n : ℕ) → decs_verdict n [] ≡ passes
 unfolding decs_verdict once_verdict bodies_verdict bodies_fit circle_verdict find_type
-no-decs n = pass-both (each_name (λ k. Passed) 0 n) Passed (passed-names (λ k. Passed) 0 n (λ i l u. refl)) refl
+no-decs n = pass-both (each_name (λ k. passes) 0 n) passes (passed-names (λ k. passes) 0 n (λ i l u. refl)) refl
 
-pub init-verdict : (b : Book) → NoInit b.files → init_verdict b ≡ Passed
+pub init-verdict : (b : Book) → NoInit b.files → init_verdict b ≡ passes
 unfolding init_verdict merge_verdict same_verdict find_type kids_of check_forest
 init-verdict b h =
     rw (no-init-definitions b h, no-init-tree b.files h, no-decs (length b.names))
-    (pass-both (each_name (λ k. Passed) 0 (length b.names)) Passed (passed-names (λ k. Passed) 0 (length b.names) (λ i l u. refl)) refl)
+    (pass-both (each_name (λ k. passes) 0 (length b.names)) passes (passed-names (λ k. passes) 0 (length b.names) (λ i l u. refl)) refl)
 
 pub without-init : (b : Book) → NoInit b.files → init_check b ≡ check b
 unfolding init_check
@@ -137,11 +138,11 @@ without-init b h = rw (init-verdict b h) (and-passed (check b))
 formed : (b : Book) → (Labels b.names (trees b) × (Typed b × Rust b)) ↔ (WellFormed b × Rust b)
 formed b = (λ p. (record { typed = p.1.0; labels = p.0 }, p.1.1), λ p. (p.0.labels, (p.0.typed, p.1)))
 
-pub check-says : (bs : Source) → (check_bytes bs ≡ Passed) ↔ LaidIn bs (λ b. WellFormed b × Rust b)
+pub check-says : (bs : Source) → (check_bytes bs ≡ passes) ↔ LaidIn bs (λ b. WellFormed b × Rust b)
 unfolding check_bytes
 check-says bs = judged-laid bs check (λ b. Typed b × Rust b) check-typed (λ b. WellFormed b × Rust b) formed
 
-pub init-check-says : (bs : Source) → (init_check_bytes bs ≡ Passed) ↔ LaidIn bs (λ b. (WellFormed b × Rust b) × (TypedInit b × RustInit b))
+pub init-check-says : (bs : Source) → (init_check_bytes bs ≡ passes) ↔ LaidIn bs (λ b. (WellFormed b × Rust b) × (TypedInit b × RustInit b))
 unfolding init_check_bytes
 init-check-says bs =
     judged-laid bs init_check (λ b. (Typed b × Rust b) × (TypedInit b × RustInit b)) init-check-typed (λ b. (WellFormed b × Rust b) × (TypedInit b × RustInit b))
@@ -149,10 +150,10 @@ init-check-says bs =
 
 -- ---- Under limits
 module _ (bs : List ℕ) {l m : Limits} (h : Within l m) where
-  pub check-raised : Raised (Refused OverLimit) (check_bytes (bs under l)) (check_bytes (bs under m))
+  pub check-raised : Raised (Err OverLimit) (check_bytes (bs under l)) (check_bytes (bs under m))
   unfolding check_bytes
   check-raised = raised-check bs h check
 
-  pub init-check-raised : Raised (Refused OverLimit) (init_check_bytes (bs under l)) (init_check_bytes (bs under m))
+  pub init-check-raised : Raised (Err OverLimit) (init_check_bytes (bs under l)) (init_check_bytes (bs under m))
   unfolding init_check_bytes
   init-check-raised = raised-check bs h init_check

@@ -25,8 +25,8 @@ use Rattle.format.proofs.Logic.{both, both₃, join₃}
 use Rattle.format.proofs.Occurs.{Everywhere, Somewhere, EachTree, occurs-end, beside-none, everywhere-tree, in-kids, in-next, each-tree, in-others, somewhere-below, somewhere-after, reference-occurs, occurs-reference}
 use Rattle.refusals.specs.declared.Refusal.{Refusal}
 use Rattle.refusals.specs.declared.Refusal.TheVariants.{Unbound, Class, Modes, Oneway as OnewayResults, MethodNoFunction}
-use Rattle.refusals.specs.declared.Verdict.{Verdict}
-use Rattle.refusals.specs.declared.Verdict.TheVariants.{Passed, Refused}
+use Rattle.std.specs.Prelude.{Err}
+use Rattle.refusals.specs.Verdict.{Verdict, passes}
 use Rattle.refusals.proofs.Verdicts.{refused-passed, passed-refused, both-pass, pass-both, which-refused, unless-passed, unless-refused, fails-not}
 use Rattle.judgement.specs.Environment.{Found, missing, body, find_type, is_func_kind, is_serv_kind}
 use Rattle.judgement.specs.Aliases.{as_func}
@@ -88,17 +88,17 @@ data ModesBad (a : ℕ) (ms : List FuncMode) (kids : ℕ) : Refusal → Type 0 w
   many : 1 < length ms → ModesBad a ms kids Modes
   results : ms ≡ Oneway ∷ [] → a < kids → ModesBad a ms kids OnewayResults
 
-modes-passed : (a : ℕ) (ms : List FuncMode) (kids : ℕ) → modes_verdict a ms kids ≡ Passed → ModesGood a ms kids
+modes-passed : (a : ℕ) (ms : List FuncMode) (kids : ℕ) → modes_verdict a ms kids ≡ passes → ModesGood a ms kids
 unfolding modes_verdict is_oneway
 modes-passed a [] kids e = (omega arith, λ m. absurd (Memᴰ.not-nil m))
 modes-passed a (m ∷ []) kids e = (
   omega arith,
-  λ i. let d = subst (λ (k : FuncMode). modes_verdict a (k ∷ []) kids ≡ Passed) (sym (Memᴰ.eq_of_singleton i)) e in
+  λ i. let d = subst (λ (k : FuncMode). modes_verdict a (k ∷ []) kids ≡ passes) (sym (Memᴰ.eq_of_singleton i)) e in
       nltb→le a kids (unless-passed (not (ltb a kids)) OnewayResults d),
 )
 modes-passed a (m ∷ (l ∷ ms)) kids e = refused-passed e
 
-passed-modes : (a : ℕ) (ms : List FuncMode) (kids : ℕ) → ModesGood a ms kids → modes_verdict a ms kids ≡ Passed
+passed-modes : (a : ℕ) (ms : List FuncMode) (kids : ℕ) → ModesGood a ms kids → modes_verdict a ms kids ≡ passes
 unfolding modes_verdict is_oneway
 passed-modes a [] kids g = refl
 passed-modes a (Oneway ∷ []) kids g = rw (le-ltb a kids (g.1 (Memᴰ.head refl)))
@@ -106,7 +106,7 @@ passed-modes a (Query ∷ []) kids g = refl
 passed-modes a (CompositeQuery ∷ []) kids g = refl
 passed-modes a (m ∷ (l ∷ ms)) kids g = let z : ⊥ = omega arith in absurd z
 
-modes-refused : (a : ℕ) (ms : List FuncMode) (kids : ℕ) {r : Refusal} → modes_verdict a ms kids ≡ Refused r → ModesBad a ms kids r
+modes-refused : (a : ℕ) (ms : List FuncMode) (kids : ℕ) {r : Refusal} → modes_verdict a ms kids ≡ Err r → ModesBad a ms kids r
 unfolding modes_verdict is_oneway
 modes-refused a [] kids e = passed-refused e
 modes-refused a (Oneway ∷ []) kids e =
@@ -116,7 +116,7 @@ modes-refused a (Query ∷ []) kids e = passed-refused e
 modes-refused a (CompositeQuery ∷ []) kids e = passed-refused e
 modes-refused a (m ∷ (l ∷ ms)) kids {r} e = let z : Modes ≡ r = cc in subst (ModesBad a (m ∷ (l ∷ ms)) kids) z (many (omega arith))
 
-refused-modes : (a : ℕ) (ms : List FuncMode) (kids : ℕ) {r : Refusal} → ModesBad a ms kids r → modes_verdict a ms kids ≡ Refused r
+refused-modes : (a : ℕ) (ms : List FuncMode) (kids : ℕ) {r : Refusal} → ModesBad a ms kids r → modes_verdict a ms kids ≡ Err r
 unfolding modes_verdict is_oneway
 refused-modes a [] kids (many l) = let z : ⊥ = omega arith in absurd z
 refused-modes a (m ∷ []) kids (many l) = let z : ⊥ = omega arith in absurd z
@@ -135,29 +135,29 @@ pub record Asked (ds : List Definition) (κ : Kind) (kids : ℕ) : Type 0 where
 data Unasked (ds : List Definition) (κ : Kind) (kids : ℕ) (below : Verdict) : Refusal → Type 0 where
   unbound : {n : ℕ} → κ ≡ VarT n → (Defined ds n → ⊥) → Unasked ds κ kids below (Unbound n)
   class : κ ≡ ClassT → Unasked ds κ kids below Class
-  under : {r : Refusal} → (κ ≡ ClassT → ⊥) → below ≡ Refused r → Unasked ds κ kids below r
-  modes : {r : Refusal} {a : ℕ} {ms : List FuncMode} → κ ≡ FuncT a ms → below ≡ Passed → ModesBad a ms kids r → Unasked ds κ kids below r
+  under : {r : Refusal} → (κ ≡ ClassT → ⊥) → below ≡ Err r → Unasked ds κ kids below r
+  modes : {r : Refusal} {a : ℕ} {ms : List FuncMode} → κ ≡ FuncT a ms → below ≡ passes → ModesBad a ms kids r → Unasked ds κ kids below r
 
-name-passed : (n : ℕ) (g : Found) → name_verdict n g ≡ Passed → g ≡ missing → ⊥
+name-passed : (n : ℕ) (g : Found) → name_verdict n g ≡ passes → g ≡ missing → ⊥
 unfolding name_verdict
 name-passed n missing e h = refused-passed e
 name-passed n (body t) e h = let z : ◌≡◌ {A = ℕ} 0 1 = cc in omega arith
 
-passed-name : (n : ℕ) (g : Found) → (g ≡ missing → ⊥) → name_verdict n g ≡ Passed
+passed-name : (n : ℕ) (g : Found) → (g ≡ missing → ⊥) → name_verdict n g ≡ passes
 unfolding name_verdict
 passed-name n missing h = absurd (h refl)
 passed-name n (body t) h = refl
 
-name-refused : (n : ℕ) (g : Found) {r : Refusal} → name_verdict n g ≡ Refused r → (Unbound n ≡ r) × (g ≡ missing)
+name-refused : (n : ℕ) (g : Found) {r : Refusal} → name_verdict n g ≡ Err r → (Unbound n ≡ r) × (g ≡ missing)
 unfolding name_verdict
 name-refused n missing e = (cc, refl)
 name-refused n (body t) e = passed-refused e
 
 module _ (ds : List Definition) where
-  kind-asked : (κ : Kind) (kids : ℕ) (below : Verdict) → kind_verdict ds κ kids below ≡ Passed → Asked ds κ kids
+  kind-asked : (κ : Kind) (kids : ℕ) (below : Verdict) → kind_verdict ds κ kids below ≡ passes → Asked ds κ kids
   unfolding kind_verdict
   kind-asked κ kids below e =
-      let at : (k : Kind) → κ ≡ k → kind_verdict ds k kids below ≡ Passed = λ k d. subst (λ (l : Kind). kind_verdict ds l kids below ≡ Passed) d e in
+      let at : (k : Kind) → κ ≡ k → kind_verdict ds k kids below ≡ passes = λ k d. subst (λ (l : Kind). kind_verdict ds l kids below ≡ passes) d e in
       record {
         bound = λ n d. (found-says ds n).0 (name-passed n (find_type ds n) (at (VarT n) d));
         no_class = λ d. refused-passed (at ClassT d);
@@ -165,8 +165,8 @@ module _ (ds : List Definition) where
       }
 
   -- the children are walked, but for those of a leaf, which has none
-  below-passed : (names : ℕ) (κ : Kind) (kids : ℕ) (below : Verdict) → T (kind_fits names κ kids) → (kids ≡ 0 → below ≡ Passed) →
-      kind_verdict ds κ kids below ≡ Passed → below ≡ Passed
+  below-passed : (names : ℕ) (κ : Kind) (kids : ℕ) (below : Verdict) → T (kind_fits names κ kids) → (kids ≡ 0 → below ≡ passes) →
+      kind_verdict ds κ kids below ≡ passes → below ≡ passes
   unfolding kind_verdict kind_fits
   below-passed names (PrimT p) kids below t h e = h (eqb→eq kids 0 t)
   below-passed names (VarT n) kids below t h e = h (eqb→eq kids 0 (both (ltb n names) (eqb kids 0) t).1)
@@ -179,7 +179,7 @@ module _ (ds : List Definition) where
   below-passed names ClassT kids below t h e = refused-passed e
   below-passed names InitT kids below t h e = e
 
-  passed-kind : (κ : Kind) (kids : ℕ) (below : Verdict) → Asked ds κ kids → below ≡ Passed → kind_verdict ds κ kids below ≡ Passed
+  passed-kind : (κ : Kind) (kids : ℕ) (below : Verdict) → Asked ds κ kids → below ≡ passes → kind_verdict ds κ kids below ≡ passes
   unfolding kind_verdict
   passed-kind (PrimT p) kids below a e = refl
   passed-kind (VarT n) kids below a e = passed-name n (find_type ds n) ((found-says ds n).1 (a.bound n refl))
@@ -192,7 +192,7 @@ module _ (ds : List Definition) where
   passed-kind ClassT kids below a e = absurd (a.no_class refl)
   passed-kind InitT kids below a e = e
 
-  kind-refused : (κ : Kind) (kids : ℕ) (below : Verdict) {r : Refusal} → kind_verdict ds κ kids below ≡ Refused r → Unasked ds κ kids below r
+  kind-refused : (κ : Kind) (kids : ℕ) (below : Verdict) {r : Refusal} → kind_verdict ds κ kids below ≡ Err r → Unasked ds κ kids below r
   unfolding kind_verdict is_class_kind
   kind-refused (PrimT p) kids below e = passed-refused e
   kind-refused (VarT n) kids below e =
@@ -211,8 +211,8 @@ module _ (ds : List Definition) where
   kind-refused ClassT kids below {r} e = let z : Class ≡ r = cc in subst (Unasked ds ClassT kids below) z (class refl)
   kind-refused InitT kids below e = under (not-class refl) e
 
-  refused-under : (names : ℕ) (κ : Kind) (kids : ℕ) (below : Verdict) {r : Refusal} → T (kind_fits names κ kids) → (kids ≡ 0 → below ≡ Passed) →
-      (κ ≡ ClassT → ⊥) → below ≡ Refused r → kind_verdict ds κ kids below ≡ Refused r
+  refused-under : (names : ℕ) (κ : Kind) (kids : ℕ) (below : Verdict) {r : Refusal} → T (kind_fits names κ kids) → (kids ≡ 0 → below ≡ passes) →
+      (κ ≡ ClassT → ⊥) → below ≡ Err r → kind_verdict ds κ kids below ≡ Err r
   unfolding kind_verdict kind_fits
   refused-under names (PrimT p) kids below t h c e = passed-refused (sym (h (eqb→eq kids 0 t)) ∙ e)
   refused-under names (VarT n) kids below t h c e = passed-refused (sym (h (eqb→eq kids 0 (both (ltb n names) (eqb kids 0) t).1)) ∙ e)
@@ -225,16 +225,16 @@ module _ (ds : List Definition) where
   refused-under names ClassT kids below t h c e = absurd (c refl)
   refused-under names InitT kids below t h c e = e
 
-  refused-kind : (names : ℕ) (κ : Kind) (kids : ℕ) (below : Verdict) {r : Refusal} → T (kind_fits names κ kids) → (kids ≡ 0 → below ≡ Passed) →
-      Unasked ds κ kids below r → kind_verdict ds κ kids below ≡ Refused r
+  refused-kind : (names : ℕ) (κ : Kind) (kids : ℕ) (below : Verdict) {r : Refusal} → T (kind_fits names κ kids) → (kids ≡ 0 → below ≡ passes) →
+      Unasked ds κ kids below r → kind_verdict ds κ kids below ≡ Err r
   unfolding kind_verdict name_verdict
   refused-kind names κ kids below t h (unbound {n = n} e d) = rw (e, (missing-says ds n).1 d)
   refused-kind names κ kids below t h (class e) = rw e
   refused-kind names κ kids below t h (under c e) = refused-under names κ kids below t h c e
   refused-kind names κ kids below t h (modes {a = a} {ms = ms} e p b) = rw (e, p) (refused-modes a ms kids b)
 
-  kind-say : (names : ℕ) (κ : Kind) (kids : ℕ) (below : Verdict) → T (kind_fits names κ kids) → (kids ≡ 0 → below ≡ Passed) →
-      Says (kind_verdict ds κ kids below) (Asked ds κ kids × (below ≡ Passed)) (Unasked ds κ kids below)
+  kind-say : (names : ℕ) (κ : Kind) (kids : ℕ) (below : Verdict) → T (kind_fits names κ kids) → (kids ≡ 0 → below ≡ passes) →
+      Says (kind_verdict ds κ kids below) (Asked ds κ kids × (below ≡ passes)) (Unasked ds κ kids below)
   kind-say names κ kids below t h = record {
     passed = (λ e. (kind-asked κ kids below e, below-passed names κ kids below t h e), λ a. passed-kind κ kids below a.0 a.1);
     refused = λ r. (kind-refused κ kids below, refused-kind names κ kids below t h);
@@ -307,7 +307,7 @@ sound-methods ds f = (
 )
 
 -- ---- The walk
-no-trees : (pre tested : Bool) (ds : List Definition) (f : Forest Node) → breadth f ≡ 0 → check_forest pre tested ds f ≡ Passed
+no-trees : (pre tested : Bool) (ds : List Definition) (f : Forest Node) → breadth f ≡ 0 → check_forest pre tested ds f ≡ passes
 unfolding check_forest breadth
 no-trees pre tested ds end e = refl
 no-trees pre tested ds (tree n kids next) e = let z : ⊥ = omega arith in absurd z
@@ -337,7 +337,7 @@ module _ (ds : List Definition) (once : Distinct (map defined_name ds)) where
   module _ (tests method : Bool) (n : Node) (kids next : Forest Node) (below : Verdict)
       (says : Says below (Good tests (tests && is_serv_kind n.kind) kids) (Fault ds tests (tests && is_serv_kind n.kind) kids)) where
     abbrev Node-good : Type 0
-    Node-good = Asked ds n.kind (breadth kids) × (below ≡ Passed)
+    Node-good = Asked ds n.kind (breadth kids) × (below ≡ passes)
 
     abbrev Method-good : Type 0
     Method-good = T method → IsFunction ds n kids

@@ -8,9 +8,8 @@ use Rattle.format.specs.Book.{Definition, File, Book}
 use Rattle.format.specs.Admission.{admitted, Source}
 use Rattle.refusals.specs.declared.Refusal.{Refusal}
 use Rattle.refusals.specs.declared.Refusal as refusal
-use Rattle.refusals.specs.declared.Verdict.{Verdict}
-use Rattle.refusals.specs.declared.Verdict.TheVariants.{Passed, Refused}
-use Rattle.refusals.specs.Verdict.{and_then, unless}
+use Rattle.std.specs.Prelude.{Err}
+use Rattle.refusals.specs.Verdict.{Verdict, passes, and_then, unless}
 use Rattle.refusals.specs.Outcome.{judged}
 use Rattle.judgement.specs.Environment.{main_definitions, init_definitions, merge_definitions, Found, missing, body, find_type, is_serv_kind, kids_of, same_forest}
 use Rattle.judgement.specs.Aliases.{End, unbound, circle, ends, alias_end, root_passes, as_func, as_service}
@@ -21,8 +20,8 @@ use Rattle.judgement.specs.Resolve.{resolve_actor}
 
 -- A name has to have a definition.
 unfoldable pub name_verdict : ℕ → Found → Verdict
-name_verdict n missing = Refused (refusal.Refusal.Unbound n)
-name_verdict n (body t) = Passed
+name_verdict n missing = Err (refusal.Refusal.Unbound n)
+name_verdict n (body t) = passes
 
 unfoldable pub is_oneway : FuncMode → Bool
 is_oneway Oneway = true
@@ -31,13 +30,13 @@ is_oneway CompositeQuery = false
 
 -- At most one mode; oneway without results, where `kids` are the arguments and results.
 unfoldable pub modes_verdict : ℕ → List FuncMode → ℕ → Verdict
-modes_verdict arguments [] kids = Passed
+modes_verdict arguments [] kids = passes
 modes_verdict arguments (m ∷ []) kids = unless (not (is_oneway m && ltb arguments kids)) refusal.Refusal.Oneway
-modes_verdict arguments (m ∷ (l ∷ ms)) kids = Refused refusal.Refusal.Modes
+modes_verdict arguments (m ∷ (l ∷ ms)) kids = Err refusal.Refusal.Modes
 
 -- A node, where `below` is the verdict of its children: they come before the modes, and a class is not opened.
 unfoldable pub kind_verdict : List Definition → Kind → ℕ → Verdict → Verdict
-kind_verdict ds (PrimT p) kids below = Passed
+kind_verdict ds (PrimT p) kids below = passes
 kind_verdict ds (VarT n) kids below = name_verdict n (find_type ds n)
 kind_verdict ds OptT kids below = below
 kind_verdict ds VecT kids below = below
@@ -45,7 +44,7 @@ kind_verdict ds RecordT kids below = below
 kind_verdict ds VariantT kids below = below
 kind_verdict ds (FuncT a ms) kids below = and_then below (modes_verdict a ms kids)
 kind_verdict ds ServT kids below = below
-kind_verdict ds ClassT kids below = Refused refusal.Refusal.Class
+kind_verdict ds ClassT kids below = Err refusal.Refusal.Class
 kind_verdict ds InitT kids below = below
 
 -- A method that is to be tested has to be a function.
@@ -56,7 +55,7 @@ method_verdict tested ds n kids =
 -- Trees from left to right, children first. While bodies are walked (`pre`) methods are not tested; `tested`: these trees are methods
 -- that are, each right after its own subtree.
 unfoldable pub check_forest : Bool → Bool → List Definition → Forest Node → Verdict
-check_forest pre tested ds end = Passed
+check_forest pre tested ds end = passes
 check_forest pre tested ds (tree n kids next) =
     and_then
     (and_then (kind_verdict ds n.kind (breadth kids) (check_forest pre (not pre && is_serv_kind n.kind) ds kids)) (method_verdict tested ds n kids))
@@ -70,18 +69,18 @@ member n (m ∷ ms) = eqb n m || member n ms
 
 -- 2: a name that an earlier definition has.
 unfoldable pub once_verdict : List ℕ → List Definition → Verdict
-once_verdict seen [] = Passed
+once_verdict seen [] = passes
 once_verdict seen (d ∷ ds) =
     and_then (unless (not (member d.name seen)) (refusal.Refusal.Twice d.name)) (once_verdict (d.name ∷ seen) ds)
 
 -- 3 to 6, `check_defs`: the bodies of `ds`, where `all` are the definitions.
 unfoldable pub bodies_verdict : List Definition → List Definition → Verdict
-bodies_verdict all [] = Passed
+bodies_verdict all [] = passes
 bodies_verdict all (d ∷ ds) = and_then (check_forest true false all d.body) (bodies_verdict all ds)
 
 -- What f says of n, n + 1 and so on, k of them.
 unfoldable pub each_name : (ℕ → Verdict) → ℕ → ℕ → Verdict
-each_name f n zero = Passed
+each_name f n zero = passes
 each_name f n (suc k) = and_then (f n) (each_name f (suc n) k)
 
 -- 7, `check_cycle`: the chain from a name's definition never ends.
@@ -91,7 +90,7 @@ is_circle circle = true
 is_circle (ends t) = false
 
 unfoldable pub circle_verdict : List Definition → ℕ → Found → Verdict
-circle_verdict ds n missing = Passed
+circle_verdict ds n missing = passes
 circle_verdict ds n (body t) = unless (not (is_circle (alias_end ds t))) (refusal.Refusal.Circle n)
 
 -- 8, `validate_decs`: each method of each service in the trees is a function. `tested`: these trees are methods.
@@ -116,42 +115,42 @@ decs_verdict names ds =
 
 -- 12: a service import has an actor.
 unfoldable pub imports_verdict : List File → Verdict
-imports_verdict [] = Passed
+imports_verdict [] = passes
 imports_verdict (f ∷ fs) = and_then (unless (not (no_trees f.actor)) (refusal.Refusal.ImportWithoutActor f.name)) (imports_verdict fs)
 
 -- `chase_service`: the alias end is a service; `else'` where it is another type.
 unfoldable pub service_verdict : Refusal → End → Verdict
-service_verdict else' (unbound n) = Refused (refusal.Refusal.Unbound n)
-service_verdict else' circle = Refused else'
+service_verdict else' (unbound n) = Err (refusal.Refusal.Unbound n)
+service_verdict else' circle = Err else'
 service_verdict else' (ends t) = unless (root_passes is_serv_kind (ends t)) else'
 
 -- 13
 unfoldable pub imported_verdict : List Definition → List File → Verdict
-imported_verdict ds [] = Passed
+imported_verdict ds [] = passes
 imported_verdict ds (f ∷ fs) =
     and_then (service_verdict (refusal.Refusal.ImportNoService f.name) (alias_end ds f.actor)) (imported_verdict ds fs)
 
 -- 14: a method whose hash an earlier one has.
 unfoldable pub hashes_verdict : List (List ℕ) → List ℕ → Forest Node → Verdict
-hashes_verdict names seen end = Passed
+hashes_verdict names seen end = passes
 hashes_verdict names seen (tree n kids next) =
     let hash = label_number (get_or names (label_value n.label) []) in
     and_then (unless (not (member hash seen)) (refusal.Refusal.SameHash (label_value n.label))) (hashes_verdict names (hash ∷ seen) next)
 
 -- The main actor is resolved first, where there is one; a class's service for a class.
 unfoldable pub main_verdict : List Definition → Forest Node → Verdict
-main_verdict ds main = cond (no_trees main) Passed (service_verdict refusal.Refusal.NoService (alias_end ds (below_class main)))
+main_verdict ds main = cond (no_trees main) passes (service_verdict refusal.Refusal.NoService (alias_end ds (below_class main)))
 
 -- With service imports alone: main, each import, and then the hashes of all methods together.
 unfoldable pub resolve_verdict : List (List ℕ) → List Definition → Forest Node → List File → Forest Node → Verdict
-resolve_verdict names ds main [] resolved = Passed
+resolve_verdict names ds main [] resolved = passes
 resolve_verdict names ds main (f ∷ fs) resolved =
     and_then (main_verdict ds main) (and_then (imported_verdict ds (f ∷ fs)) (hashes_verdict names [] (kids_of (below_class resolved))))
 
 -- The actor walk, and 10: what stands below a class's top is a service.
 unfoldable pub actor_verdict : List Definition → Forest Node → Verdict
 actor_verdict ds t =
-    cond (no_trees t) Passed
+    cond (no_trees t) passes
     (and_then (check_forest false false ds (cond (is_class t) (kids_of t) t)) (unless (as_service ds (below_class t)) refusal.Refusal.NoService))
 
 -- ---- The check and the init check
@@ -166,8 +165,8 @@ check b =
 
 -- 11, `merge`: the lowest name on which two sets of definitions differ.
 unfoldable pub same_verdict : List (List ℕ) → ℕ → Found → Found → Verdict
-same_verdict names n missing g = Passed
-same_verdict names n (body t) missing = Passed
+same_verdict names n missing g = passes
+same_verdict names n (body t) missing = passes
 same_verdict names n (body t) (body u) = unless (same_forest names Root t u) (refusal.Refusal.Differs n)
 
 unfoldable pub merge_verdict : List (List ℕ) → List Definition → List Definition → Verdict

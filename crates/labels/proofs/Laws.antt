@@ -1,18 +1,12 @@
 -- The laws of the label number, and that its two definitions agree. Assumes nothing.
-use Rattle.std.proofs.Common.{◌≡◌, ℕ, ◌+◌, ◌*◌, ◌/◌, ◌%◌, ◌^◌, ◌<◌, List, [], ◌∷◌, ◌++◌, length, sym, refl, ap, ◌∙◌, add-zero, add_assoc, mod-lt, mod-eq_of_lt, mul_assoc, add-mul, div-add-mod', zero-add, zero-mul, mul-one, mul_right_comm, arith, length-append, pow_pos, pow-add}
-use native.Mathlib.Nat.{mod-add-mod, mul-add-mod_self_right, pow-succ', pow-zero}
+use Rattle.std.proofs.Common.{◌≡◌, ℕ, ◌+◌, ◌*◌, ◌%◌, ◌^◌, ◌<◌, List, [], ◌∷◌, ◌++◌, length, sym, refl, ap, ◌∙◌, add-zero, add_assoc, mod-lt, mod-eq_of_lt, mul_assoc, add-mul, zero-add, zero-mul, mul-one, arith, length-append, pow_pos, pow-add}
+use Rattle.std.proofs.lemmas.Nat.{mul-mod_first}
+use native.Mathlib.Nat.{mod-add-mod, pow-succ', pow-zero}
 use Rattle.labels.specs.Number.{weighted_sum, label_number, fold_from, label_fold}
 
--- A factor, or a factor in a sum, may be taken modulo m first.
-mod-mul-mod : (a b m : ℕ) → (a % m * b) % m ≡ (a * b) % m
-mod-mul-mod a b m =
-    sym (mul-add-mod_self_right (a / m * b) m (a % m * b))
-    ∙ ap (λ (x : ℕ). (x + a % m * b) % m) (mul_right_comm (a / m) b m)
-    ∙ ap (λ (x : ℕ). x % m) (sym (add-mul (a / m * m) (a % m) b))
-    ∙ ap (λ (x : ℕ). x * b % m) (div-add-mod' a m)
-
+-- A factor in a sum may be taken modulo m first.
 mod-mul-add-mod : (a b c m : ℕ) → (a % m * b + c) % m ≡ (a * b + c) % m
-mod-mul-add-mod a b c m = sym (mod-add-mod (a % m * b) m c) ∙ ap (λ (x : ℕ). (x + c) % m) (mod-mul-mod a b m) ∙ mod-add-mod (a * b) m c
+mod-mul-add-mod a b c m = sym (mod-add-mod (a % m * b) m c) ∙ rw (mul-mod_first a b m) (mod-add-mod (a * b) m c)
 
 -- A last byte more: all before it count 223 times as much.
 weighted_sum-append : (bs : List ℕ) (b : ℕ) → weighted_sum (bs ++ (b ∷ [])) ≡ weighted_sum bs * 223 + b

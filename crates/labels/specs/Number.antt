@@ -1,5 +1,5 @@
 -- The number of a name, given by its bytes. Assumes nothing: these are definitions.
-use Rattle.std.specs.Prelude.{ℕ, ◌+◌, ◌*◌, ◌%◌, ◌^◌, List, [], ◌∷◌, length}
+use Rattle.std.specs.Prelude.{ℕ, ◌+◌, ◌*◌, ◌%◌, ◌^◌, List, [], ◌∷◌, length, fold}
 
 -- A byte with n bytes after it counts as the byte times 223 to the power n.
 unfoldable pub weighted_sum : List ℕ → ℕ
@@ -12,8 +12,7 @@ label_number bs = weighted_sum bs % 2 ^ 32
 
 -- The same as a computation, from s on: for each byte, times 223 plus the byte, kept modulo 2^32.
 unfoldable pub fold_from : ℕ → List ℕ → ℕ
-fold_from s [] = s
-fold_from s (b ∷ bs) = fold_from ((s * 223 + b) % 2 ^ 32) bs
+fold_from s bs = fold (λ a b. (a * 223 + b) % 2 ^ 32) s bs
 
 -- From 0 on. (Laws.antt: `label_fold bs ≡ label_number bs`.)
 unfoldable pub label_fold : List ℕ → ℕ

@@ -2,33 +2,35 @@
 // Every function is total: none asks anything of its caller.
 #![tactic(auto)]
 
-ghost use Rattle.std.specs.Prelude.{◌≡◌, ◌*◌, ◌%◌, ◌^◌, ◌==◌};
+ghost use Rattle.std.specs.Prelude.{◌≡◌, ◌==◌};
 ghost use Rattle.labels.specs.Number.{label_number};
-ghost use Rattle.labels.specs.Label.{label_kind_of, value_of, id_by};
+ghost use Rattle.labels.specs.Label.{label_kind_of, label_kind_number, value_of, id_by};
 
-// x times 223, modulo 2^32. In 64 bits the product fits.
-fn mul_223(x: u32) -> u32
-    ensures { result ≡ (x * 223) % 2 ^ 32 }
-{
-    (x as u64 * 223 % 4294967296) as u32
-}
-
-// The number of the name `id`.
+// The number of the name `id`: for each byte, times 223 plus the byte, modulo 2^32.
 pub fn idl_hash(id: &[u8]) -> u32
     ensures { result ≡ label_number id.now }
 {
-    let mut s: u32 = 0;
-    let mut i = 0;
-    while i < id.len() {
-        s = std::num::wrapping_add_u32(mul_223(s), id[i] as u32);
-        i += 1;
-    }
-    s
+    id.iter().fold(0u32, |hash, byte| {
+        hash.wrapping_mul(223).wrapping_add(u32::from(*byte))
+    })
+}
+
+// The kinds of label that a book writes, by their number there.
+#[derive(Clone, Copy, PartialEq, Eq, Debug)]
+pub enum LabelKind {
+    // Of a node without a label.
+    None,
+    // A number.
+    Id,
+    // A name number.
+    Named,
+    // The number of a field that the text leaves without a label.
+    Unnamed,
 }
 
 // What labels a field, a case or a method. A `Named` label holds a name number, a place in the book's table of names: an enum holds
 // no reference, so the label number of the name is handed over beside the label where its own is asked for.
-#[derive(Clone, Copy)]
+#[derive(Clone, Copy, Debug)]
 pub enum Label {
     Id(u32),
     Named(u32),
@@ -36,47 +38,14 @@ pub enum Label {
 }
 
 impl Label {
-    // The label kinds that a book writes. First that of a node without a label.
-    pub const NONE: u8 = 0;
-
-    // A number.
-    pub const ID: u8 = 1;
-
-    // A name number.
-    pub const NAMED: u8 = 2;
-
-    // The number of a field that the text leaves without a label.
-    pub const UNNAMED: u8 = 3;
-
-    // The label that is the number n.
-    pub fn id(n: u32) -> Label
-        ensures { result ≡ Label.Id n }
-    {
-        Label::Id(n)
-    }
-
-    // The label that is the name at place n of the table of names.
-    pub fn named(n: u32) -> Label
-        ensures { result ≡ Label.Named n }
-    {
-        Label::Named(n)
-    }
-
-    // The label of a field that the text leaves without one, with the number n that its place gives.
-    pub fn unnamed(n: u32) -> Label
-        ensures { result ≡ Label.Unnamed n }
-    {
-        Label::Unnamed(n)
-    }
-
     // The label kind that a book writes for it.
-    pub fn kind(self) -> u8
-        ensures { result ≡ label_kind_of self }
+    pub fn kind(self) -> LabelKind
+        ensures { label_kind_number result ≡ label_kind_of self }
     {
         match self {
-            Label::Id(_) => Label::ID,
-            Label::Named(_) => Label::NAMED,
-            Label::Unnamed(_) => Label::UNNAMED,
+            Label::Id(_) => LabelKind::Id,
+            Label::Named(_) => LabelKind::Named,
+            Label::Unnamed(_) => LabelKind::Unnamed,
         }
     }
 
@@ -85,9 +54,7 @@ impl Label {
         ensures { result ≡ value_of self }
     {
         match self {
-            Label::Id(n) => n,
-            Label::Named(n) => n,
-            Label::Unnamed(n) => n,
+            Label::Id(n) | Label::Named(n) | Label::Unnamed(n) => n,
         }
     }
 
@@ -96,13 +63,12 @@ impl Label {
         ensures { result ≡ id_by self hash }
     {
         match self {
-            Label::Id(n) => n,
             Label::Named(_) => hash,
-            Label::Unnamed(n) => n,
+            Label::Id(n) | Label::Unnamed(n) => n,
         }
     }
 
-    // Whether two labels are equal: their numbers are.
+    // Whether two labels are equal: their numbers are. A derived `==` would tell a name from the number that it stands for.
     pub fn same(self, hash: u32, other: Label, other_hash: u32) -> bool
         ensures { result ≡ (id_by self hash == id_by other other_hash) }
     {

@@ -7,18 +7,17 @@ use lib.ListN.{length, take, drop, length-append}
 use lib.Seq.{take_at}
 use Rattle.refusals.specs.declared.Refusal.{Refusal}
 use Rattle.refusals.specs.Outcome.{Outcome, refused, given, fit}
-use Rattle.refusals.specs.declared.Answer.{Answer}
-use Rattle.refusals.specs.declared.Answer.TheVariants.{Given, Refused}
-use Rattle.refusals.specs.Handed.{answer_of, left_in, HandedAs}
+use Rattle.std.specs.Prelude.{Ok, Err}
+use Rattle.refusals.specs.Handed.{Answer, answer_of, left_in, HandedAs}
 
 -- The number that an answer gives, and the outcome that it tells with what the list holds.
 abbrev count_of : Answer → ℕ
-count_of (Given n) = n
-count_of (Refused r) = 0
+count_of (Ok n) = n
+count_of (Err r) = 0
 
 abbrev outcome_of : Answer → List ℕ → Outcome (List ℕ)
-outcome_of (Given n) l = given (take n l)
-outcome_of (Refused r) l = refused r
+outcome_of (Ok n) l = given (take n l)
+outcome_of (Err r) l = refused r
 
 module _ {o : Outcome (List ℕ)} {old new : List ℕ} {r : Answer} (h : HandedAs o old new r) {places : ℕ} (n : places ≡ length old) where
   -- The outcome is the answer with the entries that stand in front.
@@ -33,11 +32,11 @@ module _ {o : Outcome (List ℕ)} {old new : List ℕ} {r : Answer} (h : HandedA
         omega (arith, ap length u, length-append l (drop (length l) old)),
       )
 
-  pub refused-is : {why : Refusal} → r ≡ Refused why → fit places o ≡ refused why
+  pub refused-is : {why : Refusal} → r ≡ Err why → fit places o ≡ refused why
   refused-is e = answered.0 ∙ ap (λ (a : Answer). outcome_of a new) e
 
-  pub given-is : {count : ℕ} → r ≡ Given count → fit places o ≡ given (take count new)
+  pub given-is : {count : ℕ} → r ≡ Ok count → fit places o ≡ given (take count new)
   given-is e = answered.0 ∙ ap (λ (a : Answer). outcome_of a new) e
 
-  pub given-within : {count : ℕ} → r ≡ Given count → count ≤ length new
+  pub given-within : {count : ℕ} → r ≡ Ok count → count ≤ length new
   given-within e = omega (arith, answered.1, ap count_of e)

@@ -9,13 +9,14 @@ use borrow.Author.Tests.{le-leb, lt-leb}
 use lib.ListN.{length, take, length-append}
 use Rattle.format.specs.Layout.{name_in}
 use Rattle.refusals.specs.Outcome.{Outcome, refused, given, fit}
-use Rattle.print.specs.Laid.{Laid, LaidWithin}
+use Rattle.print.specs.declared.Text.{Text}
+use Rattle.print.specs.Laid.{Lays, LaysWithin}
 use Rattle.print.proofs.Laws.{decimal-length, quoted-length, name-length}
-use Rattle.print.proofs.Laid.{alias, wider, all-before}
-use Rattle.refusals.specs.declared.Answer.{Answer}
-use Rattle.refusals.specs.declared.Answer.TheVariants.{Given}
-use Rattle.refusals.specs.Handed.{HandedAs}
-use Rattle.list.specs.Printed.{heading, mark_of, line, lines, marks_in, marked_text, printed, marks_asked}
+use Rattle.print.proofs.Laid.{all-before}
+use Rattle.print.proofs.Lays.{alias, within}
+use Rattle.std.specs.Prelude.{Ok}
+use Rattle.refusals.specs.Handed.{Answer, HandedAs}
+use Rattle.list.specs.Printed.{heading, mark_of, line, lines, marks_in, marked_text, marks_asked}
 use Rattle.list.proofs.Answered.{given-is}
 use Rattle.list.proofs.Listed.{marks-given}
 
@@ -54,7 +55,7 @@ fit-length places (given l) = go (dec_le (length l) places)
     go (yes h) = rw (le-leb (length l) places h) h
     go (no h) = rw (lt-leb (length l) places (omega arith)) (omega arith)
 
-pub given-few : {o : Outcome (List ℕ)} {old new : List ℕ} {r : Answer} (h : HandedAs o old new r) {places : ℕ} (n : places ≡ length old) {count : ℕ} → r ≡ Given count → length (take count new) ≤ places
+pub given-few : {o : Outcome (List ℕ)} {old new : List ℕ} {r : Answer} (h : HandedAs o old new r) {places : ℕ} (n : places ≡ length old) {count : ℕ} → r ≡ Ok count → length (take count new) ≤ places
 given-few {o} h {places} n e = omega (arith, fit-length places o, ap length_of (given-is h n e))
 
 given-length : (bs l marked : List ℕ) → length l ≤ 512 → length marked ≤ 1024 → length (marked_text bs l (given marked)) < 409600
@@ -69,17 +70,14 @@ given-length bs l marked h k =
 
 -- So the marks that are given are laid whole where there is that much room,
 module _ (bs l : List ℕ) {old new : List ℕ} {r : Answer} (h : HandedAs (marks_asked bs l) old new r) (n : 1024 ≡ length old) where
-  pub marks-laid : {count next : ℕ} {out out' : List ℕ} → length l ≤ 512 → r ≡ Given count → Laid (marked_text bs l (given (take count new))) out 0 next out' →
-      LaidWithin 409600 (marked_text bs l (marks_in bs l)) out 0 next out'
+  pub marks-laid : {count : ℕ} {a b : Text} → length l ≤ 512 → r ≡ Ok count → Lays (marked_text bs l (given (take count new))) a b →
+      LaysWithin 409600 (marked_text bs l (marks_in bs l)) a b
   marks-laid {count} f e p =
-      record {
-        laid = alias (marks-given bs l h n e) p;
-        few = rw (sym (marks-given bs l h n e)) (given-length bs l (take count new) f (given-few h n e));
-      }
+      let same = marks-given bs l h n e in
+      within (rw (sym same) (given-length bs l (take count new) f (given-few h n e))) (alias same p)
 
 -- and so is all that is printed.
-pub printed-laid : (bs : List ℕ) {text old new : List ℕ} {next k : ℕ} → 409600 ≤ length old → k ≤ 409600 → text ≡ printed bs → LaidWithin k text old 0 next new →
-    (take next new ≡ printed bs) × (next < 409600)
-printed-laid bs h g e q =
-    let p = wider g e q in
-    (all-before p.laid (omega (arith, p.few)), omega (arith, p.few, p.laid.place))
+pub printed-laid : {text final : List ℕ} {a b : Text} → 409600 ≤ length a.out.now → a.end ≡ 0 → LaysWithin 409600 text a b → final ≡ b.out.now → (take b.end final ≡ text) × (b.end < 409600)
+printed-laid h e q f =
+    let p = rw e at q.laid in
+    rw f (all-before p.laid (omega (arith, p.few)), omega (arith, p.few, p.laid.place))

@@ -12,7 +12,7 @@ use Rattle.format.specs.Book.{Book}
 use Rattle.format.specs.Layout.{Layout, broken, whole, layout, name_in}
 use Rattle.format.proofs.Encoded.{fit-parts}
 use Rattle.format.proofs.Theorems.{found}
-use Rattle.refusals.specs.declared.Verdict.TheVariants.{Passed}
+use Rattle.refusals.specs.Verdict.{passes}
 use Rattle.judgement.specs.Environment.{main_definitions}
 use Rattle.judgement.specs.Resolve.{resolve_actor}
 use Rattle.judgement.specs.Check.{member, check}
@@ -44,7 +44,7 @@ unfolding marked_text listed_text printed
 text bs e f = rw (e, f)
 
 -- ---- A book that is passed and has an actor
-module _ (bs : List ℕ) (b : Book) (read : admitted (bs under full) ≡ given b) (passed : check b ≡ Passed) (some : resolve_actor b ≡ end → ⊥) where
+module _ (bs : List ℕ) (b : Book) (read : admitted (bs under full) ≡ given b) (passed : check b ≡ passes) (some : resolve_actor b ≡ end → ⊥) where
   abbrev answers : Answers b
   answers = sent (bs under full) b read passed some
 

@@ -16,7 +16,7 @@ use native.Mathlib.Omega.{arith}
 use lib.ListN.{length, length-append}
 use Rattle.refusals.specs.declared.Refusal.{Refusal}
 use Rattle.refusals.specs.declared.Refusal.TheVariants.{Unbound}
-use Rattle.refusals.specs.declared.Verdict.TheVariants.{Passed}
+use Rattle.refusals.specs.Verdict.{passes}
 use Rattle.refusals.specs.declared.Crossed.{Crossed}
 use Rattle.refusals.specs.Refusal.{number_of}
 use Rattle.refusals.specs.Outcome.{Outcome, refused, given, asked}
@@ -123,7 +123,7 @@ module _ (ds : List Definition) (n : ℕ) where
     from-few x = omega (arith, x.count, ap length (from-chain x), crossed-most ds (name_type n))
 
 -- ---- The question on a book
-module _ (b : Book) (fits : Fits b) (passed : check b ≡ Passed) (n : ℕ) where
+module _ (b : Book) (fits : Fits b) (passed : check b ≡ passes) (n : ℕ) where
   abbrev ds : List Definition
   ds = main_definitions b
 

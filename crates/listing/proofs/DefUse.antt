@@ -26,7 +26,7 @@ use Rattle.format.specs.Node.{Nat, PrimT, OptT, FuncT, ServT, labelled, Node}
 use Rattle.format.specs.Book.{Definition, Book}
 use Rattle.format.specs.Fits.{Fits}
 use Rattle.format.proofs.Logic.{is-false}
-use Rattle.refusals.specs.declared.Verdict.TheVariants.{Passed}
+use Rattle.refusals.specs.Verdict.{passes}
 use Rattle.judgement.specs.Environment.{main_definitions, is_func_kind, is_serv_kind}
 use Rattle.judgement.specs.Aliases.{End, ends, alias_end, root_passes, methods_at}
 use Rattle.judgement.specs.Aliases as aliases
@@ -334,7 +334,7 @@ module _ (ds : List Definition) (actor : Forest Node) where
       )
 
 -- ---- On books
-module _ (b : Book) (fits : Fits b) (passed : check b ≡ Passed) where
+module _ (b : Book) (fits : Fits b) (passed : check b ≡ passes) where
   -- over the sites of any book that passes; a book without actor has none
   pub sites-made : (rows : List MapEntry) × (chase_sites (main_definitions b) (sites (main_definitions b) (resolve_actor b)) [] ≡ made rows) × Mapped (main_definitions b) (resolve_actor b) rows
   sites-made = sites-mapped (main_definitions b) (resolve_actor b) (passed-listed b fits passed)
@@ -390,7 +390,7 @@ pub sharing-fits : Fits sharing
 unfolding fitting beside
 sharing-fits = tt
 
-pub sharing-passes : check sharing ≡ Passed
+pub sharing-passes : check sharing ≡ passes
 unfolding checked beside
 sharing-passes = refl
 

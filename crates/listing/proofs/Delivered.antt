@@ -15,11 +15,10 @@ use lib.ListN.{length, drop, length-append, length-drop}
 use lib.Seq.{take-append_seam, drop-append_seam}
 use Rattle.refusals.specs.declared.Refusal.{Refusal}
 use Rattle.refusals.specs.declared.Refusal.TheVariants.{Unbound, Short}
-use Rattle.refusals.specs.declared.Answer.{Answer}
-use Rattle.refusals.specs.declared.Answer.TheVariants.{Given, Refused}
+use Rattle.std.specs.Prelude.{Ok, Err}
 use Rattle.refusals.specs.Lists.{flat}
 use Rattle.refusals.specs.Outcome.{Outcome, refused, given, fit}
-use Rattle.refusals.specs.Handed.{answer_of, left_in, HandedAs, Use, numbers, uses_left, UsesAs}
+use Rattle.refusals.specs.Handed.{Answer, answer_of, left_in, HandedAs, Use, numbers, uses_left, UsesAs}
 use Rattle.refusals.proofs.Outcomes.{given-refused, fit-said, fit-given}
 use Rattle.listing.specs.Demand3.{Gives, Delivered, Kept, Delivers}
 
@@ -47,18 +46,18 @@ fit-unbound places o n = (fit-said places o (λ k e. let z : ◌≡◌ {A = ℕ}
 
 -- ---- What an answer says of the outcome
 module _ {A : Type 0} where
-  answer-refused : (x : Outcome (List A)) {why : Refusal} → answer_of x ≡ Refused why → x ≡ refused why
+  answer-refused : (x : Outcome (List A)) {why : Refusal} → answer_of x ≡ Err why → x ≡ refused why
   unfolding answer_of
   answer-refused (refused r) e = ap refused cc
   answer-refused (given l) e = let z : ◌≡◌ {A = ℕ} 0 1 = cc in absurd (omega arith)
 
-  answer-given : (x : Outcome (List A)) {k : ℕ} → answer_of x ≡ Given k → (l : List A) × (x ≡ given l) × (length l ≡ k)
+  answer-given : (x : Outcome (List A)) {k : ℕ} → answer_of x ≡ Ok k → (l : List A) × (x ≡ given l) × (length l ≡ k)
   unfolding answer_of
   answer-given (refused r) e = let z : ◌≡◌ {A = ℕ} 0 1 = cc in absurd (omega arith)
   answer-given (given l) e = (l, refl, cc)
 
 -- ---- The lent list
-delivered : {count : ℕ} {entries old new : List ℕ} {r : Answer} → r ≡ Given count → new ≡ entries ++ drop (length entries) old → length entries ≤ length old →
+delivered : {count : ℕ} {entries old new : List ℕ} {r : Answer} → r ≡ Ok count → new ≡ entries ++ drop (length entries) old → length entries ≤ length old →
     Delivered count entries old new r
 delivered {entries = entries} {old = old} a e room = record {
   answer = a;
@@ -103,18 +102,18 @@ uses-delivers o {es} is = record { enough = enough; short = short }
 
 -- ---- What an answer tells of an outcome that was handed over
 module _ {o : Outcome (List ℕ)} {old new : List ℕ} {r : Answer} (h : HandedAs o old new r) where
-  pub handed-unbound : (n : ℕ) → (r ≡ Refused (Unbound n)) ↔ (o ≡ refused (Unbound n))
+  pub handed-unbound : (n : ℕ) → (r ≡ Err (Unbound n)) ↔ (o ≡ refused (Unbound n))
   unfolding answer_of
   handed-unbound n =
       let f = fit-unbound (length old) o n in
       (λ e. f.0 (answer-refused (fit (length old) o) (sym h.answer ∙ e)), λ e. h.answer ∙ ap answer_of (f.1 e))
 
-  pub handed-kept : {why : Refusal} → r ≡ Refused why → Kept why old new r
+  pub handed-kept : {why : Refusal} → r ≡ Err why → Kept why old new r
   unfolding left_in
   handed-kept e =
       record { answer = e; same = h.left ∙ ap (λ (x : Outcome (List ℕ)). left_in x old) (answer-refused (fit (length old) o) (sym h.answer ∙ e)) }
 
-  pub handed-gives : {k : ℕ} → r ≡ Given k → (l : List ℕ) × (o ≡ given l) × (length l ≡ k) × (length l ≤ length old)
+  pub handed-gives : {k : ℕ} → r ≡ Ok k → (l : List ℕ) × (o ≡ given l) × (length l ≡ k) × (length l ≤ length old)
   handed-gives e =
       let x = answer-given (fit (length old) o) (sym h.answer ∙ e) in
       (x.0, fit-given (length old) o x.1, x.2, fit-room o (length old) x.1)

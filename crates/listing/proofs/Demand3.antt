@@ -13,11 +13,10 @@ use Prim.Native.Nat.{ℕ, ◌≤◌}
 use native.Mathlib.Omega.{arith}
 use lib.ListN.{length}
 use Rattle.refusals.specs.declared.Refusal.TheVariants.{Unbound}
-use Rattle.refusals.specs.declared.Verdict.TheVariants.{Passed}
-use Rattle.refusals.specs.declared.Answer.{Answer}
-use Rattle.refusals.specs.declared.Answer.TheVariants.{Given, Refused}
+use Rattle.std.specs.Prelude.{Ok, Err}
+use Rattle.refusals.specs.Verdict.{passes}
 use Rattle.refusals.specs.Outcome.{Outcome, refused, given}
-use Rattle.refusals.specs.Handed.{HandedAs}
+use Rattle.refusals.specs.Handed.{Answer, HandedAs}
 use Rattle.refusals.proofs.Outcomes.{fit-given}
 use Rattle.format.specs.Forest.{Forest, end}
 use Rattle.format.specs.Node.{Node}
@@ -65,7 +64,7 @@ module _ {ds : List Definition} {actor : Forest Node} {seen l : List ℕ} (walke
   }
 
 -- ---- Every book meets it
-pub demand-3 : (b : Book) → Fits b → check b ≡ Passed → (resolve_actor b ≡ end → ⊥) → Answers b
+pub demand-3 : (b : Book) → Fits b → check b ≡ passes → (resolve_actor b ≡ end → ⊥) → Answers b
 demand-3 b fits passed some =
     let a = list-answered b fits passed some in
     let m = marks-listed b fits passed a.listed in
@@ -113,13 +112,13 @@ module _ (bytes : Source) (b : Book) (read : admitted bytes ≡ given b) where
   pub asked : {A : Type 0} (question : Book → Outcome A) → on_bytes question bytes ≡ question b
   asked question = asked-is bytes question read
 
-  pub sent : check b ≡ Passed → (resolve_actor b ≡ end → ⊥) → Answers b
+  pub sent : check b ≡ passes → (resolve_actor b ≡ end → ⊥) → Answers b
   sent = demand-3 b fits
 
   pub sent-draft : (main_actor b ≡ end → ⊥) → Distinct (map defined_name (draft_definitions b)) → DraftAnswers b
   sent-draft = demand-3-draft b fits
 
-  pub sent-bytes : check b ≡ Passed → (resolve_actor b ≡ end → ⊥) → Sent bytes b
+  pub sent-bytes : check b ≡ passes → (resolve_actor b ≡ end → ⊥) → Sent bytes b
   sent-bytes passed some =
       let a = sent passed some in
       record {
@@ -132,10 +131,10 @@ module _ (bytes : Source) (b : Book) (read : admitted bytes ≡ given b) where
 
   -- ---- A draft, down to the lent list
   module _ {old new : List ℕ} {r : Answer} (h : HandedAs (on_bytes draft_list bytes) old new r) where
-    told-unbound : (n : ℕ) → (r ≡ Refused (Unbound n)) ↔ (draft_list b ≡ refused (Unbound n))
+    told-unbound : (n : ℕ) → (r ≡ Err (Unbound n)) ↔ (draft_list b ≡ refused (Unbound n))
     told-unbound n = let t = handed-unbound h n in (λ e. sym (asked draft_list) ∙ t.0 e, λ e. t.1 (asked draft_list ∙ e))
 
-    told-given : (main_actor b ≡ end → ⊥) → Distinct (map defined_name (draft_definitions b)) → {k : ℕ} → r ≡ Given k →
+    told-given : (main_actor b ≡ end → ⊥) → Distinct (map defined_name (draft_definitions b)) → {k : ℕ} → r ≡ Ok k →
         (l : List ℕ) × Delivered k l old new r × (length l ≡ k) × Lists (draft_definitions b) (main_actor b) l × (k ≤ 512)
     told-given some once e =
         let x = handed-gives h e in

@@ -17,9 +17,8 @@ use Rattle.format.specs.Fits.{max_definitions, Fits}
 use Rattle.format.specs.References.{references}
 use Rattle.refusals.specs.declared.Refusal.{Refusal}
 use Rattle.refusals.specs.declared.Refusal.TheVariants.{Twice, Unbound, NoActor, Short}
-use Rattle.refusals.specs.declared.Verdict.{Verdict}
-use Rattle.refusals.specs.declared.Verdict.TheVariants.{Passed, Refused}
-use Rattle.refusals.specs.Verdict.{and_then}
+use Rattle.std.specs.Prelude.{Ok, Err}
+use Rattle.refusals.specs.Verdict.{Verdict, passes, and_then}
 use Rattle.judgement.specs.Actor.{main_actor}
 use Rattle.judgement.specs.Check.{once_verdict}
 use Rattle.format.specs.Distinct.{Distinct}
@@ -92,7 +91,7 @@ module _ (b : Book) (fits : Fits b) where
   abbrev draft-verdict : Verdict
   draft-verdict = and_then (needs_actor (main_actor b)) (once_verdict [] draft)
 
-  draft-begun : draft-verdict ≡ Passed → (main_actor b ≡ end → ⊥) × Distinct (map defined_name draft)
+  draft-begun : draft-verdict ≡ passes → (main_actor b ≡ end → ⊥) × Distinct (map defined_name draft)
   draft-begun e =
       let p = both-pass (needs_actor (main_actor b)) (once_verdict [] draft) e in
       (passed-actor (main_actor b) p.0, (once-says draft).0 p.1)
@@ -134,8 +133,8 @@ module _ (b : Book) (fits : Fits b) where
   draft-starts = go draft-verdict refl
     where
       go : (v : Verdict) → draft-verdict ≡ v → ((r : Refusal) × (draft_list b ≡ refused r)) ⊎ ((main_actor b ≡ end → ⊥) × Distinct (map defined_name draft))
-      go Passed e = inr (draft-begun e)
-      go (Refused r) e = inl (r, after-stops draft-verdict _ e)
+      go (Ok tt) e = inr (draft-begun e)
+      go (Err r) e = inl (r, after-stops draft-verdict _ e)
 
   -- What is refused lies in its row.
   pub refuses-in-row : (places : ℕ) {r : Refusal} → DraftRefuses b r → DraftRow b places r

@@ -12,8 +12,7 @@ use Rattle.format.specs.Book.{Definition, Main, TypeImport, InitArgs, Book, bodi
 use Rattle.format.specs.Encode.{bytes16, bytes32, name_bytes, row_of, sized, row_bytes, entry_bytes, role_number, definition_entries, root_of, file_entries, names_bytes, nodes_bytes, definitions_bytes, files_bytes, toc_row, contents_bytes, encode}
 use Rattle.refusals.specs.Lists.{flat}
 use Rattle.format.specs.Fits.{every, is_byte, is_name, before, ascending, place_below, kind_fits, not_init, kind_allowed, label_fits, node_fits, forest_fits, is_init, definition_fits, files_rise, is_init_role, is_main, file_fits, imports_fit, roles_fit, fits, Fits}
-use Rattle.refusals.specs.declared.Verdict.{Verdict}
-use Rattle.refusals.specs.declared.Verdict.TheVariants.{Passed}
+use Rattle.refusals.specs.Verdict.{Verdict, passes}
 use Rattle.refusals.specs.declared.Refusal.TheVariants.{Unbound, NoActor}
 use Rattle.judgement.specs.Environment.{role_at, keep, main_definitions, init_definitions, find_type, is_missing, merge_definitions, head_kind, head, is_func_kind, is_serv_kind, kids_of}
 use Rattle.judgement.specs.Aliases.{met, link, chain_from, chain, alias_end, root_passes, as_func, as_service}
@@ -107,7 +106,7 @@ pub ring-fits : Fits ring
 unfolding fitting
 ring-fits = tt
 
-pub ring-passes : check ring ≡ Passed
+pub ring-passes : check ring ≡ passes
 unfolding checked
 ring-passes = refl
 

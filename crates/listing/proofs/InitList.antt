@@ -18,7 +18,8 @@ use Rattle.format.specs.Book.{Definition, Book}
 use Rattle.format.specs.Fits.{max_definitions, is_init_role, Fits}
 use Rattle.format.proofs.Encoded.{fit-parts}
 use Rattle.refusals.specs.declared.Refusal.{Refusal}
-use Rattle.refusals.specs.declared.Verdict.TheVariants.{Passed, Refused}
+use Rattle.std.specs.Prelude.{Err}
+use Rattle.refusals.specs.Verdict.{passes}
 use Rattle.judgement.specs.Environment.{role_at, keep, main_definitions, init_definitions, merge_definitions, find_type, is_missing, kids_of}
 use Rattle.judgement.specs.Check.{check, init_check}
 use Rattle.judgement.specs.Actor.{init_tree, NoInit}
@@ -78,7 +79,7 @@ module _ (b : Book) (fits : Fits b) where
     merged-bound d m n h = (merge-says (init_definitions b) ds n).1
         (elim ((merge-listed (init_definitions b) ds d).0 m) [ inl k ↦ inl ((i.definitions.trees d k).bound n h) | inr k ↦ inr ((w.definitions.trees d k.0).bound n h) ])
 
-  pub init-answered : init_check b ≡ Passed → Answered merged arguments (init_list b)
+  pub init-answered : init_check b ≡ passes → Answered merged arguments (init_list b)
   unfolding init_list
   init-answered e =
       let p = (init-check-typed b fits).0 e in
@@ -87,18 +88,18 @@ module _ (b : Book) (fits : Fits b) where
       rw (after-passed (init_check b) (walked (chase_types merged arguments)) e)
       (bound-answered merged (merged-once w i) merged-bodies arguments (init-leafy b fits) merged-few (merged-bound w i) i.arguments.bound)
 
-  pub init-refused : {r : Refusal} → init_check b ≡ Refused r → init_list b ≡ refused r
+  pub init-refused : {r : Refusal} → init_check b ≡ Err r → init_list b ≡ refused r
   unfolding init_list after
   init-refused e = rw e
 
-  pub init-says : (l : List ℕ) → (init_list b ≡ given l) ↔ ((init_check b ≡ Passed) × ((seen : List ℕ) × Listed merged arguments seen l))
+  pub init-says : (l : List ℕ) → (init_list b ≡ given l) ↔ ((init_check b ≡ passes) × ((seen : List ℕ) × Listed merged arguments seen l))
   unfolding init_list
   init-says l = (
     λ e. let p = after-given (init_check b) _ e in (p.0, (walks p.0).0 p.1),
     λ p. after-passed (init_check b) _ p.0 ∙ (walks p.0).1 p.1,
   )
     where
-      walks : init_check b ≡ Passed → (walked (chase_types merged arguments) ≡ given l) ↔ ((seen : List ℕ) × Listed merged arguments seen l)
+      walks : init_check b ≡ passes → (walked (chase_types merged arguments) ≡ given l) ↔ ((seen : List ℕ) × Listed merged arguments seen l)
       walks e =
           let p = (init-check-typed b fits).0 e in
           walked-listed merged (merged-once p.0.0 p.1.0) merged-bodies arguments (init-leafy b fits) l
@@ -143,18 +144,18 @@ pub init-list-bytes-most : (bs : Source) (places : ℕ) → Most 512 (fit places
 init-list-bytes-most bs places = bytes-most 512 places init_list (λ b fits. init-list-most b fits places) bs
 
 -- ---- In demand 3's words
-pub init-answers : (b : Book) → Fits b → init_check b ≡ Passed → InitAnswers b (init_list b)
+pub init-answers : (b : Book) → Fits b → init_check b ≡ passes → InitAnswers b (init_list b)
 init-answers b fits passed =
     let a = init-answered b fits passed in
     let p = (init-check-typed b fits).0 passed in
     record { listed = a.names; list_given = gives (init_list b) a.answer; lists = lists-all a.listed (merged-once b fits p.0.0 p.1.0); list_enough = a.short }
 
-pub init-answers-bytes : (bs : Source) (b : Book) → admitted bs ≡ given b → init_check b ≡ Passed → InitAnswers b (on_bytes init_list bs)
+pub init-answers-bytes : (bs : Source) (b : Book) → admitted bs ≡ given b → init_check b ≡ passes → InitAnswers b (on_bytes init_list bs)
 init-answers-bytes bs b read passed =
     subst (InitAnswers b) (sym (asked-is bs init_list read)) (init-answers b (admitted-fits bs read) passed)
 
 -- Without an init file it is empty.
-pub init-list-none : (b : Book) → NoInit b.files → check b ≡ Passed → init_list b ≡ given []
+pub init-list-none : (b : Book) → NoInit b.files → check b ≡ passes → init_list b ≡ given []
 unfolding init_list after walked chase_types chase kids_of
 init-list-none b none passed = rw (without-init b none, passed, no-init-tree b.files none)
 

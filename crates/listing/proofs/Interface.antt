@@ -15,7 +15,7 @@ use Rattle.format.specs.Node.{Kind, PrimT, VarT, OptT, VecT, RecordT, VariantT, 
 use Rattle.format.specs.Book.{Definition, Book}
 use Rattle.format.specs.Fits.{Fits}
 use Rattle.refusals.specs.declared.Refusal.TheVariants.{NoService}
-use Rattle.refusals.specs.declared.Verdict.TheVariants.{Passed}
+use Rattle.refusals.specs.Verdict.{passes}
 use Rattle.judgement.specs.Environment.{head_kind, head, main_definitions, is_func_kind, is_serv_kind, kids_of}
 use Rattle.judgement.specs.Aliases.{ends, alias_end, as_service, methods_at}
 use Rattle.judgement.specs.Actor.{service_imports, main_actor, is_class_kind, is_class, last_tree, all_but_last, class_arguments, below_class}
@@ -130,7 +130,7 @@ module _ (ds : List Definition) (bodies : (d : Definition) → Memᴰ d ds → M
       serves-functions (beside-everywhere arguments last (rw (e, c) at h)).1 x
 
 -- ---- A book that passes
-actor-stands : (ds : List Definition) (t : Forest Node) → (t ≡ end → ⊥) → judged.actor_verdict ds t ≡ Passed → StandsFor is_serv_kind ds (below_class t)
+actor-stands : (ds : List Definition) (t : Forest Node) → (t ≡ end → ⊥) → judged.actor_verdict ds t ≡ passes → StandsFor is_serv_kind ds (below_class t)
 unfolding judged.actor_verdict no_trees as_service
 actor-stands ds end h e = absurd (h refl)
 actor-stands ds (tree n kids next) h e =
@@ -138,7 +138,7 @@ actor-stands ds (tree n kids next) h e =
     let p = both-pass (check_forest false false ds (cond (is_class t) (kids_of t) t)) _ e in
     root-stands ds is_serv_kind (below_class t) (unless-passed (as_service ds (below_class t)) NoService p.1)
 
-module _ (b : Book) (passed : check b ≡ Passed) (some : resolve_actor b ≡ end → ⊥) where
+module _ (b : Book) (passed : check b ≡ passes) (some : resolve_actor b ≡ end → ⊥) where
   pub passed-stands : StandsFor is_serv_kind (main_definitions b) (below_class (resolve_actor b))
   unfolding check
   passed-stands =

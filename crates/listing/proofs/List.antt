@@ -22,8 +22,8 @@ use Rattle.format.proofs.Logic.{both, says}
 use Rattle.format.proofs.Encoded.{fit-parts}
 use Rattle.refusals.specs.declared.Refusal.{Refusal}
 use Rattle.refusals.specs.declared.Refusal.TheVariants.{NoActor, Short}
-use Rattle.refusals.specs.declared.Verdict.TheVariants.{Passed, Refused}
-use Rattle.refusals.specs.Verdict.{and_then}
+use Rattle.std.specs.Prelude.{Err}
+use Rattle.refusals.specs.Verdict.{passes, and_then}
 use Rattle.judgement.specs.Environment.{main_definitions, kids_of}
 use Rattle.judgement.specs.Actor.{is_class_kind, is_class, first_actor, main_actor, service_imports, class_of, service_of}
 use Rattle.judgement.specs.Resolve.{merged_actor, resolve_with, resolve_actor}
@@ -99,7 +99,7 @@ module _ (b : Book) (fits : Fits b) where
   unfolding resolve_actor main_actor
   actor-bound h n i = h n (rw (class-references (resolve_actor b) (resolved-single ds (main_actor b) (service_imports b.files) (single _ b.files (fit-parts fits).files))) i)
 
-  pub list-answered : check b ≡ Passed → (resolve_actor b ≡ end → ⊥) → Answered ds (resolve_actor b) (list b)
+  pub list-answered : check b ≡ passes → (resolve_actor b ≡ end → ⊥) → Answered ds (resolve_actor b) (list b)
   unfolding list
   list-answered e some =
       let w = ((check-typed b fits).0 e).0 in
@@ -107,24 +107,24 @@ module _ (b : Book) (fits : Fits b) where
       (bound-answered ds w.definitions.once (main-bodies b fits) (resolve_actor b) (resolved-leafy b fits) (main-few b fits)
       (λ d m. (w.definitions.trees d m).bound) (actor-bound (actor-trees b fits e).bound))
 
-  pub list-refused : {r : Refusal} → check b ≡ Refused r → list b ≡ refused r
+  pub list-refused : {r : Refusal} → check b ≡ Err r → list b ≡ refused r
   unfolding list after
   list-refused e = rw e
 
-  pub list-no-actor : check b ≡ Passed → resolve_actor b ≡ end → list b ≡ refused NoActor
+  pub list-no-actor : check b ≡ passes → resolve_actor b ≡ end → list b ≡ refused NoActor
   unfolding list after needs_actor no_trees
   list-no-actor e none = rw (e, none)
 
   -- A list is given exactly if the book passes and has an actor, and then it is the one of what is reachable.
   pub list-says : (l : List ℕ) →
-      (list b ≡ given l) ↔ ((check b ≡ Passed) × (resolve_actor b ≡ end → ⊥) × ((seen : List ℕ) × Listed ds (resolve_actor b) seen l))
+      (list b ≡ given l) ↔ ((check b ≡ passes) × (resolve_actor b ≡ end → ⊥) × ((seen : List ℕ) × Listed ds (resolve_actor b) seen l))
   unfolding list
   list-says l = (
     λ e. let p = actor-given b _ e in (p.0, p.1, (walks p.0).0 (after-given (and_then (check b) (needs_actor (resolve_actor b))) _ e).1),
     λ p. answered b p.0 p.1 _ ∙ (walks p.0).1 p.2,
   )
     where
-      walks : check b ≡ Passed → (walked (chase_types ds (resolve_actor b)) ≡ given l) ↔ ((seen : List ℕ) × Listed ds (resolve_actor b) seen l)
+      walks : check b ≡ passes → (walked (chase_types ds (resolve_actor b)) ≡ given l) ↔ ((seen : List ℕ) × Listed ds (resolve_actor b) seen l)
       walks e = walked-listed ds ((check-typed b fits).0 e).0.definitions.once (main-bodies b fits) (resolve_actor b) (resolved-leafy b fits) l
 
   -- what is refused lies in its row

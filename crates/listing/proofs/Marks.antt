@@ -21,7 +21,8 @@ use Rattle.format.specs.Book.{Definition, Book}
 use Rattle.format.specs.Fits.{Fits}
 use Rattle.refusals.specs.declared.Refusal.{Refusal}
 use Rattle.refusals.specs.declared.Refusal.TheVariants.{Unbound, Short}
-use Rattle.refusals.specs.declared.Verdict.TheVariants.{Passed, Refused}
+use Rattle.std.specs.Prelude.{Err}
+use Rattle.refusals.specs.Verdict.{passes}
 use Rattle.judgement.specs.Environment.{main_definitions}
 use Rattle.judgement.specs.Check.{check}
 use Rattle.judgement.specs.WellFormed.{Defined, WellFormedDefinitions, defined_name}
@@ -198,11 +199,11 @@ module _ {ds : List Definition} {start : Forest Node} {seen out : List ℕ} (wal
   }
 
 -- ---- The question on a book
-pub marks-refused : (b : Book) (l : List ℕ) (r : Refusal) → check b ≡ Refused r → marks_over b l ≡ refused r
+pub marks-refused : (b : Book) (l : List ℕ) (r : Refusal) → check b ≡ Err r → marks_over b l ≡ refused r
 unfolding marks_over after
 marks-refused b l r e = rw e
 
-module _ (b : Book) (fits : Fits b) (passed : check b ≡ Passed) where
+module _ (b : Book) (fits : Fits b) (passed : check b ≡ passes) where
   abbrev ds : List Definition
   ds = main_definitions b
 

@@ -16,7 +16,7 @@ use Rattle.format.specs.Book.{Definition, File, Book, bodies, actors, trees}
 use Rattle.format.specs.Fits.{Fits}
 use Rattle.format.proofs.Trees.{breadth-count, count-beside, breadth-beside}
 use Rattle.format.proofs.Encoded.{fit-parts}
-use Rattle.refusals.specs.declared.Verdict.TheVariants.{Passed}
+use Rattle.refusals.specs.Verdict.{passes}
 use Rattle.judgement.specs.Environment.{main_definitions, Head, named, other, head_kind, head, is_func_kind, is_serv_kind, kids_of}
 use Rattle.judgement.specs.Aliases.{End, unbound, circle, ends, alias_end, methods_at}
 use Rattle.judgement.specs.Actor.{is_service_import, service_imports, is_class_kind, is_class, last_tree, all_but_last, first_actor, main_actor, class_arguments, below_class, service_of, class_of}
@@ -182,7 +182,7 @@ module _ (b : Book) (fits : Fits b) where
           (methods-keep Few (omega arith) t (omega (arith, hashes-few b.names (kids_of t) once, (fit-parts fits).few_names)))
       go (named n) e = end-methods t (λ u l. named-held e l)
 
-  pub methods-few : check b ≡ Passed → breadth (methods_at (alias_end ds (below_class (resolve_actor b)))) ≤ 4096
+  pub methods-few : check b ≡ passes → breadth (methods_at (alias_end ds (below_class (resolve_actor b)))) ≤ 4096
   unfolding resolve_actor resolve_with
   methods-few passed =
       ⊎_elim (λ none. rw none (end-methods (below_class (main_actor b)) (λ u l. leads-keeps ds Held tree-count l below-held)))

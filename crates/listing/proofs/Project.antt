@@ -29,7 +29,6 @@ use Rattle.format.specs.Book.{Main, Book}
 use Rattle.format.specs.Fits.{Fits}
 use Rattle.refusals.specs.declared.Refusal.{Refusal}
 use Rattle.refusals.specs.declared.Refusal.TheVariants.{Absent, Short}
-use Rattle.refusals.specs.declared.Verdict.TheVariants.{Passed}
 use Rattle.judgement.specs.Environment.{keep, main_definitions, find_type, head_kind, head, is_func_kind, is_serv_kind, kids_of}
 use Rattle.judgement.specs.Aliases.{link, chain_from, chain, alias_end, root_passes, as_func, as_service, methods_at}
 use Rattle.judgement.specs.Actor.{is_service_import, service_imports, first_actor, main_actor, is_class_kind, is_class, below_class, class_arguments}
@@ -55,7 +54,7 @@ use Rattle.refusals.proofs.Outcomes.{given-refused, same-refusal, after-given, s
 use Rattle.listing.proofs.Demand3.{asked}
 use Rattle.listing.proofs.Methods.{methods-few}
 use Rattle.refusals.proofs.Verdicts.{both-pass}
-use Rattle.refusals.specs.Verdict.{and_then}
+use Rattle.refusals.specs.Verdict.{passes, and_then}
 
 -- ---- How often a name stands in a list
 
@@ -387,7 +386,7 @@ projection-order f xs ys s =
     rw (project-by 0 f xs, project-by 0 f ys) (any-removal without without without-times without-times 0 (method_names f) xs ys s)
 
 -- ---- On books
-module _ (b : Book) (fits : Fits b) (passed : check b ≡ Passed) (some : resolve_actor b ≡ end → ⊥)
+module _ (b : Book) (fits : Fits b) (passed : check b ≡ passes) (some : resolve_actor b ≡ end → ⊥)
     {arguments methods : Forest Node} (offers : Interface (main_definitions b) (resolve_actor b) arguments methods) where
   pub project-answered : (asked : List ℕ) → project b asked ≡ projected (project_from 0 methods asked)
   unfolding project

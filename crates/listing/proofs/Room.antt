@@ -18,8 +18,8 @@ use Rattle.format.specs.Node.{Node}
 use Rattle.format.specs.Book.{Book}
 use Rattle.refusals.specs.declared.Refusal.{Refusal}
 use Rattle.refusals.specs.declared.Refusal.TheVariants.{NoActor, Short}
-use Rattle.refusals.specs.declared.Verdict.TheVariants.{Passed, Refused}
-use Rattle.refusals.specs.Verdict.{and_then}
+use Rattle.std.specs.Prelude.{Err}
+use Rattle.refusals.specs.Verdict.{passes, and_then}
 use Rattle.judgement.specs.Resolve.{resolve_actor}
 use Rattle.judgement.specs.Check.{check, member}
 use Rattle.judgement.specs.Rows.{CheckRow, InitRow, check_rows}
@@ -43,17 +43,17 @@ module _ {A : Type 0} (places : ℕ) where
       rw (x.is-given, h, x.needed)
 
 -- ---- 17
-pub actor-passed : (t : Forest Node) → (t ≡ end → ⊥) → needs_actor t ≡ Passed
+pub actor-passed : (t : Forest Node) → (t ≡ end → ⊥) → needs_actor t ≡ passes
 unfolding needs_actor no_trees
 actor-passed end h = absurd (h refl)
 actor-passed (tree n kids next) h = refl
 
-pub passed-actor : (t : Forest Node) → needs_actor t ≡ Passed → t ≡ end → ⊥
+pub passed-actor : (t : Forest Node) → needs_actor t ≡ passes → t ≡ end → ⊥
 unfolding needs_actor no_trees
 passed-actor end e q = let z : ◌≡◌ {A = ℕ} 0 1 = cc in omega arith
 passed-actor (tree n kids next) e q = let z : ◌≡◌ {A = ℕ} 0 1 = cc in omega arith
 
-pub actor-refused : (t : Forest Node) {r : Refusal} → needs_actor t ≡ Refused r → (t ≡ end) × (NoActor ≡ r)
+pub actor-refused : (t : Forest Node) {r : Refusal} → needs_actor t ≡ Err r → (t ≡ end) × (NoActor ≡ r)
 unfolding needs_actor no_trees
 actor-refused end e = (refl, cc)
 actor-refused (tree n kids next) e = passed-refused e
@@ -61,15 +61,15 @@ actor-refused (tree n kids next) e = passed-refused e
 -- ---- A question that needs an actor
 module _ {A : Type 0} (b : Book) (o : Outcome A) where
   -- the check refuses first
-  pub check-stops : {r : Refusal} → check b ≡ Refused r → after (and_then (check b) (needs_actor (resolve_actor b))) o ≡ refused r
+  pub check-stops : {r : Refusal} → check b ≡ Err r → after (and_then (check b) (needs_actor (resolve_actor b))) o ≡ refused r
   unfolding after
   check-stops e = rw e
 
-  pub actor-lacks : check b ≡ Passed → resolve_actor b ≡ end → after (and_then (check b) (needs_actor (resolve_actor b))) o ≡ refused NoActor
+  pub actor-lacks : check b ≡ passes → resolve_actor b ≡ end → after (and_then (check b) (needs_actor (resolve_actor b))) o ≡ refused NoActor
   unfolding after needs_actor no_trees
   actor-lacks e f = rw (e, f)
 
-pub answered : {A : Type 0} (b : Book) → check b ≡ Passed → (resolve_actor b ≡ end → ⊥) → (o : Outcome A) →
+pub answered : {A : Type 0} (b : Book) → check b ≡ passes → (resolve_actor b ≡ end → ⊥) → (o : Outcome A) →
     after (and_then (check b) (needs_actor (resolve_actor b))) o ≡ o
 answered b passed some o =
     after-passed (and_then (check b) (needs_actor (resolve_actor b))) o
@@ -77,7 +77,7 @@ answered b passed some o =
 
 -- what was given says that the book passed, and that it has an actor
 pub actor-given : {A : Type 0} (b : Book) (o : Outcome A) {l : A} → after (and_then (check b) (needs_actor (resolve_actor b))) o ≡ given l →
-    (check b ≡ Passed) × (resolve_actor b ≡ end → ⊥)
+    (check b ≡ passes) × (resolve_actor b ≡ end → ⊥)
 actor-given b o e =
     let p = both-pass (check b) (needs_actor (resolve_actor b)) (after-given (and_then (check b) (needs_actor (resolve_actor b))) o e).0 in
     (p.0, passed-actor (resolve_actor b) p.1)
@@ -85,11 +85,11 @@ actor-given b o e =
 -- ---- A refusal lies in its row
 module _ (b : Book) (fits : Fits b) {A : Type 0} (o : Outcome A) (Row : Refusal → Type 0) (checked : (r : Refusal) → CheckRow b r → Row r) {r : Refusal} where
   -- a question that follows the check
-  pub after-check : (check b ≡ Passed → Row r) → after (check b) o ≡ refused r → Row r
+  pub after-check : (check b ≡ passes → Row r) → after (check b) o ≡ refused r → Row r
   after-check on e = elim (after-refused (check b) o e) [ inl h ↦ checked r (check-row b fits h) | inr h ↦ on h.0 ]
 
   -- and one that needs an actor
-  pub after-actor : (NoActorRow b → Row NoActor) → (check b ≡ Passed → (resolve_actor b ≡ end → ⊥) → Row r) →
+  pub after-actor : (NoActorRow b → Row NoActor) → (check b ≡ passes → (resolve_actor b ≡ end → ⊥) → Row r) →
       after (and_then (check b) (needs_actor (resolve_actor b))) o ≡ refused r → Row r
   after-actor none on e =
       elim (after-refused (and_then (check b) (needs_actor (resolve_actor b))) o e) [

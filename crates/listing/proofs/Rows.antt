@@ -14,8 +14,8 @@ use Rattle.format.specs.Fits.{Fits}
 use Rattle.format.specs.Admission.{InRow, Source, on_bytes}
 use Rattle.format.proofs.Admission.{admitted-fits, admission-refuses, asked-is}
 use Rattle.refusals.specs.declared.Refusal.{Refusal}
-use Rattle.refusals.specs.declared.Verdict.{Verdict}
-use Rattle.refusals.specs.declared.Verdict.TheVariants.{Passed, Refused}
+use Rattle.std.specs.Prelude.{Ok, Err}
+use Rattle.refusals.specs.Verdict.{Verdict}
 use Rattle.refusals.specs.Outcome.{Outcome, refused, asked}
 use Rattle.refusals.proofs.Outcomes.{given-refused, fit-given}
 use Rattle.judgement.specs.Resolve.{resolve_actor}
@@ -55,8 +55,8 @@ module _ {A : Type 0} where
   checked-not-given question stops b fits x = go (check b) refl
     where
       go : (v : Verdict) → check b ≡ v → NotGiven (question b)
-      go Passed e = absurd (row-refuses b fits x e)
-      go (Refused s) e = refused-not-given (question b) (stops b s e)
+      go (Ok tt) e = absurd (row-refuses b fits x e)
+      go (Err s) e = refused-not-given (question b) (stops b s e)
 
   -- on bytes: a row of admission, or of the book
   pub bytes-not-given : (question : Book → Outcome A) (Row : Book → Refusal → Type 0) {r : Refusal} → ((b : Book) → Fits b → Row b r → NotGiven (question b)) →

@@ -27,7 +27,6 @@ use Rattle.format.specs.Book.{Definition, Book}
 use Rattle.format.specs.Fits.{Fits}
 use Rattle.format.specs.References.{references}
 use Rattle.format.specs.References as refer
-use Rattle.refusals.specs.declared.Verdict.TheVariants.{Passed}
 use Rattle.judgement.specs.Environment.{main_definitions, find_type, Head, named, other, head_kind, head, is_serv_kind, kids_of}
 use Rattle.judgement.specs.Aliases.{End, unbound, circle, ends, met, link, chain_from, chain, alias_end, methods_at}
 use Rattle.judgement.specs.Actor.{is_class_kind, is_class, last_tree, all_but_last, class_arguments, below_class}
@@ -66,7 +65,7 @@ use Rattle.listing.specs.Room.{ShortRow, needs_actor, AfterCheck, Most}
 use Rattle.refusals.specs.declared.Refusal.TheVariants.{Short}
 use Rattle.listing.proofs.Methods.{Slim, methods-few, resolved-slim, results-few}
 use Rattle.refusals.proofs.Verdicts.{both-pass}
-use Rattle.refusals.specs.Verdict.{and_then}
+use Rattle.refusals.specs.Verdict.{passes, and_then}
 
 -- ---- What passes on to the parts of a type and along aliases
 pub record Inherited (ds : List Definition) (P : Forest Node → Type 0) : Type 0 where
@@ -342,7 +341,7 @@ module _ (ds : List Definition) (actor : Forest Node) (walks : EachSite (WalkLis
 leafy-inherited : (ds : List Definition) → LeafyBodies ds → Inherited ds Leafy
 leafy-inherited ds bodies = record { none = tt; kids = λ h. h.1; others = λ h. h.2; alone = λ h. (h.0, h.1, tt); alias = λ {d = d} h m e p. bodies d m }
 
-pub passed-listed : (b : Book) → Fits b → check b ≡ Passed → EachSite (WalkListed (main_definitions b)) (sites (main_definitions b) (resolve_actor b))
+pub passed-listed : (b : Book) → Fits b → check b ≡ passes → EachSite (WalkListed (main_definitions b)) (sites (main_definitions b) (resolve_actor b))
 passed-listed b fits passed =
     let ds = main_definitions b in
     let w = ((check-typed b fits).0 passed).0 in
@@ -356,10 +355,10 @@ passed-listed b fits passed =
     (walk.0, walk.1, walk.2, walk-lists ds once bodies f h.0 walk.2))
     (resolve_actor b) (top-inherit ds Leafy leafy (resolve_actor b) (resolved-leafy b fits), (actor-trees b fits passed).bound)
 
-pub passed-walks : (b : Book) → Fits b → check b ≡ Passed → EachSite (WalkLists (main_definitions b)) (sites (main_definitions b) (resolve_actor b))
+pub passed-walks : (b : Book) → Fits b → check b ≡ passes → EachSite (WalkLists (main_definitions b)) (sites (main_definitions b) (resolve_actor b))
 passed-walks b fits passed s m = listed-lists (passed-listed b fits passed s m)
 
-module _ (b : Book) (fits : Fits b) (passed : check b ≡ Passed) (some : resolve_actor b ≡ end → ⊥) where
+module _ (b : Book) (fits : Fits b) (passed : check b ≡ passes) (some : resolve_actor b ≡ end → ⊥) where
   -- the answer
   pub uses-answered : (n : ℕ) → uses b n ≡ given (uses_of (main_definitions b) (resolve_actor b) n)
   unfolding uses

@@ -4,7 +4,7 @@ use Rattle.std.specs.Prelude.{◌≡◌, ℕ, length}
 use mathlib.Core.List.{List, [], ◌∷◌, ◌++◌, Memᴰ}
 use Rattle.refusals.specs.declared.Refusal.{Refusal}
 use Rattle.refusals.specs.declared.Refusal.TheVariants.{Unbound}
-use Rattle.refusals.specs.declared.Verdict.TheVariants.{Passed}
+use Rattle.refusals.specs.Verdict.{passes}
 use Rattle.refusals.specs.declared.Crossed.{Crossed}
 use Rattle.refusals.specs.Outcome.{Outcome, refused, given, after}
 use Rattle.format.specs.Book.{Definition, Book}
@@ -50,7 +50,7 @@ pub record CrossedFrom (ds : List Definition) (n : ℕ) (c : Crossed) : Type 0 w
 -- Its rows: those of the check, then 3 of the name that is asked.
 pub data AliasRow (b : Book) (n : ℕ) : Refusal → Type 0 where
   checked : {r : Refusal} → CheckRow b r → AliasRow b n r
-  unbound : (check b ≡ Passed) × (Defined (main_definitions b) n → ⊥) → AliasRow b n (Unbound n)
+  unbound : (check b ≡ passes) × (Defined (main_definitions b) n → ⊥) → AliasRow b n (Unbound n)
 
 abbrev pub alias_rows : List ℕ
 alias_rows = check_rows

@@ -9,11 +9,10 @@ use Rattle.std.specs.Prelude.{◌≡◌, ◌↔◌, ◌⊎◌, ℕ, ◌+◌, ◌
 use mathlib.Core.List.{List, [], ◌∷◌, Memᴰ}
 use Rattle.refusals.specs.declared.Refusal.{Refusal}
 use Rattle.refusals.specs.declared.Refusal.TheVariants.{Unbound, Short}
-use Rattle.refusals.specs.declared.Answer.{Answer}
-use Rattle.refusals.specs.declared.Answer.TheVariants.{Given, Refused}
+use Rattle.std.specs.Prelude.{Ok, Err}
 use Rattle.refusals.specs.Lists.{flat}
 use Rattle.refusals.specs.Outcome.{Outcome, refused, given, fit}
-use Rattle.refusals.specs.Handed.{Use, numbers, HandedAs, UsesAs}
+use Rattle.refusals.specs.Handed.{Answer, Use, numbers, HandedAs, UsesAs}
 use Rattle.format.specs.Forest.{Forest, breadth}
 use Rattle.format.specs.Node.{Node}
 use Rattle.format.specs.Book.{Definition, Book}
@@ -114,14 +113,14 @@ pub record DraftAnswers (b : Book) : Type 0 where
 
 -- So many entries are told. Their numbers stand at the front of the lent list, and the places beyond keep their contents.
 pub record Delivered (count : ℕ) (entries old new : List ℕ) (r : Answer) : Type 0 where
-  pub answer : r ≡ Given count
+  pub answer : r ≡ Ok count
   pub front : take (length entries) new ≡ entries
   pub rest : drop (length entries) new ≡ drop (length entries) old
   pub long : length new ≡ length old
 
 -- A refusal is told, and the lent list keeps its contents.
 pub record Kept (why : Refusal) (old new : List ℕ) (r : Answer) : Type 0 where
-  pub answer : r ≡ Refused why
+  pub answer : r ≡ Err why
   pub same : new ≡ old
 
 -- Whatever is promised of a call (the lent list before it, after it, and the answer): these entries are delivered where their numbers fit,
@@ -144,14 +143,14 @@ pub record SentDraft (bytes : Source) (b : Book) : Type 0 where
   pub answers : DraftAnswers b
   -- refused as unbound exactly if a reachable name lacks a definition, and with the first that is met
   pub unbound_sent : {old new : List ℕ} {r : Answer} → HandedAs (on_bytes draft_list bytes) old new r →
-      ((n : ℕ) × (r ≡ Refused (Unbound n))) ↔ ((n : ℕ) × Lost (draft_definitions b) (main_actor b) n)
+      ((n : ℕ) × (r ≡ Err (Unbound n))) ↔ ((n : ℕ) × Lost (draft_definitions b) (main_actor b) n)
   pub first_sent : {old new : List ℕ} {r : Answer} → HandedAs (on_bytes draft_list bytes) old new r → (n : ℕ) →
-      (r ≡ Refused (Unbound n)) ↔ Misses (draft_definitions b) (references (main_actor b)) [] [] n
+      (r ≡ Err (Unbound n)) ↔ Misses (draft_definitions b) (references (main_actor b)) [] [] n
   -- a refusal leaves the list as it was
-  pub kept_sent : {old new : List ℕ} {r : Answer} {why : Refusal} → HandedAs (on_bytes draft_list bytes) old new r → r ≡ Refused why → Kept why old new r
+  pub kept_sent : {old new : List ℕ} {r : Answer} {why : Refusal} → HandedAs (on_bytes draft_list bytes) old new r → r ≡ Err why → Kept why old new r
   -- if none lacks one, a list is delivered, and 512 places are always enough
   pub answered_sent : ((n : ℕ) → Lost (draft_definitions b) (main_actor b) n → ⊥) →
       (l : List ℕ) × Delivers (HandedAs (on_bytes draft_list bytes)) (length l) l × (length l ≤ 512)
   -- where a number is told, so many names stand at the front, and they list what is reachable in the same way
-  pub lists_sent : {old new : List ℕ} {r : Answer} {k : ℕ} → HandedAs (on_bytes draft_list bytes) old new r → r ≡ Given k →
+  pub lists_sent : {old new : List ℕ} {r : Answer} {k : ℕ} → HandedAs (on_bytes draft_list bytes) old new r → r ≡ Ok k →
       (l : List ℕ) × Delivered k l old new r × (length l ≡ k) × Lists (draft_definitions b) (main_actor b) l × (k ≤ 512)

@@ -4,7 +4,7 @@ use Rattle.std.specs.Prelude.{◌≡◌, ◌↔◌, ℕ, length}
 use mathlib.Core.List.{List, ◌∷◌, ◌++◌, Memᴰ}
 use Rattle.refusals.specs.declared.Refusal.{Refusal}
 use Rattle.refusals.specs.declared.Refusal.TheVariants.{Unbound, Short}
-use Rattle.refusals.specs.declared.Verdict.TheVariants.{Passed}
+use Rattle.refusals.specs.Verdict.{passes}
 use Rattle.refusals.specs.Outcome.{Outcome, refused, given, after}
 use Rattle.format.specs.Book.{Definition, Book}
 use Rattle.format.specs.Distinct.{Ascends}
@@ -56,7 +56,7 @@ FirstUnbound ds l n = AtPlace l (λ xs u. (u ≡ n) × (Defined ds n → ⊥) ×
 -- Its rows: those of the check, then 3 of a listed name and 16.
 pub data MarksRow (b : Book) (l : List ℕ) (places : ℕ) : Refusal → Type 0 where
   checked : {r : Refusal} → CheckRow b r → MarksRow b l places r
-  unbound : {n : ℕ} → (check b ≡ Passed) × FirstUnbound (main_definitions b) l n → MarksRow b l places (Unbound n)
+  unbound : {n : ℕ} → (check b ≡ passes) × FirstUnbound (main_definitions b) l n → MarksRow b l places (Unbound n)
   short : {k : ℕ} → ShortRow places (marks_over b l) (EachOnce (MarkedBy (main_definitions b) l)) k → MarksRow b l places (Short k)
 
 abbrev pub marks_rows : List ℕ

@@ -4,8 +4,7 @@ use Rattle.std.specs.Prelude.{◌≡◌, ◌↔◌, Bool, true, false, cond, ℕ
 use mathlib.Core.List.{List, [], ◌∷◌, map, Memᴰ}
 use Rattle.refusals.specs.declared.Refusal.{Refusal}
 use Rattle.refusals.specs.declared.Refusal.TheVariants.{Absent, Short, NoActor}
-use Rattle.refusals.specs.declared.Verdict.TheVariants.{Passed}
-use Rattle.refusals.specs.Verdict.{and_then}
+use Rattle.refusals.specs.Verdict.{passes, and_then}
 use Rattle.refusals.specs.Outcome.{Outcome, refused, given, after}
 use Rattle.format.specs.Forest.{Forest, end, tree}
 use Rattle.format.specs.Node.{Node, label_value}
@@ -133,7 +132,7 @@ swap_remove n (m ∷ l) = cond (eqb m n) (last_first l) (m ∷ swap_remove n l)
 -- 15: the book passes, and the name is the lowest that is asked for more often than methods of the actor have it.
 abbrev pub AbsentRow : Book → List ℕ → ℕ → Type 0
 AbsentRow b asked n =
-    (check b ≡ Passed) × (arguments methods : Forest Node) × Interface (main_definitions b) (resolve_actor b) arguments methods × LowestAbsent (method_names methods) asked n
+    (check b ≡ passes) × (arguments methods : Forest Node) × Interface (main_definitions b) (resolve_actor b) arguments methods × LowestAbsent (method_names methods) asked n
 
 -- Its rows: those of the check, then 17, 15 and 16.
 pub data ProjectRow (b : Book) (asked : List ℕ) (places : ℕ) : Refusal → Type 0 where

@@ -4,9 +4,8 @@ use Rattle.std.specs.Prelude.{◌≡◌, ◌↔◌, ◌⊎◌, true, false, cond
 use mathlib.Core.List.{List, Memᴰ}
 use Rattle.refusals.specs.declared.Refusal.{Refusal}
 use Rattle.refusals.specs.declared.Refusal.TheVariants.{Short, NoActor}
-use Rattle.refusals.specs.declared.Verdict.{Verdict}
-use Rattle.refusals.specs.declared.Verdict.TheVariants.{Passed, Refused}
-use Rattle.refusals.specs.Verdict.{unless}
+use Rattle.std.specs.Prelude.{Err}
+use Rattle.refusals.specs.Verdict.{Verdict, passes, unless}
 use Rattle.refusals.specs.Outcome.{Outcome, refused, given, fit}
 use Rattle.format.specs.Forest.{Forest, end, no_trees}
 use Rattle.format.specs.Node.{Node}
@@ -18,7 +17,7 @@ use Rattle.judgement.specs.Rows.{NamesPlace}
 
 -- The check comes before the question.
 abbrev pub AfterCheck : {A : Type 0} → (Book → Outcome A) → Type 0
-AfterCheck question = (b : Book) (r : Refusal) → check b ≡ Refused r → question b ≡ refused r
+AfterCheck question = (b : Book) (r : Refusal) → check b ≡ Err r → question b ≡ refused r
 
 -- 17: the question needs an actor.
 unfoldable pub needs_actor : Forest Node → Verdict
@@ -26,7 +25,7 @@ needs_actor t = unless (cond (no_trees t) false true) NoActor
 
 -- Its row: the book passes, and has no actor.
 abbrev pub NoActorRow : Book → Type 0
-NoActorRow b = (check b ≡ Passed) × (resolve_actor b ≡ end)
+NoActorRow b = (check b ≡ passes) × (resolve_actor b ≡ end)
 
 -- 16: the places are fewer than the entries needed, and so many has the list that is given, which is the result asked for.
 pub record ShortRow {A : Type 0} (places : ℕ) (answer : Outcome (List A)) (Result : List A → Type 0) (k : ℕ) : Type 0 where

@@ -1,2 +1,2 @@
 -- Laws that the proofs of the functions cite.
-mod Laws
+pub mod Laws

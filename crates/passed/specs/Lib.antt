@@ -1,5 +1,6 @@
 -- What the contracts of the questions cite. The definitions of what they answer are those of the crate `listing`.
 pub mod Stages
+pub mod Checked
 pub mod Answers
 pub mod Drafts
 pub mod Uses

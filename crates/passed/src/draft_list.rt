@@ -6,7 +6,7 @@ ghost use Rattle.passed.specs.Drafts.{OwnAs, MainWritten};
 
 use book::kinds::Contents;
 use book::read::{Entry, Node};
-use environment::Table;
+use format::Limits;
 use refusals::{Answer, Refusal};
 
 // How many of the definitions are the main file's own: they come first.
@@ -14,13 +14,10 @@ fn own_definitions(entries: &[u8], count: usize) -> usize
     requires { EntryWithin entries.now count }
     ensures { OwnAs entries.now count result }
 {
-    let mut d = 0;
-    while d < count {
-        let e = Entry::at(entries, d);
-        if e.owner != 0 {
+    for d in 0..count {
+        if Entry::at(entries, d).owner != 0 {
             return d;
         }
-        d += 1;
     }
     count
 }
@@ -32,16 +29,13 @@ fn draft_list_written(book: &[u8], c: Contents, root: u16, out: &mut [u16]) -> A
 {
     let entries = c.definitions(book);
     let own = own_definitions(entries, c.definitions);
-    let mut roots = book::tables::blank();
-    let twice = environment::enter(entries, c.names, c.nodes, 0, own, &mut roots);
-    if twice != Table::NONE {
-        return Answer::Refused(Refusal::Twice(twice));
-    }
+    let mut roots = [Entry::NO_ROOT; Limits::NAMES];
+    environment::enter(entries, c.names, c.nodes, 0, own, &mut roots)?;
     let rows = c.nodes(book);
     let n = root as usize;
     let t = Node::at(rows, n);
-    let w = analysis::chase::chase_types(rows, &roots, n, n + t.size, own);
-    crate::hand::hand_walk(w, out)
+    let w = analysis::chase::chase_types(rows, &roots, n, n + t.size)?;
+    refusals::hand(w.listed.as_slice(), out)
 }
 
 // Of an admitted book.
@@ -53,7 +47,7 @@ pub fn draft_list_admitted(book: &[u8], c: Contents, out: &mut [u16]) -> Answer
     let main = Entry::at(files, 0);
     let root = main.root;
     if root == Entry::NO_ROOT {
-        return Answer::Refused(Refusal::NoActor);
+        return Err(Refusal::NoActor);
     }
     draft_list_written(book, c, root, out)
 }

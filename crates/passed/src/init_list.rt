@@ -1,31 +1,36 @@
-// The definition list of init arguments: `chase_types`.
+// The init check, and the definition list of init arguments: `chase_types`.
+ghost use Rattle.std.specs.Prelude.{◌≡◌};
 ghost use Rattle.refusals.specs.Handed.{HandedAs};
-ghost use Rattle.typing.specs.Passing.{PassedBook};
+ghost use Rattle.judgement.specs.Check.{init_check};
 ghost use Rattle.listing.specs.InitList.{init_list};
+ghost use Rattle.passed.specs.Checked.{Passes};
 
+use crate::CheckedBook;
+use book::read::Entry;
+use format::Limits;
 use refusals::{Answer, Verdict};
-use typing::prog::Passed;
 
-// Of a book that passed the check.
-pub fn init_list_passed(
-    book: &[u8],
-    p: Passed,
-    roots: &[u16],
-    ends: &[u32],
-    out: &mut [u16],
-) -> Answer
-    requires { PassedBook book.now roots.now ends.now p }
-    ensures { (b : PassedBook book.now roots.now ends.now p) →
-        HandedAs (init_list b.admitted.book) out.old out.new result }
-{
-    let mut both = book::tables::blank();
-    let found = typing::init::check_init_args(book, p, roots, &mut both);
-    let v = found.verdict;
-    if let Verdict::Refused(why) = v {
-        return Answer::Refused(why);
+impl CheckedBook<'_, '_> {
+    pub fn init_check(&self) -> Verdict
+        requires { Passes self.now }
+        ensures { (b : Passes self.now) → result ≡ init_check b.admitted.book }
+    {
+        let mut both = [Entry::NO_ROOT; Limits::NAMES];
+        let found = typing::init::check_init_args(self.bytes, self.passed, self.roots, &mut both);
+        found?;
+        Ok(())
     }
-    let c = p.contents;
-    let rows = c.nodes(book);
-    let w = analysis::chase::chase_types(rows, &both, found.from, found.until, found.count);
-    crate::hand::hand_walk(w, out)
+
+    pub fn init_list(&self, out: &mut [u16]) -> Answer
+        requires { Passes self.now }
+        ensures { (b : Passes self.now) → HandedAs (init_list b.admitted.book) out.old out.new result }
+    {
+        let c = self.passed.contents;
+        let mut both = [Entry::NO_ROOT; Limits::NAMES];
+        let found = typing::init::check_init_args(self.bytes, self.passed, self.roots, &mut both);
+        let args = found?;
+        let rows = c.nodes(self.bytes);
+        let w = analysis::chase::chase_types(rows, &both, args.from, args.until)?;
+        refusals::hand(w.listed.as_slice(), out)
+    }
 }

@@ -1,32 +1,23 @@
 // The marks over a lent list of names: `infer_rec`.
 ghost use Rattle.refusals.specs.Handed.{HandedAs};
-ghost use Rattle.typing.specs.Passing.{PassedBook};
 ghost use Rattle.listing.specs.Marks.{marks_over};
+ghost use Rattle.passed.specs.Checked.{Passes};
 
-use refusals::{Answer, Refusal};
-use typing::prog::Passed;
+use crate::CheckedBook;
+use analysis::recursive::Marks;
+use refusals::Answer;
 
-// Of a book that passed.
-pub fn marks_passed(
-    book: &[u8],
-    p: Passed,
-    roots: &[u16],
-    ends: &[u32],
-    list: &[u16],
-    out: &mut [u16],
-) -> Answer
-    requires { PassedBook book.now roots.now ends.now p }
-    ensures { (b : PassedBook book.now roots.now ends.now p) →
-        HandedAs (marks_over b.admitted.book list.now) out.old out.new result }
-{
-    let c = p.contents;
-    let rows = c.nodes(book);
-    let fresh = analysis::recursive::no_marks();
-    let m = analysis::recursive::infer_rec(rows, roots, list, fresh);
-    if m.stopped {
-        return Answer::Refused(Refusal::Unbound(m.bad));
+impl CheckedBook<'_, '_> {
+    pub fn marks(&self, list: &[u16], out: &mut [u16]) -> Answer
+        requires { Passes self.now }
+        ensures { (b : Passes self.now) → HandedAs (marks_over b.admitted.book list.now) out.old out.new result }
+    {
+        let c = self.passed.contents;
+        let rows = c.nodes(self.bytes);
+        let marks = analysis::recursive::infer_rec(rows, self.roots, list, Marks::new())?;
+        refusals::hand(
+            analysis::hand::names_of(&marks.marked, c.names).as_slice(),
+            out,
+        )
     }
-    let marked = m.marked;
-    let found = analysis::hand::names_of(&marked, c.names);
-    analysis::hand::hand_names(found, out)
 }

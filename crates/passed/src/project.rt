@@ -1,30 +1,21 @@
 // The projection to asked methods: `project_methods`.
 ghost use Rattle.refusals.specs.Handed.{HandedAs};
-ghost use Rattle.typing.specs.Passing.{PassedBook};
 ghost use Rattle.listing.specs.Project.{project};
+ghost use Rattle.passed.specs.Checked.{Passes};
 
+use crate::CheckedBook;
 use refusals::{Answer, Refusal};
-use typing::prog::Passed;
 
-// Of a book that passed.
-pub fn project_passed(
-    book: &[u8],
-    p: Passed,
-    roots: &[u16],
-    ends: &[u32],
-    asked: &[u16],
-    out: &mut [u16],
-) -> Answer
-    requires { PassedBook book.now roots.now ends.now p }
-    ensures { (b : PassedBook book.now roots.now ends.now p) →
-        HandedAs (project b.admitted.book asked.now) out.old out.new result }
-{
-    let i = p.interface;
-    if !syntax::interface::has_actor(i) {
-        return Answer::Refused(Refusal::NoActor);
+impl CheckedBook<'_, '_> {
+    pub fn project(&self, asked: &[u16], out: &mut [u16]) -> Answer
+        requires { Passes self.now }
+        ensures { (b : Passes self.now) → HandedAs (project b.admitted.book asked.now) out.old out.new result }
+    {
+        let p = self.passed;
+        if !p.interface.has_actor() {
+            return Err(Refusal::NoActor);
+        }
+        let rows = p.contents.nodes(self.bytes);
+        analysis::project::project(rows, p.interface.services.as_slice(), asked, out)
     }
-    let c = p.contents;
-    let rows = c.nodes(book);
-    let services = i.services;
-    analysis::project::project(rows, &services, i.count, asked, out)
 }

@@ -2,49 +2,31 @@
 use mathlib.Core.Path.{◌≡◌, refl, sym}
 use mathlib.Core.Bool.{true, false}
 use mathlib.Core.List.{List, [], ◌∷◌, ◌++◌, append_assoc, append-nil}
-use Prim.Native.Nat.{ℕ, ◌+◌, ◌-◌, ◌/◌, ◌%◌, ◌≤◌, ◌<◌}
+use Prim.Native.Nat.{ℕ, ◌+◌, ◌/◌, ◌%◌, ◌≤◌, ◌<◌}
 use native.Mathlib.Numerals.{add-one}
 use native.Mathlib.Omega.{arith}
-use borrow.Author.Tests.{lt-ltb, le-ltb, le-leb, lt-leb, eq-eqb, ne_eqb}
-use lib.Dec.{leb}
 use lib.ListN.{length, get_or, take}
+use Rattle.std.proofs.lemmas.List.FromFn.{get_or-map-range_with_len}
+use Rattle.hex.specs.Hex.{lower_digits, encode_lower, encode_with}
 use lib.Seq.{take-suc, take_all}
-use Rattle.print.specs.Laid.{Laid}
+use Rattle.print.specs.declared.Text.{Text}
+use Rattle.print.specs.Laid.{Lays}
 use Rattle.print.specs.Quoted.{plain, hex_digit, escape, escapes, quoted}
-use Rattle.print.proofs.Laid.{nothing, then}
+use Rattle.print.proofs.Lays.{nothing, then}
 
-pub hex-low : (d : ℕ) → d < 10 → 48 + d ≡ hex_digit d
+-- The digits of the library are ours.
+lower-same : (d : ℕ) → d < 16 → get_or lower_digits d 0 ≡ hex_digit d
 unfolding hex_digit
-hex-low d h = rw (lt-ltb d 10 h)
-
-pub hex-high : (d : ℕ) → 10 ≤ d → 97 + (d - 10) ≡ hex_digit d
-unfolding hex_digit
-hex-high d h = rw (le-ltb d 10 h) (omega arith)
-
-pub plain-quote : (b : ℕ) → b ≡ 34 → false ≡ plain b
-unfolding plain
-plain-quote b e = rw (eq-eqb b 34 e)
-
-pub plain-backslash : (b : ℕ) → (b ≡ 34 → ⊥) → b ≡ 92 → false ≡ plain b
-unfolding plain
-plain-backslash b n e = rw (ne_eqb b 34 n, eq-eqb b 92 e)
-
-pub plain-low : (b : ℕ) → (b ≡ 34 → ⊥) → (b ≡ 92 → ⊥) → b < 32 → false ≡ plain b
-unfolding plain
-plain-low b n m h = rw (ne_eqb b 34 n, ne_eqb b 92 m, lt-leb 32 b h)
-
-pub plain-high : (b : ℕ) → (b ≡ 34 → ⊥) → (b ≡ 92 → ⊥) → 32 ≤ b → leb b 126 ≡ plain b
-unfolding plain
-plain-high b n m h = rw (ne_eqb b 34 n, ne_eqb b 92 m, le-leb 32 b h)
+lower-same d h = get_or-map-range_with_len hex_digit 0 16 d d 0 h (omega arith)
 
 -- A byte of a name is itself, or `\` and two digits.
 pub escape-plain : (b : ℕ) → plain b ≡ true → b ∷ [] ≡ escape b
 unfolding escape
 escape-plain b e = rw e
 
-pub escape-digits : (b : ℕ) {d e : ℕ} → plain b ≡ false → d ≡ hex_digit (b / 16) → e ≡ hex_digit (b % 16) → 92 ∷ d ∷ e ∷ [] ≡ escape b
-unfolding escape
-escape-digits b p q r = rw (p, q, r)
+pub escape-digits : (b : ℕ) {digits : List ℕ} → b < 256 → plain b ≡ false → digits ≡ encode_lower (b ∷ []) → 92 ∷ digits ≡ escape b
+unfolding escape encode_with
+escape-digits b h p e = rw (p, e, lower-same (b / 16) (omega arith), lower-same (b % 16) (omega arith))
 
 escapes-append : (x y : List ℕ) → escapes (x ++ y) ≡ escapes x ++ escapes y
 unfolding escapes
@@ -56,15 +38,13 @@ unfolding escapes
 escapes-suc name i h = rw (add-one i, take-suc name i 0 h, escapes-append (take i name) (get_or name i 0 ∷ []), append-nil (escape (get_or name i 0)))
 
 -- The bytes so far: at the start, after one byte more, and all of them between their quotes.
-pub escapes-start : (old : List ℕ) (at : ℕ) → Laid (escapes []) old at at old
+pub escapes-start : (t : Text) → Lays (escapes []) t t
 unfolding escapes
-escapes-start old at = nothing old at
+escapes-start t = nothing t
 
-pub escapes-on : {old mid new : List ℕ} {at m next : ℕ} (name : List ℕ) (i : ℕ) → i < length name → Laid (escapes (take i name)) old at m mid → Laid (escape (get_or name i 0)) mid m next new
-    → Laid (escapes (take (i + 1) name)) old at next new
+pub escapes-on : {a b c : Text} (name : List ℕ) (i : ℕ) → i < length name → Lays (escapes (take i name)) a b → Lays (escape (get_or name i 0)) b c → Lays (escapes (take (i + 1) name)) a c
 escapes-on name i h p q = rw (escapes-suc name i h) (then p q)
 
-pub escapes-end : {old first mid new : List ℕ} {at k m next : ℕ} (name : List ℕ) (i : ℕ) → length name ≤ i → Laid (34 ∷ []) old at k first → Laid (escapes (take i name)) first k m mid → Laid (34 ∷ []) mid m next new
-    → Laid (quoted name) old at next new
+pub escapes-end : {a b c d : Text} (name : List ℕ) (i : ℕ) → length name ≤ i → Lays (34 ∷ []) a b → Lays (escapes (take i name)) b c → Lays (34 ∷ []) c d → Lays (quoted name) a d
 unfolding quoted
 escapes-end name i h p q r = then p (then (rw (take_all i name h) at q) r)

@@ -3,11 +3,10 @@ use mathlib.Core.Path.{◌≡◌, refl, sym, ap, ◌∙◌}
 use mathlib.Core.List.{List, [], ◌∷◌, ◌++◌}
 use Prim.Native.Nat.{ℕ, suc, ◌+◌, ◌-◌, ◌≤◌, ◌<◌, min}
 use native.Mathlib.Nat.{add-zero}
-use native.Mathlib.Numerals.{add-one}
 use native.Mathlib.Omega.{arith}
 use native.Mathlib.Decide.{dec_le}
-use lib.ListN.{length, get_or, set, take, drop, length-append}
-use lib.Seq.{sets, length-sets, sets-eq, length-take-le, take_at, set_out, take-suc, take_all}
+use lib.ListN.{length, set, take, drop, length-append}
+use lib.Seq.{sets, length-sets, sets-eq, take_at, set_out}
 use Rattle.print.specs.Laid.{over, Laid, LaidWithin}
 
 -- A buffer keeps its length.
@@ -57,10 +56,6 @@ wider h e p = record { laid = alias e p.laid; few = omega (arith, h, p.few, ap l
 pub same : {x old new : List ℕ} {at next : ℕ} → Laid x old at next new → length new ≡ length old
 same {x} {old} {new} {at} p = ap length p.bytes ∙ length-over old at x
 
--- The answer is a place of the buffer, and so counts bytes of it.
-pub counted : {x old new : List ℕ} {at next : ℕ} → Laid x old at next new → at ≤ length old → next ≡ length (take next new)
-counted {new = new} {next = next} p h = sym (length-take-le next new (omega (arith, p.place, same p)))
-
 -- From the buffer's first place on, what fits is all that stands before the answer.
 pub all-before : {x old new : List ℕ} {next : ℕ} → Laid x old 0 next new → length x ≤ length old → take next new ≡ x
 unfolding over
@@ -74,10 +69,3 @@ one b old at h = record { bytes = refl; place = omega arith }
 
 pub none : (b : ℕ) (old : List ℕ) (at : ℕ) → length old ≤ at → Laid (b ∷ []) old at at old
 none b old at h = record { bytes = sym (over-past old at (b ∷ []) h); place = omega arith }
-
--- One byte more of a text, and all of it.
-pub more : {old mid new : List ℕ} {at m next : ℕ} (text : List ℕ) (i : ℕ) → i < length text → Laid (take i text) old at m mid → Laid (get_or text i 0 ∷ []) mid m next new → Laid (take (i + 1) text) old at next new
-more text i h p q = rw (add-one i, take-suc text i 0 h) (then p q)
-
-pub all : {old new : List ℕ} {at next : ℕ} (text : List ℕ) (i : ℕ) → length text ≤ i → Laid (take i text) old at next new → Laid text old at next new
-all text i h p = rw (take_all i text h) at p

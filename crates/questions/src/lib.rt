@@ -16,50 +16,35 @@ ghost use Rattle.listing.specs.Alias.{alias};
 ghost use Rattle.listing.specs.Project.{project};
 ghost use Rattle.listing.specs.Empty.{emptiness};
 
-use admission::Admission;
 use format::Limits;
+use passed::Tables;
 use refusals::{AliasAnswer, Answer, Verdict};
 
 // Whether a book passes: refusals 1, 24, 18, 2 to 10 and 12 to 14, the first in the order of the check.
 pub fn check(book: &[u8], limits: Limits) -> Verdict
     ensures { result ≡ check_bytes (book.now under limits) }
 {
-    let mut roots = book::tables::blank();
-    let mut ends = environment::no_ends();
-    let found = passed::pass(book, limits, &mut roots, &mut ends);
-    found.verdict
+    let mut tables = Tables::new();
+    tables.pass(book, limits)?;
+    Ok(())
 }
 
 // Whether a book and its init arguments pass: refusals 1, 24, 18, 2 to 14, those of the check first. A book without an init file passes with its check.
 pub fn init_check(book: &[u8], limits: Limits) -> Verdict
     ensures { result ≡ init_check_bytes (book.now under limits) }
 {
-    let mut roots = book::tables::blank();
-    let mut ends = environment::no_ends();
-    let found = passed::pass(book, limits, &mut roots, &mut ends);
-    let v = found.verdict;
-    if !v.passed() {
-        return v;
-    }
-    let p = found.passed;
-    let mut both = book::tables::blank();
-    let init = typing::init::check_init_args(book, p, &roots, &mut both);
-    init.verdict
+    let mut tables = Tables::new();
+    let checked = tables.pass(book, limits)?;
+    tables.checked(book, checked).init_check()
 }
 
 // The definitions that the actor leads to, left to right, each after those first met inside it: the check's refusals, 17 and 16.
 pub fn list(book: &[u8], limits: Limits, out: &mut [u16]) -> Answer
     ensures { HandedAs (on_bytes list (book.now under limits)) out.old out.new result }
 {
-    let mut roots = book::tables::blank();
-    let mut ends = environment::no_ends();
-    let found = passed::pass(book, limits, &mut roots, &mut ends);
-    let v = found.verdict;
-    let p = found.passed;
-    match v {
-        Verdict::Refused(why) => Answer::Refused(why),
-        Verdict::Passed => passed::list::list_passed(book, p, &roots, &ends, out),
-    }
+    let mut tables = Tables::new();
+    let passed = tables.pass(book, limits)?;
+    tables.checked(book, passed).list(out)
 }
 
 // The definitions that the init arguments lead to, main's and their own: the refusals of the init check, and 16. Nothing is listed where
@@ -67,25 +52,17 @@ pub fn list(book: &[u8], limits: Limits, out: &mut [u16]) -> Answer
 pub fn init_list(book: &[u8], limits: Limits, out: &mut [u16]) -> Answer
     ensures { HandedAs (on_bytes init_list (book.now under limits)) out.old out.new result }
 {
-    let mut roots = book::tables::blank();
-    let mut ends = environment::no_ends();
-    let found = passed::pass(book, limits, &mut roots, &mut ends);
-    let v = found.verdict;
-    let p = found.passed;
-    match v {
-        Verdict::Refused(why) => Answer::Refused(why),
-        Verdict::Passed => passed::init_list::init_list_passed(book, p, &roots, &ends, out),
-    }
+    let mut tables = Tables::new();
+    let passed = tables.pass(book, limits)?;
+    tables.checked(book, passed).init_list(out)
 }
 
 // The list of a draft: 1, 24, 18, 17, 2, 3 and 16.
 pub fn draft_list(book: &[u8], limits: Limits, out: &mut [u16]) -> Answer
     ensures { HandedAs (on_bytes draft_list (book.now under limits)) out.old out.new result }
 {
-    match admission::admit(book, limits) {
-        Admission::Refused(why) => Answer::Refused(why),
-        Admission::Admitted(c) => passed::draft_list::draft_list_admitted(book, c, out),
-    }
+    let c = admission::admit(book, limits)?;
+    passed::draft_list::draft_list_admitted(book, c, out)
 }
 
 // The names that have to be boxed where these definitions are laid out in this order, ascending: the check's refusals, 3 for the first
@@ -93,15 +70,9 @@ pub fn draft_list(book: &[u8], limits: Limits, out: &mut [u16]) -> Answer
 pub fn marks(book: &[u8], limits: Limits, list: &[u16], out: &mut [u16]) -> Answer
     ensures { HandedAs (on_bytes (λ b. marks_over b list.now) (book.now under limits)) out.old out.new result }
 {
-    let mut roots = book::tables::blank();
-    let mut ends = environment::no_ends();
-    let found = passed::pass(book, limits, &mut roots, &mut ends);
-    let v = found.verdict;
-    let p = found.passed;
-    match v {
-        Verdict::Refused(why) => Answer::Refused(why),
-        Verdict::Passed => passed::marks::marks_passed(book, p, &roots, &ends, list, out),
-    }
+    let mut tables = Tables::new();
+    let passed = tables.pass(book, limits)?;
+    tables.checked(book, passed).marks(list, out)
 }
 
 // The arguments and results from which a name is reached, an entry of three numbers for each: a method's position, or 65,535 for an argument
@@ -109,15 +80,9 @@ pub fn marks(book: &[u8], limits: Limits, list: &[u16], out: &mut [u16]) -> Answ
 pub fn uses(book: &[u8], limits: Limits, name: u16, out: &mut [u16]) -> Answer
     ensures { UsesAs (on_bytes (λ b. uses b name) (book.now under limits)) out.old out.new result }
 {
-    let mut roots = book::tables::blank();
-    let mut ends = environment::no_ends();
-    let found = passed::pass(book, limits, &mut roots, &mut ends);
-    let v = found.verdict;
-    let p = found.passed;
-    match v {
-        Verdict::Refused(why) => Answer::Refused(why),
-        Verdict::Passed => passed::uses::uses_passed(book, p, &roots, &ends, name, out),
-    }
+    let mut tables = Tables::new();
+    let passed = tables.pass(book, limits)?;
+    tables.checked(book, passed).uses(name, out)
 }
 
 // How many names the alias chain of a name crosses, itself among them, and the last of these, whose definition is no name: the check's refusals,
@@ -125,15 +90,9 @@ pub fn uses(book: &[u8], limits: Limits, name: u16, out: &mut [u16]) -> Answer
 pub fn alias(book: &[u8], limits: Limits, name: u16) -> AliasAnswer
     ensures { result ≡ alias_answer (on_bytes (λ b. alias b name) (book.now under limits)) }
 {
-    let mut roots = book::tables::blank();
-    let mut ends = environment::no_ends();
-    let found = passed::pass(book, limits, &mut roots, &mut ends);
-    let v = found.verdict;
-    let p = found.passed;
-    match v {
-        Verdict::Refused(why) => AliasAnswer::Refused(why),
-        Verdict::Passed => passed::alias::alias_passed(book, p, &roots, &ends, name),
-    }
+    let mut tables = Tables::new();
+    let passed = tables.pass(book, limits)?;
+    tables.checked(book, passed).alias(name)
 }
 
 // The positions of the methods that take the asked names, ascending; a name that is asked twice needs two methods: the check's refusals,
@@ -141,28 +100,16 @@ pub fn alias(book: &[u8], limits: Limits, name: u16) -> AliasAnswer
 pub fn project(book: &[u8], limits: Limits, asked: &[u16], out: &mut [u16]) -> Answer
     ensures { HandedAs (on_bytes (λ b. project b asked.now) (book.now under limits)) out.old out.new result }
 {
-    let mut roots = book::tables::blank();
-    let mut ends = environment::no_ends();
-    let found = passed::pass(book, limits, &mut roots, &mut ends);
-    let v = found.verdict;
-    let p = found.passed;
-    match v {
-        Verdict::Refused(why) => Answer::Refused(why),
-        Verdict::Passed => passed::project::project_passed(book, p, &roots, &ends, asked, out),
-    }
+    let mut tables = Tables::new();
+    let passed = tables.pass(book, limits)?;
+    tables.checked(book, passed).project(asked, out)
 }
 
 // The names that become empty, ascending: the check's refusals and 16. No actor is needed.
 pub fn emptiness(book: &[u8], limits: Limits, out: &mut [u16]) -> Answer
     ensures { HandedAs (on_bytes emptiness (book.now under limits)) out.old out.new result }
 {
-    let mut roots = book::tables::blank();
-    let mut ends = environment::no_ends();
-    let found = passed::pass(book, limits, &mut roots, &mut ends);
-    let v = found.verdict;
-    let p = found.passed;
-    match v {
-        Verdict::Refused(why) => Answer::Refused(why),
-        Verdict::Passed => passed::empty::emptiness_passed(book, p, &roots, &ends, out),
-    }
+    let mut tables = Tables::new();
+    let passed = tables.pass(book, limits)?;
+    tables.checked(book, passed).emptiness(out)
 }

@@ -12,8 +12,8 @@ use lib.Dec.{leb}
 use lib.ListN.{length}
 use Rattle.refusals.specs.declared.Refusal.{Refusal}
 use Rattle.refusals.specs.declared.Refusal.TheVariants.{Short}
-use Rattle.refusals.specs.declared.Verdict.{Verdict}
-use Rattle.refusals.specs.declared.Verdict.TheVariants.{Passed, Refused}
+use Rattle.std.specs.Prelude.{Ok, Err}
+use Rattle.refusals.specs.Verdict.{Verdict, passes}
 use Rattle.refusals.specs.Outcome.{Outcome, refused, given, after, fit}
 
 pub given-refused : {A B : Type 0} {l : B} {r : Refusal} → ◌≡◌ {A = Outcome B} (refused r) (given l) → A
@@ -26,23 +26,23 @@ pub same-refusal : {A : Type 0} {r s : Refusal} → ◌≡◌ {A = Outcome A} (r
 same-refusal e = cc
 
 -- ---- After a verdict
-pub after-passed : {A : Type 0} (v : Verdict) (o : Outcome A) → v ≡ Passed → after v o ≡ o
+pub after-passed : {A : Type 0} (v : Verdict) (o : Outcome A) → v ≡ passes → after v o ≡ o
 unfolding after
 after-passed v o e = rw e
 
-pub after-stops : {A : Type 0} (v : Verdict) (o : Outcome A) {r : Refusal} → v ≡ Refused r → after v o ≡ refused r
+pub after-stops : {A : Type 0} (v : Verdict) (o : Outcome A) {r : Refusal} → v ≡ Err r → after v o ≡ refused r
 unfolding after
 after-stops v o e = rw e
 
-pub after-given : {A : Type 0} (v : Verdict) (o : Outcome A) {l : A} → after v o ≡ given l → (v ≡ Passed) × (o ≡ given l)
+pub after-given : {A : Type 0} (v : Verdict) (o : Outcome A) {l : A} → after v o ≡ given l → (v ≡ passes) × (o ≡ given l)
 unfolding after
-after-given Passed o e = (refl, e)
-after-given (Refused r) o e = given-refused e
+after-given (Ok tt) o e = (refl, e)
+after-given (Err r) o e = given-refused e
 
-pub after-refused : {A : Type 0} (v : Verdict) (o : Outcome A) {r : Refusal} → after v o ≡ refused r → (v ≡ Refused r) ⊎ ((v ≡ Passed) × (o ≡ refused r))
+pub after-refused : {A : Type 0} (v : Verdict) (o : Outcome A) {r : Refusal} → after v o ≡ refused r → (v ≡ Err r) ⊎ ((v ≡ passes) × (o ≡ refused r))
 unfolding after
-after-refused Passed o e = inr (refl, e)
-after-refused (Refused s) o e = inl cc
+after-refused (Ok tt) o e = inr (refl, e)
+after-refused (Err s) o e = inl cc
 
 -- ---- In so many places
 module _ {A : Type 0} where

@@ -10,32 +10,31 @@ use Prim.Native.Nat.{ℕ}
 use native.Mathlib.Omega.{arith}
 use lib.Dec.{T, T_not, not_T}
 use Rattle.refusals.specs.declared.Refusal.{Refusal}
-use Rattle.refusals.specs.declared.Verdict.{Verdict}
-use Rattle.refusals.specs.declared.Verdict.TheVariants.{Passed, Refused}
-use Rattle.refusals.specs.Verdict.{is_passed, and_then, unless}
+use Rattle.std.specs.Prelude.{Ok, Err}
+use Rattle.refusals.specs.Verdict.{Verdict, passes, is_passed, and_then, unless}
 
 -- A verdict does not both refuse and pass.
-pub refused-passed : {r : Refusal} {A : Type 0} → Refused r ≡ Passed → A
+pub refused-passed : {r : Refusal} {A : Type 0} → Err r ≡ passes → A
 refused-passed e = let z : ◌≡◌ {A = ℕ} 0 1 = cc in absurd (omega arith)
 
-pub passed-refused : {r : Refusal} {A : Type 0} → Passed ≡ Refused r → A
+pub passed-refused : {r : Refusal} {A : Type 0} → passes ≡ Err r → A
 passed-refused e = let z : ◌≡◌ {A = ℕ} 0 1 = cc in absurd (omega arith)
 
-pub passed-is : (v : Verdict) → is_passed v ≡ true → v ≡ Passed
-passed-is Passed h = refl
-passed-is (Refused r) h = absurd (false≢true h)
+pub passed-is : (v : Verdict) → is_passed v ≡ true → v ≡ passes
+passed-is (Ok tt) h = refl
+passed-is (Err r) h = absurd (false≢true h)
 
 -- ---- Two verdicts in order
-pub both-pass : (v w : Verdict) → and_then v w ≡ Passed → (v ≡ Passed) × (w ≡ Passed)
-both-pass Passed w e = (refl, e)
-both-pass (Refused r) w e = refused-passed e
+pub both-pass : (v w : Verdict) → and_then v w ≡ passes → (v ≡ passes) × (w ≡ passes)
+both-pass (Ok tt) w e = (refl, e)
+both-pass (Err r) w e = refused-passed e
 
-pub pass-both : (v w : Verdict) → v ≡ Passed → w ≡ Passed → and_then v w ≡ Passed
+pub pass-both : (v w : Verdict) → v ≡ passes → w ≡ passes → and_then v w ≡ passes
 pass-both v w d e = rw d e
 
-pub which-refused : (v w : Verdict) {r : Refusal} → and_then v w ≡ Refused r → (v ≡ Refused r) ⊎ ((v ≡ Passed) × (w ≡ Refused r))
-which-refused Passed w e = inr (refl, e)
-which-refused (Refused s) w e = inl e
+pub which-refused : (v w : Verdict) {r : Refusal} → and_then v w ≡ Err r → (v ≡ Err r) ⊎ ((v ≡ passes) × (w ≡ Err r))
+which-refused (Ok tt) w e = inr (refl, e)
+which-refused (Err s) w e = inl e
 
 pub and-on : (v w : Verdict) → is_passed v ≡ true → and_then v w ≡ w
 and-on v w h = rw h
@@ -43,24 +42,24 @@ and-on v w h = rw h
 pub and-stops : (v w : Verdict) → is_passed v ≡ false → and_then v w ≡ v
 and-stops v w h = rw h
 
-pub and-passed : (v : Verdict) → and_then v Passed ≡ v
-and-passed Passed = refl
-and-passed (Refused r) = refl
+pub and-passed : (v : Verdict) → and_then v passes ≡ v
+and-passed (Ok tt) = refl
+and-passed (Err r) = refl
 
 pub and_assoc : (u v w : Verdict) → and_then u (and_then v w) ≡ and_then (and_then u v) w
-and_assoc Passed v w = refl
-and_assoc (Refused r) v w = refl
+and_assoc (Ok tt) v w = refl
+and_assoc (Err r) v w = refl
 
 -- ---- A test
-pub unless-passed : (t : Bool) (r : Refusal) → unless t r ≡ Passed → T t
+pub unless-passed : (t : Bool) (r : Refusal) → unless t r ≡ passes → T t
 unless-passed true r e = tt
 unless-passed false r e = refused-passed e
 
-pub passed-unless : (t : Bool) (r : Refusal) → T t → unless t r ≡ Passed
+pub passed-unless : (t : Bool) (r : Refusal) → T t → unless t r ≡ passes
 passed-unless true r h = refl
 passed-unless false r h = absurd h
 
-pub unless-refused : (t : Bool) (r : Refusal) {s : Refusal} → unless t r ≡ Refused s → (T t → ⊥) × (s ≡ r)
+pub unless-refused : (t : Bool) (r : Refusal) {s : Refusal} → unless t r ≡ Err s → (T t → ⊥) × (s ≡ r)
 unless-refused true r e = passed-refused e
 unless-refused false r e = (λ h. h, cc)
 

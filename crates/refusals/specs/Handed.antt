@@ -1,17 +1,21 @@
 -- How an answer is handed over: a number or a refusal, and the lent list. Definitions; assumes nothing.
-use Rattle.std.specs.Prelude.{◌≡◌, List, [], ◌∷◌, ◌++◌, ℕ, ◌*◌, ◌/◌, length, drop}
-use Rattle.refusals.specs.declared.Answer.{Answer}
-use Rattle.refusals.specs.declared.Answer.TheVariants.{Given, Refused}
+use Rattle.std.specs.Prelude.{◌≡◌, List, [], ◌∷◌, ◌++◌, ℕ, ◌*◌, ◌/◌, length, drop, Result, Ok, Err}
+use Rattle.refusals.specs.declared.Refusal.{Refusal}
 use Rattle.refusals.specs.declared.Crossed.{Crossed}
-use Rattle.refusals.specs.declared.AliasAnswer.{AliasAnswer}
-use Rattle.refusals.specs.declared.AliasAnswer.TheVariants.{Given as GivenAlias, Refused as RefusedAlias}
 use Rattle.refusals.specs.Lists.{flat}
 use Rattle.refusals.specs.Outcome.{Outcome, refused, given, fit}
 
+-- What a question answers: how many entries there are, or why there are none; and what the one about an alias chain does.
+abbrev pub Answer : Type 0
+Answer = Result ℕ Refusal
+
+abbrev pub AliasAnswer : Type 0
+AliasAnswer = Result Crossed Refusal
+
 -- How many entries there are, or why there are none.
 unfoldable pub answer_of : {A : Type 0} → Outcome (List A) → Answer
-answer_of (refused r) = Refused r
-answer_of (given l) = Given (length l)
+answer_of (refused r) = Err r
+answer_of (given l) = Ok (length l)
 
 -- What the lent list holds afterwards: the entries in front, the rest as it was; all of it as it was where the question is refused.
 unfoldable pub left_in : Outcome (List ℕ) → List ℕ → List ℕ
@@ -47,5 +51,5 @@ pub record UsesAs (o : Outcome (List Use)) (old new : List ℕ) (r : Answer) : T
 -- ---- An alias chain, which takes no list
 
 unfoldable pub alias_answer : Outcome Crossed → AliasAnswer
-alias_answer (refused r) = RefusedAlias r
-alias_answer (given c) = GivenAlias c
+alias_answer (refused r) = Err r
+alias_answer (given c) = Ok c

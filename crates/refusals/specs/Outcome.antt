@@ -2,8 +2,8 @@
 use Rattle.std.specs.Prelude.{cond, List, ℕ, leb, length}
 use Rattle.refusals.specs.declared.Refusal.{Refusal}
 use Rattle.refusals.specs.declared.Refusal.TheVariants.{Short}
-use Rattle.refusals.specs.declared.Verdict.{Verdict}
-use Rattle.refusals.specs.declared.Verdict.TheVariants.{Passed, Refused}
+use Rattle.std.specs.Prelude.{Ok, Err}
+use Rattle.refusals.specs.Verdict.{Verdict}
 
 pub data Outcome (A : Type 0) : Type 0 where
   refused : Refusal → Outcome A
@@ -11,8 +11,8 @@ pub data Outcome (A : Type 0) : Type 0 where
 
 -- A question goes on where the verdict passes.
 unfoldable pub after : {A : Type 0} → Verdict → Outcome A → Outcome A
-after Passed o = o
-after (Refused r) o = refused r
+after (Ok tt) o = o
+after (Err r) o = refused r
 
 -- A question is asked of what is given, and a check judges it.
 unfoldable pub asked : {A B : Type 0} → (A → Outcome B) → Outcome A → Outcome B
@@ -20,7 +20,7 @@ asked question (refused r) = refused r
 asked question (given a) = question a
 
 unfoldable pub judged : {A : Type 0} → (A → Verdict) → Outcome A → Verdict
-judged check (refused r) = Refused r
+judged check (refused r) = Err r
 judged check (given a) = check a
 
 -- 16: into a lent list of so many places.

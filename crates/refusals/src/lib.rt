@@ -2,15 +2,14 @@
 // that definitions need no code for it.
 #![tactic(auto)]
 
-ghost use Rattle.std.specs.Prelude.{◌≡◌, ◌<◌, length};
-ghost use Rattle.refusals.specs.Refusal.{number_of, names_of, name_of, needed_of};
-ghost use Rattle.refusals.specs.Verdict.{is_passed};
+ghost use Rattle.std.specs.Prelude.{◌≡◌, ◌<◌, cond, Some, None, length};
+ghost use Rattle.refusals.specs.Refusal.{says_of, number_of, names_of, name_of, needed_of};
 ghost use Rattle.refusals.specs.Outcome.{given};
 ghost use Rattle.refusals.specs.Handed.{HandedAs};
 
 // Rows 1 to 17 of document 01 in order, then those of document 02. Those with a name hold its number: a place in the book's table of names, unless
 // a question was asked with a number outside that table. Then 3 and 15 hold the number as it was asked, even 65,535.
-#[derive(Clone, Copy)]
+#[derive(Clone, Copy, PartialEq, Eq, Debug)]
 pub enum Refusal {
     // 1: the layout is broken.
     Broken,
@@ -52,38 +51,47 @@ pub enum Refusal {
     OverLimit,
 }
 
-// What a refusal says: its number, whether it names something, the name's number, the entries needed.
-#[derive(Clone, Copy)]
-struct Said(u16, bool, u16, u32);
+// What a refusal tells beside its row.
+#[derive(Clone, Copy, PartialEq, Eq, Debug)]
+pub enum Told {
+    Nothing,
+    // A name's number.
+    Name(u16),
+    // A label's name number, or NO_NAME where it is not spelled.
+    Label(u16),
+    // The entries needed.
+    Needed(u32),
+}
 
 impl Refusal {
-    // Stands for the name's number where a refusal names nothing. It may also be a number that is named: `names` tells them apart.
+    // Stands for the name's number where a refusal names nothing, since C is told a number. It may also be one that is named: `named` tells
+    // them apart.
     pub const NO_NAME: u16 = 65535;
 
-    // The table of refusals, one line for each refusal as in the definition `says_of`.
-    fn says(self) -> Said
-        ensures { (result.0 ≡ number_of self) × (result.1 ≡ names_of self) × (result.2 ≡ name_of self) × (result.3 ≡ needed_of self) }
+    // The table of refusals, one line for each as in the definition: its row, and what it tells.
+    fn says(self) -> (u16, Told)
+        ensures { result ≡ says_of self }
     {
         match self {
-            Refusal::Broken => Said(1, false, Refusal::NO_NAME, 0),
-            Refusal::Twice(n) => Said(2, true, n, 0),
-            Refusal::Unbound(n) => Said(3, true, n, 0),
-            Refusal::Class => Said(4, false, Refusal::NO_NAME, 0),
-            Refusal::Modes => Said(5, false, Refusal::NO_NAME, 0),
-            Refusal::Oneway => Said(6, false, Refusal::NO_NAME, 0),
-            Refusal::Circle(n) => Said(7, true, n, 0),
-            Refusal::NoFunction => Said(8, false, Refusal::NO_NAME, 0),
-            Refusal::MethodNoFunction(n) => Said(9, true, n, 0),
-            Refusal::NoService => Said(10, false, Refusal::NO_NAME, 0),
-            Refusal::Differs(n) => Said(11, true, n, 0),
-            Refusal::ImportWithoutActor(n) => Said(12, true, n, 0),
-            Refusal::ImportNoService(n) => Said(13, true, n, 0),
-            Refusal::SameHash(n) => Said(14, true, n, 0),
-            Refusal::Absent(n) => Said(15, true, n, 0),
-            Refusal::Short(n) => Said(16, false, Refusal::NO_NAME, n),
-            Refusal::NoActor => Said(17, false, Refusal::NO_NAME, 0),
-            Refusal::Repeated(n) => Said(18, n != Refusal::NO_NAME, n, 0),
-            Refusal::OverLimit => Said(24, false, Refusal::NO_NAME, 0),
+            Refusal::Broken => (1, Told::Nothing),
+            Refusal::Twice(n) => (2, Told::Name(n)),
+            Refusal::Unbound(n) => (3, Told::Name(n)),
+            Refusal::Class => (4, Told::Nothing),
+            Refusal::Modes => (5, Told::Nothing),
+            Refusal::Oneway => (6, Told::Nothing),
+            Refusal::Circle(n) => (7, Told::Name(n)),
+            Refusal::NoFunction => (8, Told::Nothing),
+            Refusal::MethodNoFunction(n) => (9, Told::Name(n)),
+            Refusal::NoService => (10, Told::Nothing),
+            Refusal::Differs(n) => (11, Told::Name(n)),
+            Refusal::ImportWithoutActor(n) => (12, Told::Name(n)),
+            Refusal::ImportNoService(n) => (13, Told::Name(n)),
+            Refusal::SameHash(n) => (14, Told::Name(n)),
+            Refusal::Absent(n) => (15, Told::Name(n)),
+            Refusal::Short(n) => (16, Told::Needed(n)),
+            Refusal::NoActor => (17, Told::Nothing),
+            Refusal::Repeated(n) => (18, Told::Label(n)),
+            Refusal::OverLimit => (24, Told::Nothing),
         }
     }
 
@@ -94,67 +102,50 @@ impl Refusal {
         self.says().0
     }
 
-    // Whether it names something, which need not be a name of the book.
-    pub fn names(self) -> bool
-        ensures { result ≡ names_of self }
+    // The number that it names, if any, which need not be a name of the book.
+    pub fn named(self) -> Option<u16>
+        ensures { result ≡ cond (names_of self) (Some (name_of self)) None }
     {
-        self.says().1
+        match self.says().1 {
+            Told::Name(n) => Some(n),
+            Told::Label(n) if n != Refusal::NO_NAME => Some(n),
+            _ => None,
+        }
     }
 
     // The name number that it gives, or NO_NAME.
     pub fn name(self) -> u16
         ensures { result ≡ name_of self }
     {
-        self.says().2
+        self.named().unwrap_or(Refusal::NO_NAME)
     }
 
     // The entries needed, which only row 16 gives; else 0.
     pub fn needed(self) -> u32
         ensures { result ≡ needed_of self }
     {
-        self.says().3
-    }
-}
-
-// What a check finds.
-#[derive(Clone, Copy)]
-pub enum Verdict {
-    Passed,
-    Refused(Refusal),
-}
-
-impl Verdict {
-    // Whether the check goes on.
-    pub fn passed(self) -> bool
-        ensures { result ≡ is_passed self }
-    {
-        match self {
-            Verdict::Passed => true,
-            Verdict::Refused(_) => false,
+        match self.says().1 {
+            Told::Needed(n) => n,
+            _ => 0,
         }
     }
 }
 
+// What a check finds: it goes on, or the first refusal.
+pub type Verdict = Result<(), Refusal>;
+
 // What a question answers: how many entries stand at the front of the lent list, or why there are none.
-#[derive(Clone, Copy)]
-pub enum Answer {
-    Given(usize),
-    Refused(Refusal),
-}
+pub type Answer = Result<usize, Refusal>;
 
 // The names that an alias chain crosses: how many, and the last of them.
-#[derive(Clone, Copy)]
+#[derive(Clone, Copy, PartialEq, Eq, Debug)]
 pub struct Crossed {
     pub names: u16,
     pub last: u16,
 }
 
 // What the question about an alias chain answers.
-#[derive(Clone, Copy)]
-pub enum AliasAnswer {
-    Given(Crossed),
-    Refused(Refusal),
-}
+pub type AliasAnswer = Result<Crossed, Refusal>;
 
 // Hands a list over into a lent one; 16 where that is shorter.
 pub fn hand(list: &[u16], out: &mut [u16]) -> Answer
@@ -163,12 +154,8 @@ pub fn hand(list: &[u16], out: &mut [u16]) -> Answer
 {
     let n = list.len();
     if out.len() < n {
-        return Answer::Refused(Refusal::Short(n as u32));
+        return Err(Refusal::Short(n as u32));
     }
-    let mut j = 0;
-    while j < n {
-        out[j] = list[j];
-        j += 1;
-    }
-    Answer::Given(n)
+    out[..n].copy_from_slice(list);
+    Ok(n)
 }

@@ -1,5 +1,5 @@
 -- The walk over siblings: what is left of it leads to the same node. Assumes nothing.
-use mathlib.Core.Path.{◌≡◌, refl, sym, ap, ◌∙◌}
+use mathlib.Core.Path.{◌≡◌, sym, ap, ◌∙◌}
 use mathlib.Core.List.{List}
 use Prim.Native.Nat.{ℕ, zero, suc, ◌+◌, ◌-◌, ◌≤◌, ◌<◌}
 use native.Mathlib.Omega.{arith}
@@ -28,19 +28,23 @@ module _ {ns : List ℕ} {i d : ℕ} (r : Reaches ns i d) where
   pub reaches-next : i + (row_at ns i).size ≤ 4096
   reaches-next = let o = opened r.whole r.more in let w = o.rest.within in omega (arith, o.rest.ordered, w.held, w.few)
 
--- By a node's size z, or where none is left.
-pub reaches-on : {ns : List ℕ} {i d z : ℕ} → Reaches ns i d → 0 < d → z ≡ (row_at ns i).size → Reaches ns (i + z) (d - 1) × (child_at ns (i + z) (d - 1) ≡ child_at ns i d)
-unfolding child_at
-reaches-on {d = zero} r h e = absurd (omega arith)
-reaches-on {d = suc d} r h e =
-    let y : suc d - 1 ≡ d = omega arith in
-    let o = opened r.whole r.more in
-    rw (y, e) (record { until = r.until; whole = o.rest; more = others o r.more }, refl)
+-- The walk from node `from` to child d stands at node i, after n siblings.
+pub record Reaching (ns : List ℕ) (from d n i : ℕ) : Type 0 where
+  pub left : Reaches ns i (d - n)
+  pub same : child_at ns i (d - n) ≡ child_at ns from d
 
-pub reached : (ns : List ℕ) (i : ℕ) {d : ℕ} → d ≤ 0 → i ≡ child_at ns i d
+-- on by a node's size z
+pub reaching-on : {ns : List ℕ} {from d n i z : ℕ} → Reaching ns from d n i → n < d → z ≡ (row_at ns i).size → Reaching ns from d (n + 1) (i + z)
 unfolding child_at
-reached ns i {d = zero} h = refl
-reached ns i {d = suc d} h = absurd (omega arith)
+reaching-on {ns} {from} {d} {n} {i} r h e =
+    let one : d - n ≡ suc (d - (n + 1)) = omega arith in
+    let left = rw one at r.left in
+    let o = opened left.whole left.more in
+    rw e (record { left = record { until = left.until; whole = o.rest; more = others o left.more }; same = rw one at r.same })
+
+pub reaching-end : {ns : List ℕ} {from d n i : ℕ} → Reaching ns from d n i → d ≤ n → i ≡ child_at ns from d
+unfolding child_at
+reaching-end {d = d} {n} r h = let none : d - n ≡ 0 = omega arith in rw none at r.same
 
 -- The node is as many nodes on as the siblings before it have.
 pub child-is : {ns : List ℕ} {i e : ℕ} → Whole ns i e → (d : ℕ) → d < breadth (siblings ns i e) → child_at ns i d ≡ i + nodes_before d (siblings ns i e)

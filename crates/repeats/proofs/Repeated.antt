@@ -3,6 +3,7 @@
 --     repeat-parent      only such a node as `is_parent` tells has a repeat below it
 --     child-repeat       a child whose key an earlier one has is a repeat
 --     child-least        no repeat below the node is before the first such child
+--     none-below         nor is there one where no child's key stands before
 use mathlib.Core.Path.{◌≡◌, refl, sym, subst, ◌∙◌}
 use mathlib.Core.Bool.{true}
 use mathlib.Core.List.{List, [], ◌∷◌}
@@ -12,6 +13,7 @@ use native.Mathlib.Decide.{ℕ_discrete, dec_lt}
 use native.Mathlib.Omega.{arith}
 use borrow.Author.Tests.{lt-ltb}
 use lib.ListN.{length, get_or, take}
+use lib.Seq.{take-length}
 use Rattle.format.specs.Forest.{Forest, count, breadth}
 use Rattle.format.specs.Node.{Labelled, Node}
 use Rattle.format.specs.Book.{trees}
@@ -120,12 +122,16 @@ module _ {bs ns : List ℕ} (s : Stands bs ns) (i : ℕ) (h : i < count (trees (
 
   -- ---- The first child whose key an earlier one has
   module _ {d : ℕ} (f : FirstDuplicate (keys_at bs ns i) d) where
-    pub child-repeat : is_parent (row_at ns i) ≡ true → d < breadth (kids_at ns i) → (l : Labelled) × Repeats bs (child_at ns (i + 1) d) l
+    pub child-inside : d < breadth (kids_at ns i)
+    child-inside = omega (arith, f.inside, keys-length (key_at bs ns i) (kids_at ns i))
+
+    pub child-repeat : is_parent (row_at ns i) ≡ true → (l : Labelled) × Repeats bs (child_at ns (i + 1) d) l
     unfolding node_of
-    child-repeat t m =
+    child-repeat t =
+        let m = child-inside in
         let kids = kids_at ns i in
         let key = key_at bs ns i in
-        let p = place-of (keys_at bs ns i) d (f.again (omega (arith, keys-length key kids))) in
+        let p = place-of (keys_at bs ns i) d f.again in
         let one = by-ordinal kids p.0 (omega (arith, p.1)) in
         let other = by-ordinal kids d m in
         let same =
@@ -153,14 +159,20 @@ module _ {bs ns : List ℕ} (s : Stands bs ns) (i : ℕ) (h : i < count (trees (
           },
         )
 
-    pub child-least : (j : ℕ) (l : Labelled) (x : Repeats bs j l) → x.at ≡ i → (d < breadth (kids_at ns i)) × (child_at ns (i + 1) d ≤ j)
+    pub child-least : (j : ℕ) (l : Labelled) (x : Repeats bs j l) → x.at ≡ i → child_at ns (i + 1) d ≤ j
     child-least j l x e =
         let kids = kids_at ns i in
         let p = pair x e in
         let most : d ≤ p.other = go p (dec_lt p.other d) in
-        let m : d < breadth kids = omega (arith, p.inside) in
-        (m, omega (arith, child-is kids-between.whole d m, before-most kids d p.other most (omega (arith, p.inside)), p.at, x.node))
+        omega (arith, child-is kids-between.whole d child-inside, before-most kids d p.other most (omega (arith, p.inside)), p.at, x.node)
       where
         go : (p : Pair x.later_at) → Dec (p.other < d) → d ≤ p.other
-        go p (yes y) = absurd (distinct-apart (keys_at bs ns i) d f.distinct p.one p.other p.order y f.inside p.same)
+        go p (yes y) = absurd (distinct-apart (keys_at bs ns i) d f.distinct p.one p.other p.order y (omega (arith, f.inside)) p.same)
         go p (no y) = omega arith
+
+  -- none of its children has an earlier one's key
+  pub none-below : Distinct (keys_at bs ns i) → (j : ℕ) (l : Labelled) (x : Repeats bs j l) → x.at ≡ i → ⊥
+  none-below u j l x e =
+      let p = pair x e in
+      let ks = keys_at bs ns i in
+      distinct-apart ks (length ks) (rw (take-length ks) u) p.one p.other p.order (omega (arith, p.inside, keys-length (key_at bs ns i) (kids_at ns i))) (omega arith) p.same

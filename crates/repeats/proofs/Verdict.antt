@@ -1,16 +1,17 @@
 -- From the node that is found to the verdict of the book's labels. Assumes nothing.
 use mathlib.Core.Path.{◌≡◌, refl, sym, ap, subst, ◌∙◌}
 use mathlib.Core.List.{List}
-use Prim.Native.Nat.{ℕ, zero, suc, ◌+◌, ◌≤◌, ◌<◌}
+use Prim.Native.Nat.{ℕ, zero, suc, ◌+◌, ◌<◌}
 use native.Mathlib.Omega.{arith}
 use lib.ListN.{length}
 use Rattle.refusals.specs.declared.Refusal.TheVariants.{Repeated}
-use Rattle.refusals.specs.declared.Verdict.TheVariants.{Passed, Refused}
+use Rattle.std.specs.Prelude.{Err}
+use Rattle.refusals.specs.Verdict.{passes}
 use Rattle.format.specs.Forest.{count}
 use Rattle.format.specs.Node.{Labelled, Node}
 use Rattle.format.specs.Book.{Book, trees}
 use Rattle.format.specs.Encode.{Row}
-use Rattle.format.specs.Layout.{row_at, label_of, node_of, nodes_part, whole, layout}
+use Rattle.format.specs.Layout.{row_at, label_of, node_of, nodes_part, read, whole, layout}
 use Rattle.format.specs.Whole.{Within, RowFits}
 use Rattle.format.specs.Repeats.{RepeatAt, spelling, labels_verdict}
 use Rattle.format.proofs.Numbered.{RowStands, node-only, node-at}
@@ -18,9 +19,10 @@ use Rattle.format.proofs.Repeats.{repeat-node, apart-labels, labels-say, first-r
 use Rattle.format.proofs.Admitted.{trees-are, trees-whole, node-stored}
 use Rattle.book.proofs.Named.{names-are, names-few}
 use Rattle.book.specs.declared.kinds.Contents.{Contents}
-use Rattle.book.specs.declared.read.Node as read
-use Rattle.book.specs.Reading.{contents_of, Admitted, as_row}
-use Rattle.repeats.specs.Found.{FoundAs}
+use Rattle.book.specs.declared.read.Node as stored
+use Rattle.book.specs.Reading.{Admitted, as_row}
+use Rattle.repeats.proofs.Tables.{read-is}
+use Rattle.repeats.specs.Found.{NoRepeat, FirstRepeat}
 
 -- ---- A label that is spelled, and one that is not
 spelled : (v : ℕ) → spelling (label_of 2 v) ≡ v
@@ -35,10 +37,6 @@ unspelled (suc (suc zero)) v n = absurd (n refl)
 unspelled (suc (suc (suc k))) v n = refl
 
 module _ {bs : List ℕ} {c : Contents} (o : Admitted bs c) where
-  nodes-are : count (trees o.book) ≡ c.nodes
-  unfolding contents_of
-  nodes-are = ap (λ (d : Contents). d.nodes) o.table
-
   -- the layout has one book
   book-is : (b : Book) → layout bs ≡ whole b → o.book ≡ b
   book-is b w = one (sym o.laid ∙ w)
@@ -46,50 +44,50 @@ module _ {bs : List ℕ} {c : Contents} (o : Admitted bs c) where
       one : {a b : Book} → whole a ≡ whole b → a ≡ b
       one e = cc
 
-  module _ {r : ℕ} (found : (b : Book) → layout bs ≡ whole b → FoundAs b r) where
-    pub labels-pass : c.nodes ≤ r → (b : Book) → layout bs ≡ whole b → Passed ≡ labels_verdict b
-    labels-pass h b w =
-        let few : count (trees b) ≤ r = subst (λ (d : Book). count (trees d) ≤ r) (book-is b w) (omega (arith, nodes-are)) in
-        sym ((labels-say b).1 (apart-labels b.names (trees b) ((found b w).none few)))
+  pub labels-pass : NoRepeat (read bs) → (b : Book) → layout bs ≡ whole b → passes ≡ labels_verdict b
+  labels-pass none b w = sym ((labels-say b).1 (apart-labels b.names (trees b) (subst NoRepeat (read-is bs b w) none)))
 
-    module _ (h : r < c.nodes) where
-      few : r < count (trees o.book)
-      few = omega (arith, nodes-are)
+  module _ {r : ℕ} (first : FirstRepeat (read bs) r) where
+    found : FirstRepeat o.book r
+    found = subst (λ (b : Book). FirstRepeat b r) (read-is bs o.book o.laid) first
 
-      pub repeat-within : Within (nodes_part bs) (r + 1)
-      repeat-within = let t = (trees-whole bs o.laid).within in record { held = omega (arith, t.held, few); few = t.few }
+    few : r < count (trees o.book)
+    few = found.inside
 
-      pub repeat-fits : RowFits (length o.book.names) (row_at (nodes_part bs) r)
-      repeat-fits = (node-stored bs o.laid r few).row
+    pub repeat-within : Within (nodes_part bs) (r + 1)
+    repeat-within = let t = (trees-whole bs o.laid).within in record { held = omega (arith, t.held, few); few = t.few }
 
-      -- the label is that of the row
-      label-is : (l : Labelled) → RepeatAt o.book.names (trees o.book) r l → l ≡ (node_of (row_at (nodes_part bs) r)).label
-      label-is l x =
-          let n = subst (RowStands (nodes_part bs) r r) (trees-are bs o.laid) (node-at (trees-whole bs o.laid) r few) in
-          x.label ∙ ap (λ (m : Node). m.label) (node-only (repeat-node o.book.names x) n).0
+    pub repeat-fits : RowFits (length o.book.names) (row_at (nodes_part bs) r)
+    repeat-fits = (node-stored bs o.laid r few).row
 
-      refused : labels_verdict o.book ≡ Refused (Repeated (spelling (node_of (row_at (nodes_part bs) r)).label))
-      refused =
-          let (l, first) = (found o.book o.laid).found few in
-          first-refused o.book (record { j = r; l = l; first = first; named = ap spelling (sym (label-is l first.is)) })
+    -- the label is that of the row
+    label-is : (l : Labelled) → RepeatAt o.book.names (trees o.book) r l → l ≡ (node_of (row_at (nodes_part bs) r)).label
+    label-is l x =
+        let n = subst (RowStands (nodes_part bs) r r) (trees-are bs o.laid) (node-at (trees-whole bs o.laid) r few) in
+        x.label ∙ ap (λ (m : Node). m.label) (node-only (repeat-node o.book.names x) n).0
 
-      module _ (n : read.Node) (row : as_row n ≡ row_at (nodes_part bs) r) where
-        at-label : (node_of (row_at (nodes_part bs) r)).label ≡ label_of n.label_kind n.label
-        unfolding node_of
-        at-label = ap (λ (q : Row). label_of q.lkind q.label) (sym row)
+    refused : labels_verdict o.book ≡ Err (Repeated (spelling (node_of (row_at (nodes_part bs) r)).label))
+    refused =
+        let (l, first) = found.found in
+        first-refused o.book (record { j = r; l = l; first = first; named = ap spelling (sym (label-is l first.is)) })
 
-        name-few : n.label_kind ≡ 2 → n.label < length o.book.names
-        name-few k = subst (λ (q : Row). q.lkind ≡ 2 → q.label < length o.book.names) (sym row) repeat-fits.label k
+    module _ (n : stored.Node) (row : as_row n ≡ row_at (nodes_part bs) r) where
+      at-label : (node_of (row_at (nodes_part bs) r)).label ≡ label_of n.label_kind n.label
+      unfolding node_of
+      at-label = ap (λ (q : Row). label_of q.lkind q.label) (sym row)
 
-        pub spelling-fits : n.label_kind ≡ 2 → n.label < 1024
-        spelling-fits k = omega (arith, name-few k, names-are o, names-few o)
+      name-few : n.label_kind ≡ 2 → n.label < length o.book.names
+      name-few k = subst (λ (q : Row). q.lkind ≡ 2 → q.label < length o.book.names) (sym row) repeat-fits.label k
 
-        pub spelled-refused : n.label_kind ≡ 2 → (b : Book) → layout bs ≡ whole b → Refused (Repeated n.label) ≡ labels_verdict b
-        spelled-refused k b w =
-            subst (λ (d : Book). Refused (Repeated n.label) ≡ labels_verdict d) (book-is b w)
-            (sym (refused ∙ ap (λ (s : ℕ). Refused (Repeated s)) (ap spelling (at-label ∙ ap (λ (x : ℕ). label_of x n.label) k) ∙ spelled n.label)))
+      pub spelling-fits : n.label_kind ≡ 2 → n.label < 1024
+      spelling-fits k = omega (arith, name-few k, names-are o, names-few o)
 
-        pub unspelled-refused : (n.label_kind ≡ 2 → ⊥) → (b : Book) → layout bs ≡ whole b → Refused (Repeated 65535) ≡ labels_verdict b
-        unspelled-refused k b w =
-            subst (λ (d : Book). Refused (Repeated 65535) ≡ labels_verdict d) (book-is b w)
-            (sym (refused ∙ ap (λ (s : ℕ). Refused (Repeated s)) (ap spelling at-label ∙ unspelled n.label_kind n.label k)))
+      pub spelled-refused : n.label_kind ≡ 2 → (b : Book) → layout bs ≡ whole b → Err (Repeated n.label) ≡ labels_verdict b
+      spelled-refused k b w =
+          subst (λ (d : Book). Err (Repeated n.label) ≡ labels_verdict d) (book-is b w)
+          (sym (refused ∙ ap (λ (s : ℕ). Err (Repeated s)) (ap spelling (at-label ∙ ap (λ (x : ℕ). label_of x n.label) k) ∙ spelled n.label)))
+
+      pub unspelled-refused : (n.label_kind ≡ 2 → ⊥) → (b : Book) → layout bs ≡ whole b → Err (Repeated 65535) ≡ labels_verdict b
+      unspelled-refused k b w =
+          subst (λ (d : Book). Err (Repeated 65535) ≡ labels_verdict d) (book-is b w)
+          (sym (refused ∙ ap (λ (s : ℕ). Err (Repeated s)) (ap spelling at-label ∙ unspelled n.label_kind n.label k)))

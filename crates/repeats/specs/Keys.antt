@@ -1,5 +1,5 @@
 -- What siblings are compared by, and which nodes have siblings to compare below them. Definitions; assumes nothing.
-use Rattle.std.specs.Prelude.{Bool, true, false, ◌&&◌, ◌||◌, not, List, ℕ, zero, suc, ◌+◌, ltb, eqb, replicate}
+use Rattle.std.specs.Prelude.{Bool, true, false, ◌&&◌, ◌||◌, not, List, ℕ, zero, suc, ◌+◌, ltb, eqb}
 use Rattle.format.specs.Node.{Labelled, label_value}
 use Rattle.format.specs.Encode.{Row}
 use Rattle.format.specs.Layout.{row_at}
@@ -25,7 +25,3 @@ is_parent r = ltb 2 r.size && labels_below r.kind
 unfoldable pub child_at : List ℕ → ℕ → ℕ → ℕ
 child_at ns i zero = i
 child_at ns i (suc d) = child_at ns (i + (row_at ns i).size) d
-
--- Room for the keys of all nodes.
-unfoldable pub no_keys : List ℕ
-no_keys = replicate 4096 0

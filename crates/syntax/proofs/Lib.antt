@@ -1,4 +1,3 @@
 -- Laws that the proofs of the functions cite.
 pub mod Book
-pub mod Lists
 pub mod Stored

@@ -2,7 +2,7 @@
 --     methods_in                         methods of services
 --     interface_tree, InterfaceNodes     the tree that the actor is, and its nodes
 --     ActorAs, InterfaceAs              what it offers, before and after 10
-use Rattle.std.specs.Prelude.{◌≡◌, true, false, cond, List, [], ◌∷◌, ℕ, ◌≤◌, ◌<◌, length, get_or, take, replicate}
+use Rattle.std.specs.Prelude.{◌≡◌, true, false, cond, List, [], ◌∷◌, ℕ, ◌≤◌, ◌<◌, length, All}
 use Rattle.format.specs.Forest.{Forest, end, beside}
 use Rattle.format.specs.Node.{Node}
 use Rattle.format.specs.Book.{Definition}
@@ -25,25 +25,21 @@ unfoldable pub methods_in : List ℕ → List ℕ → Forest Node
 methods_in ns [] = end
 methods_in ns (s ∷ ss) = beside (kids_of (tree_at ns s)) (methods_in ns ss)
 
-unfoldable pub no_services : List ℕ
-no_services = replicate 16 0
-
 -- ---- The actor
 
 -- The tree that the actor is; `end` where there is none.
 unfoldable pub interface_tree : List ℕ → Interface → Forest Node
-interface_tree ns i = cond i.merged (merged_of (actor_at ns i.root) (methods_in ns (take i.count i.services))) (actor_at ns i.root)
+interface_tree ns i = cond i.merged (merged_of (actor_at ns i.root) (methods_in ns i.services)) (actor_at ns i.root)
 
 -- Its nodes.
 pub record InterfaceNodes (ns : List ℕ) (count : ℕ) (i : Interface) : Type 0 where
-  pub few : i.count ≤ 16
-  pub held : length i.services ≡ 16
+  pub few : length i.services ≤ 16
   pub root : (i.root ≡ 65535 → ⊥) → i.root < count
-  pub service : (k : ℕ) → k < i.count → IsService ns count (get_or i.services k 0)
+  pub service : All (IsService ns count) i.services
 
 -- None.
 abbrev pub no_interface : Interface
-no_interface = record { merged = false; root = 65535; from = 0; until = 0; count = 0; services = no_services }
+no_interface = record { merged = false; root = 65535; from = 0; until = 0; services = [] }
 
 -- ---- What it offers
 
@@ -53,14 +49,13 @@ pub record ActorAs (ns : List ℕ) (count : ℕ) (ds : List Definition) (t : For
   pub tree : interface_tree ns r ≡ t
   pub nodes : InterfaceNodes ns count r
   pub arguments : ArgumentsAs ns count t r.from r.until
-  pub methods : as_service ds (below_class t) ≡ true → methods_in ns (take r.count r.services) ≡ methods_at (alias_end ds (below_class t))
-  pub served : r.merged ≡ false → (r.root ≡ 65535 → ⊥) → r.count ≡ cond (as_service ds (below_class t)) 1 0
+  pub methods : as_service ds (below_class t) ≡ true → methods_in ns r.services ≡ methods_at (alias_end ds (below_class t))
+  pub served : r.merged ≡ false → (r.root ≡ 65535 → ⊥) → length r.services ≡ cond (as_service ds (below_class t)) 1 0
 
 -- What an actor offers that is the tree t, which is a service below its top.
 pub record InterfaceAs (ns : List ℕ) (count : ℕ) (ds : List Definition) (t : Forest Node) (r : Interface) : Type 0 where
   pub arguments : ArgumentsAs ns count t r.from r.until
-  pub few : r.count ≤ 16
-  pub held : length r.services ≡ 16
-  pub service : (k : ℕ) → k < r.count → IsService ns count (get_or r.services k 0)
-  pub methods : methods_in ns (take r.count r.services) ≡ methods_at (alias_end ds (below_class t))
+  pub few : length r.services ≤ 16
+  pub service : All (IsService ns count) r.services
+  pub methods : methods_in ns r.services ≡ methods_at (alias_end ds (below_class t))
   pub serves : as_service ds (below_class t) ≡ true

@@ -1,6 +1,9 @@
 -- What the contracts of this crate cite. The definitions of imports and of the resolved actor are those of the crate `judgement`.
+pub mod Verdicts
+pub mod ByFile
 pub mod Files
 pub mod Classes
 pub mod Interfaces
 pub mod Resolving
+pub mod Buckets
 pub mod Hashed

@@ -6,6 +6,7 @@ ghost use Rattle.syntax.specs.Classes.{LastAs, TopAs};
 
 use book::kinds::Kind;
 use book::read::{Entry, Node};
+use book::walks::Siblings;
 
 // The arguments of an actor that is a class are the trees from `from` up to `until`; what stands below a class's top is its last child, and
 // another type itself.
@@ -21,13 +22,9 @@ fn last_child(rows: &[u8], from: usize, until: usize) -> usize
     requires { Whole rows.now from until × (from < until) }
     ensures { LastAs rows.now from until result }
 {
-    let first = Node::at(rows, from);
     let mut last = from;
-    let mut next = from + first.size;
-    while next < until {
-        let t = Node::at(rows, next);
-        last = next;
-        next += t.size;
+    for (n, _) in Siblings::new(rows, from, until) {
+        last = n;
     }
     last
 }
@@ -46,7 +43,7 @@ pub fn top_of(rows: &[u8], root: u16) -> Top
     }
     let n = root as usize;
     let t = Node::at(rows, n);
-    if t.kind != Kind::CLASS {
+    if t.kind != Kind::Class as u8 {
         return Top {
             from: 0,
             until: 0,

@@ -1,53 +1,41 @@
 // What the actor of a book offers: the arguments of its class, and its methods.
 ghost use Rattle.std.specs.Prelude.{◌≡◌, ◌||◌, not, eqb};
-ghost use Rattle.syntax.specs.Interfaces.{no_services, no_interface};
 
+use crate::by_file::ByFile;
 use book::read::Entry;
-use format::Limits;
 
-// The actor that a book means: main's root as written, or NO_ROOT; where `merged`, the methods are those of several files' services. The
-// arguments of main's class are the trees from `from` up to `until`, the methods those of the first `count` services. An actor as written
-// that is no service has none.
+// The actor that a book means: main's root as its entry has it, NO_ROOT for none; where `merged`, the methods are those of several files' services. The
+// arguments of main's class are the trees from `from` up to `until`, the methods those of the services. An actor as written that is no
+// service has none.
 #[derive(Clone, Copy)]
 pub struct Interface {
     pub merged: bool,
     pub root: u16,
     pub from: usize,
     pub until: usize,
-    pub count: usize,
     pub services: ByFile,
 }
 
-// Whether there is an actor.
-pub fn has_actor(interface: Interface) -> bool
-    ensures { result ≡ (interface.merged || not (eqb interface.root 65535)) }
-{
-    if interface.merged {
-        return true;
+impl Interface {
+    ghost use Rattle.syntax.specs.Interfaces.{no_interface};
+
+    // No actor.
+    pub fn none() -> Interface
+        ensures { result ≡ no_interface }
+    {
+        Interface {
+            merged: false,
+            root: Entry::NO_ROOT,
+            from: 0,
+            until: 0,
+            services: ByFile::new(),
+        }
     }
-    interface.root != Entry::NO_ROOT
-}
 
-// A number for each file.
-pub type ByFile = [u16; Limits::FILES];
-
-// None of a service.
-pub(crate) fn no_services() -> ByFile
-    ensures { result ≡ no_services }
-{
-    [0; Limits::FILES]
-}
-
-// No actor.
-pub fn no_interface() -> Interface
-    ensures { result ≡ no_interface }
-{
-    Interface {
-        merged: false,
-        root: Entry::NO_ROOT,
-        from: 0,
-        until: 0,
-        count: 0,
-        services: no_services(),
+    // Whether there is an actor.
+    pub fn has_actor(self) -> bool
+        ensures { result ≡ (self.merged || not (eqb self.root 65535)) }
+    {
+        self.merged || self.root != Entry::NO_ROOT
     }
 }

@@ -3,6 +3,7 @@
 #![tactic(auto)]
 
 pub mod actor;
+pub mod by_file;
 pub mod class;
 pub mod files;
 mod hashes;

@@ -9,7 +9,8 @@ use borrow.Author.Tests.{ne_eqb, lt-ltb, le-ltb}
 use Rattle.format.specs.Node.{FuncMode}
 use Rattle.format.specs.Layout.{mode_of, modes_of}
 use Rattle.refusals.specs.declared.Refusal as refusal
-use Rattle.refusals.specs.declared.Verdict.TheVariants.{Passed, Refused}
+use Rattle.std.specs.Prelude.{Err}
+use Rattle.refusals.specs.Verdict.{passes}
 use Rattle.judgement.specs.Check.{is_oneway, modes_verdict}
 use Rattle.typing.specs.Walk.{value_verdict}
 
@@ -39,15 +40,15 @@ other-digit d h a b = go (ℕ_discrete d 2)
     go (no n) = let e : d ≡ 3 = omega arith in rw e
 
 module _ (value kids : ℕ) where
-  pub no-mode : value / 65536 % 4 ≡ 0 → Passed ≡ value_verdict value kids
+  pub no-mode : value / 65536 % 4 ≡ 0 → passes ≡ value_verdict value kids
   unfolding value_verdict modes_verdict
   no-mode h = rw (modes-zero (value / 65536) h)
 
-  pub many-modes : (value / 65536 % 4 ≡ 0 → ⊥) → (value / 65536 / 4 % 4 ≡ 0 → ⊥) → Refused refusal.Refusal.Modes ≡ value_verdict value kids
+  pub many-modes : (value / 65536 % 4 ≡ 0 → ⊥) → (value / 65536 / 4 % 4 ≡ 0 → ⊥) → Err refusal.Refusal.Modes ≡ value_verdict value kids
   unfolding value_verdict modes_verdict
   many-modes h z = rw (modes-more (value / 65536) h z).1
 
-  pub other-mode : (value / 65536 % 4 ≡ 0 → ⊥) → value / 65536 / 4 % 4 ≡ 0 → (value / 65536 % 4 ≡ 1 → ⊥) → Passed ≡ value_verdict value kids
+  pub other-mode : (value / 65536 % 4 ≡ 0 → ⊥) → value / 65536 / 4 % 4 ≡ 0 → (value / 65536 % 4 ≡ 1 → ⊥) → passes ≡ value_verdict value kids
   unfolding value_verdict modes_verdict
   other-mode h z o = rw (modes-one (value / 65536) h z, other-digit (value / 65536 % 4) (omega arith) h o)
 
@@ -55,10 +56,10 @@ module _ (value kids : ℕ) where
     one : (value / 65536 % 4 ≡ 0 → ⊥)
     one e = let f : ⊥ = omega arith in f
 
-    pub oneway-results : value % 65536 < kids → Refused refusal.Refusal.Oneway ≡ value_verdict value kids
+    pub oneway-results : value % 65536 < kids → Err refusal.Refusal.Oneway ≡ value_verdict value kids
     unfolding value_verdict modes_verdict
     oneway-results h = rw (modes-one (value / 65536) one z, oneway-digit (value / 65536 % 4) o, lt-ltb _ _ h)
 
-    pub oneway-none : kids ≤ value % 65536 → Passed ≡ value_verdict value kids
+    pub oneway-none : kids ≤ value % 65536 → passes ≡ value_verdict value kids
     unfolding value_verdict modes_verdict
     oneway-none h = rw (modes-one (value / 65536) one z, oneway-digit (value / 65536 % 4) o, le-ltb _ _ h)

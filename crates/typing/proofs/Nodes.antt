@@ -1,59 +1,69 @@
 -- A type by its row: what stands below it, and its verdict by its kind. Assumes nothing.
---     RowRead, row-name, row-kids, ..     a tree of the book whose row is read
---     at-prim, at-var, at-func, ..        the verdict
-use mathlib.Core.Path.{◌≡◌, refl, sym, ap, ◌∙◌}
-use mathlib.Core.Bool.{Bool, false, not, ◌&&◌, and-true, and-false}
+--     kids-in                               the trees below a node of the book
+--     at-prim, at-var, at-class, kids-..    the verdict
+use mathlib.Core.Path.{◌≡◌, refl, sym, ap, subst, ◌∙◌}
+use mathlib.Core.Bool.{Bool, true, not, ◌&&◌, and-true}
 use mathlib.Core.List.{List, [], ◌∷◌}
-use Prim.Native.Nat.{ℕ, zero, suc, ◌+◌, ◌-◌, ◌*◌, ◌/◌, ◌%◌, ◌≤◌, ◌<◌}
+use Prim.Native.Nat.{ℕ, zero, suc, ◌+◌, ◌/◌, ◌%◌, ◌≤◌, ◌<◌}
 use native.Mathlib.Decide.{ℕ_discrete}
 use native.Mathlib.Omega.{arith}
 use borrow.Author.Tests.{ne_eqb}
-use lib.Dec.{eqb}
+use lib.Dec.{T, eqb}
 use lib.ListN.{length, get_or, get_or-append}
+use Rattle.std.specs.Prelude.{Ok, Err}
+use Rattle.format.specs.declared.Place.{Place}
+use Rattle.format.specs.declared.Place.TheVariants.{Method}
 use Rattle.format.specs.Forest.{Forest, breadth}
 use Rattle.format.specs.Node.{PrimType, Kind, PrimT, VarT, OptT, VecT, RecordT, VariantT, FuncT, ServT, ClassT, InitT, Node}
 use Rattle.format.specs.Book.{Definition}
 use Rattle.format.specs.Encode.{Row}
+use Rattle.format.specs.Fits.{place_below, forest_fits}
 use Rattle.format.specs.Layout.{row_at, siblings, modes_of, kinds, kind_of, node_of}
-use Rattle.refusals.specs.declared.Refusal as refusal
-use Rattle.refusals.specs.declared.Verdict.TheVariants.{Passed, Refused}
-use Rattle.refusals.specs.Verdict.{unless}
+use Rattle.format.proofs.Rows.{kids-whole}
+use Rattle.format.proofs.Stored.{tree-whole}
+use Rattle.refusals.specs.declared.Refusal.{Refusal}
+use Rattle.refusals.specs.declared.Refusal.TheVariants.{Unbound, Class}
+use Rattle.refusals.specs.Verdict.{Verdict, passes, and_then, unless}
+use Rattle.refusals.specs.Handed.{Answer}
 use Rattle.judgement.specs.Environment.{is_serv_kind}
 use Rattle.judgement.specs.Check.{name_verdict, kind_verdict, check_forest}
 use Rattle.environment.specs.Tables.{found_at, Binds}
-use Rattle.environment.specs.Trees.{Trees, Methods}
-use Rattle.environment.proofs.Trees.{kids-trees, row-fits, kids-methods}
-use Rattle.typing.specs.Walk.{bound_verdict, value_verdict, type_verdict, func_verdict}
+use Rattle.environment.specs.Trees.{Trees}
+use Rattle.environment.proofs.FuncEnds.{serv-kind}
+use Rattle.environment.proofs.Trees.{fit-parts, node-fits}
+use Rattle.typing.specs.declared.types.Walk.{Walk}
+use Rattle.typing.specs.Walk.{bound_verdict, value_verdict, type_verdict}
+use Rattle.typing.specs.Types.{ends_of, TreesIn, so_many}
+use Rattle.typing.proofs.Walk.{table-ended, many-stops, many-pass}
 
--- ---- a tree of the book whose row is read
-pub record RowRead (ns roots ends' : List ℕ) (n : ℕ) (r : Row) : Type 0 where
-  pub tree : Trees ns roots ends' n (n + (row_at ns n).size)
-  pub some : n < n + (row_at ns n).size
-  pub is : r ≡ row_at ns n
+-- ---- a node of the book
+below-service : (r : Row) → r.kind ≡ 24 → place_below (node_of r).kind ≡ Method
+unfolding place_below node_of kind_of kinds
+below-service r k = rw k
 
-module _ {ns roots ends' : List ℕ} {n : ℕ} {r : Row} (x : RowRead ns roots ends' n r) where
-  pub row-kind : r.kind < 27
-  row-kind = rw x.is (row-fits x.tree x.some).kind
+module _ {w : Walk} {n : ℕ} (h : n < w.nodes) where
+  -- what stands below it
+  pub kids-in : (methods : Bool) → (methods ≡ true → (row_at w.rows.now n).kind ≡ 24) → TreesIn w methods (n + 1) (n + (row_at w.rows.now n).size)
+  kids-in methods k =
+      record {
+        whole = kids-whole (w.trees.nodes.tree n h).whole;
+        inside = (w.trees.nodes.tree n h).ends;
+        methods_are = λ m.
+            let f = node-fits w.trees w.bound (table-ended w.nodes w.ends w.ended) h in
+            let t : Trees w.rows.now w.roots.now (ends_of w.ends) n (n + (row_at w.rows.now n).size) = record {
+              count = w.nodes;
+              place = f.0;
+              walk = record { names = w.names; nodes = w.trees.nodes; bound = w.bound; ended = table-ended w.nodes w.ends w.ended };
+              whole = tree-whole (w.trees.nodes.tree n h).whole;
+              inside = (w.trees.nodes.tree n h).ends;
+              fits = f.1;
+            } in
+            let some : n < n + (row_at w.rows.now n).size = omega (arith, (w.trees.nodes.tree n h).whole.one) in
+            subst (λ (p : Place). T (forest_fits w.names p (siblings w.rows.now (n + 1) (n + (row_at w.rows.now n).size)))) (below-service (row_at w.rows.now n) (k m)) (fit-parts t some).0.1;
+      }
 
-  pub row-name : r.kind ≡ 18 → (length roots ≡ 1024) × (r.value < 1024)
-  row-name k =
-      let v = (row-fits x.tree x.some).name (sym (ap (λ (q : Row). q.kind) x.is) ∙ k) in
-      (x.tree.walk.bound.long, omega (arith, v, x.tree.walk.nodes.few_names, ap (λ (q : Row). q.value) x.is))
-
-  pub row-few : (n + 1 ≤ 4096) × (n + r.size ≤ 4096)
-  row-few =
-      let inside = x.tree.inside in
-      let few = x.tree.walk.nodes.few_nodes in
-      (omega (arith, x.some, inside, few), omega (arith, inside, few, ap (λ (q : Row). q.size) x.is))
-
-  pub row-kids : Trees ns roots ends' (n + 1) (n + r.size)
-  row-kids = rw x.is (kids-trees x.tree x.some)
-
-  pub row-methods : r.kind ≡ 24 → Methods ns roots ends' (n + 1) (n + r.size)
-  row-methods k = rw x.is (kids-methods x.tree x.some (sym (ap (λ (q : Row). q.kind) x.is) ∙ k))
-
-  pub row-weight : (t : ℕ) → 2 * (row_at ns n).size ≡ t → 2 * (n + r.size - (n + 1)) + 1 < t
-  row-weight t e = omega (arith, e, x.some, ap (λ (q : Row). q.size) x.is)
+pub kind-few : (w : Walk) {n : ℕ} → n < w.nodes → {r : Row} → r ≡ row_at w.rows.now n → r.kind < 27
+kind-few w h is = rw is (w.trees.nodes.row _ h).kind
 
 -- ---- kinds 0 to 17
 abbrev prims : List Kind
@@ -86,11 +96,11 @@ kind-prim k v h =
     (q.0, get_or-append prims (VarT v ∷ OptT ∷ VecT ∷ RecordT ∷ VariantT ∷ FuncT (v % 65536) (modes_of 8 (v / 65536)) ∷ ServT ∷ ClassT ∷ []) InitT k h ∙ q.1)
 
 -- ---- a name by its root
-bound-as : (ns : List ℕ) (n root : ℕ) → unless (not (eqb root 65535)) (refusal.Refusal.Unbound n) ≡ name_verdict n (found_at ns root)
+bound-as : (ns : List ℕ) (n root : ℕ) → unless (not (eqb root 65535)) (Unbound n) ≡ name_verdict n (found_at ns root)
 unfolding name_verdict found_at
 bound-as ns n root = go (ℕ_discrete root 65535)
   where
-    go : Dec (root ≡ 65535) → unless (not (eqb root 65535)) (refusal.Refusal.Unbound n) ≡ name_verdict n (found_at ns root)
+    go : Dec (root ≡ 65535) → unless (not (eqb root 65535)) (Unbound n) ≡ name_verdict n (found_at ns root)
     go (yes e) = rw e
     go (no h) = rw (ne_eqb root 65535 h)
 
@@ -101,24 +111,25 @@ past k m h n = omega arith
 only : (k m : ℕ) → m ≤ k → k < m + 1 → k ≡ m
 only k m h n = omega arith
 
-other-kind : (k : ℕ) → k < 27 → 18 ≤ k → (k ≡ 18 → ⊥) → (k ≡ 23 → ⊥) → (k ≡ 24 → ⊥) → (k ≡ 25 → ⊥) →
-    (P : ℕ → Type 0) → P 19 → P 20 → P 21 → P 22 → P 26 → P k
-other-kind k a b c d e f P p q r s t = go (ℕ_discrete k 19) (ℕ_discrete k 20) (ℕ_discrete k 21) (ℕ_discrete k 22)
+other-kind : (k : ℕ) → k < 27 → 18 ≤ k → (k ≡ 18 → ⊥) → (k ≡ 25 → ⊥) → (k ≡ 23 → ⊥) →
+    (P : ℕ → Type 0) → P 19 → P 20 → P 21 → P 22 → P 24 → P 26 → P k
+other-kind k a b c f d P p q r s u t = go (ℕ_discrete k 19) (ℕ_discrete k 20) (ℕ_discrete k 21) (ℕ_discrete k 22) (ℕ_discrete k 24)
   where
-    go : Dec (k ≡ 19) → Dec (k ≡ 20) → Dec (k ≡ 21) → Dec (k ≡ 22) → P k
-    go (yes x) y z w = rw x p
-    go (no x) (yes y) z w = rw y q
-    go (no x) (no y) (yes z) w = rw z r
-    go (no x) (no y) (no z) (yes w) = rw w s
-    go (no x) (no y) (no z) (no w) =
-        rw (only k 26 (past k 25 (past k 24 (past k 23 (past k 22 (past k 21 (past k 20 (past k 19 (past k 18 b c) x) y) z) w) d) e) f) a) t
+    go : Dec (k ≡ 19) → Dec (k ≡ 20) → Dec (k ≡ 21) → Dec (k ≡ 22) → Dec (k ≡ 24) → P k
+    go (yes x) y z w v = rw x p
+    go (no x) (yes y) z w v = rw y q
+    go (no x) (no y) (yes z) w v = rw z r
+    go (no x) (no y) (no z) (yes w) v = rw w s
+    go (no x) (no y) (no z) (no w) (yes v) = rw v u
+    go (no x) (no y) (no z) (no w) (no v) =
+        rw (only k 26 (past k 25 (past k 24 (past k 23 (past k 22 (past k 21 (past k 20 (past k 19 (past k 18 b c) x) y) z) w) d) v) f) a) t
 
 -- ---- a node by its kind
 module _ (pre : Bool) (ds : List Definition) (ns : List ℕ) (n : ℕ) (r : Row) (is : r ≡ row_at ns n) where
   abbrev kids : Forest Node
   kids = siblings ns (n + 1) (n + r.size)
 
-  pub at-prim : r.kind < 18 → Passed ≡ type_verdict pre ds ns n
+  pub at-prim : r.kind < 18 → passes ≡ type_verdict pre ds ns n
   unfolding type_verdict kind_verdict node_of
   at-prim h = let q = kind-prim r.kind r.value h in rw (← is, q.1)
 
@@ -126,23 +137,42 @@ module _ (pre : Bool) (ds : List Definition) (ns : List ℕ) (n : ℕ) (r : Row)
   unfolding type_verdict kind_verdict node_of kind_of kinds bound_verdict
   at-var roots b k = rw (← is, k, b r.value) (bound-as ns r.value (get_or roots r.value 65535))
 
-  pub at-func : r.kind ≡ 23 → func_verdict pre ds r.value kids ≡ type_verdict pre ds ns n
-  unfolding type_verdict kind_verdict node_of kind_of kinds func_verdict value_verdict is_serv_kind
-  at-func k = rw (← is, k, and-false (not pre))
+  pub at-class : r.kind ≡ 25 → Err Class ≡ type_verdict pre ds ns n
+  unfolding type_verdict kind_verdict node_of kind_of kinds
+  at-class k = rw (← is, k)
+
+  -- the verdict of what stands below the node
+  abbrev below : Verdict
+  below = check_forest pre (not pre && eqb r.kind 24) ds kids
 
   pub at-service : r.kind ≡ 24 → check_forest pre (not pre) ds kids ≡ type_verdict pre ds ns n
   unfolding type_verdict kind_verdict node_of kind_of kinds is_serv_kind
   at-service k = rw (← is, k, and-true (not pre))
 
-  pub at-class : r.kind ≡ 25 → Refused refusal.Refusal.Class ≡ type_verdict pre ds ns n
-  unfolding type_verdict kind_verdict node_of kind_of kinds
-  at-class k = rw (← is, k)
+  at-func : r.kind ≡ 23 → and_then below (value_verdict r.value (breadth kids)) ≡ type_verdict pre ds ns n
+  unfolding type_verdict kind_verdict node_of kind_of kinds value_verdict is_serv_kind
+  at-func k = rw (← is, k)
 
-  pub at-fields : r.kind < 27 → 18 ≤ r.kind → (r.kind ≡ 18 → ⊥) → (r.kind ≡ 23 → ⊥) → (r.kind ≡ 24 → ⊥) → (r.kind ≡ 25 → ⊥) →
-      check_forest pre false ds kids ≡ type_verdict pre ds ns n
-  unfolding type_verdict kind_verdict node_of kind_of kinds is_serv_kind
-  at-fields a b c d e f =
-      rw (← is)
-      (other-kind r.kind a b c d e f
-      (λ (k : ℕ). check_forest pre false ds kids ≡ kind_verdict ds (kind_of k r.value) (breadth kids) (check_forest pre (not pre && is_serv_kind (kind_of k r.value)) ds kids))
-      (rw (and-false (not pre))) (rw (and-false (not pre))) (rw (and-false (not pre))) (rw (and-false (not pre))) (rw (and-false (not pre))))
+  module _ (a : r.kind < 27) (b : 18 ≤ r.kind) (c : r.kind ≡ 18 → ⊥) (f : r.kind ≡ 25 → ⊥) where
+    at-fields : (r.kind ≡ 23 → ⊥) → below ≡ type_verdict pre ds ns n
+    unfolding type_verdict kind_verdict node_of kind_of kinds
+    at-fields d =
+        rw (← is, serv-kind r.kind r.value)
+        (other-kind r.kind a b c f d (λ (k : ℕ). below ≡ kind_verdict ds (kind_of k r.value) (breadth kids) below) refl refl refl refl refl refl)
+
+    module _ {v : Answer} (said : v ≡ so_many below (breadth kids)) where
+      pub kids-stop : {e : Refusal} → v ≡ Err e → Err e ≡ type_verdict pre ds ns n
+      kids-stop {e} q = go (ℕ_discrete r.kind 23)
+        where
+          z : below ≡ Err e
+          z = many-stops below _ (sym said ∙ q)
+
+          go : Dec (r.kind ≡ 23) → Err e ≡ type_verdict pre ds ns n
+          go (yes k) = rw z at (at-func k)
+          go (no k) = sym z ∙ at-fields k
+
+      pub kids-modes : {k : ℕ} → v ≡ Ok k → r.kind ≡ 23 → {m : Verdict} → m ≡ value_verdict r.value k → m ≡ type_verdict pre ds ns n
+      kids-modes q h p = let z = many-pass below _ (sym said ∙ q) in p ∙ ap (value_verdict r.value) (sym z.1) ∙ (rw z.0 at (at-func h))
+
+      pub kids-end : {k : ℕ} → v ≡ Ok k → (r.kind ≡ 23 → ⊥) → passes ≡ type_verdict pre ds ns n
+      kids-end q h = sym (many-pass below _ (sym said ∙ q)).0 ∙ at-fields h

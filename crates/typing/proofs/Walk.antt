@@ -1,153 +1,181 @@
--- The walks over types that stand beside each other: what is left gives the verdict. Assumes nothing.
+-- The walk over trees that stand beside each other: what is left gives the verdict. Assumes nothing.
 use mathlib.Core.Path.{◌≡◌, refl, sym, ap, ◌∙◌}
-use mathlib.Core.Bool.{Bool, true, false, not, ◌||◌}
+use mathlib.Core.Bool.{Bool, true, false, not, ◌||◌, ◌&&◌}
 use mathlib.Core.List.{List}
 use Prim.Native.Nat.{ℕ, suc, ◌+◌, ◌≤◌, ◌<◌}
 use native.Mathlib.Omega.{arith}
-use borrow.Author.Tests.{not-true}
+use Rattle.std.specs.Prelude.{Option, None, Some, IfSome, Ok, Err}
+use Rattle.std.specs.Option.{is_none}
+use denote.Bor.{Bor}
 use Rattle.format.specs.declared.Place.TheVariants.{Method}
-use Rattle.format.specs.Forest.{Forest, end, tree, breadth}
-use Rattle.format.specs.Node.{Node, label_value}
+use Rattle.format.specs.Forest.{breadth}
+use Rattle.format.specs.Node.{label_value}
 use Rattle.format.specs.Book.{Definition}
 use Rattle.format.specs.Layout.{row_at, siblings, node_of}
-use Rattle.format.proofs.Rows.{siblings-none, siblings-opens}
-use Rattle.format.proofs.Stored.{tree-opens}
-use Rattle.refusals.specs.declared.Refusal as refusal
-use Rattle.refusals.specs.declared.Verdict.{Verdict}
-use Rattle.refusals.specs.declared.Verdict.TheVariants.{Passed, Refused}
-use Rattle.refusals.specs.Verdict.{is_passed, and_then}
-use Rattle.judgement.specs.Aliases.{as_func}
+use Rattle.format.specs.Encode.{Row}
+use Rattle.format.proofs.Rows.{Opened, opens, node-within, siblings-none, siblings-opens}
+use Rattle.format.specs.Whole.{WholeAt, tree_at}
+use Rattle.format.proofs.Stored.{tree-whole, tree-opens}
+use Rattle.refusals.specs.declared.Refusal.{Refusal}
+use Rattle.refusals.specs.declared.Refusal.TheVariants.{MethodNoFunction}
+use Rattle.refusals.specs.Verdict.{Verdict, passes, and_then, unless}
+use Rattle.refusals.specs.Handed.{Answer}
+use Rattle.refusals.proofs.Verdicts.{and-passed}
 use Rattle.judgement.specs.Check.{method_verdict, check_forest}
-use Rattle.environment.specs.Tables.{end_is}
-use Rattle.environment.proofs.Trees.{opened, rest-trees, one-at-least, row-within}
-use Rattle.refusals.proofs.Verdicts.{and-on, and-stops}
-use Rattle.environment.specs.Trees.{Trees, Methods}
-use Rattle.typing.specs.Walk.{Env, value_verdict, type_verdict, func_verdict}
+use Rattle.book.specs.declared.read.Node.{Node}
+use Rattle.book.specs.declared.walks.Siblings.{Siblings}
+use Rattle.book.specs.Tables.{zero_table}
+use Rattle.book.specs.Walks.{Over, NextTree, Walks}
+use Rattle.book.proofs.Walking.{last, here, row, at, over-next}
+use Rattle.environment.specs.Tables.{EndNodes, end_is}
+use Rattle.environment.specs.Trees.{Trees}
+use Rattle.environment.proofs.Trees.{rest-trees, method-label, no-ends}
+use Rattle.typing.specs.declared.types.Walk.{Walk}
+use Rattle.typing.specs.Walk.{type_verdict}
+use Rattle.typing.specs.Types.{ends_of, WalkEnv, Under, TreesIn, so_many}
+
+-- ---- so many, or a refusal
+pub many-stops : (v : Verdict) (n : ℕ) {e : Refusal} → so_many v n ≡ Err e → v ≡ Err e
+many-stops (Ok tt) n q = cc
+many-stops (Err r) n q = cc
+
+pub many-pass : (v : Verdict) (n : ℕ) {k : ℕ} → so_many v n ≡ Ok k → (v ≡ passes) × (n ≡ k)
+many-pass (Ok tt) n q = (refl, cc)
+many-pass (Err r) n q = cc
 
 -- ---- the verdict of trees, where there are none and where there is one
 module _ (pre tested : Bool) (ds : List Definition) where
-  pub check-none : (ns : List ℕ) (i until : ℕ) → until ≤ i → check_forest pre tested ds (siblings ns i until) ≡ Passed
+  pub check-none : (ns : List ℕ) (i until : ℕ) → until ≤ i → check_forest pre tested ds (siblings ns i until) ≡ passes
   unfolding check_forest
   check-none ns i until h = rw (siblings-none ns i until h)
 
-  pub check-opens : {ns roots ends' : List ℕ} {i until : ℕ} (t : Trees ns roots ends' i until) (h : i < until) →
+  pub check-opens : {ns : List ℕ} {i until : ℕ} → Opened ns i until →
       check_forest pre tested ds (siblings ns i until)
       ≡ and_then (and_then (type_verdict pre ds ns i) (method_verdict tested ds (node_of (row_at ns i)) (siblings ns (i + 1) (i + (row_at ns i).size))))
       (check_forest pre tested ds (siblings ns (i + (row_at ns i).size) until))
   unfolding check_forest type_verdict
-  check-opens t h = ap (check_forest pre tested ds) (siblings-opens (opened t h))
+  check-opens o = ap (check_forest pre tested ds) (siblings-opens o)
 
--- ---- a walk that is at node i: what is left gives the verdict
-pub record WalkLeft (pre tested : Bool) (ns roots ends' : List ℕ) (from until i : ℕ) : Type 0 where
-  pub trees : Trees ns roots ends' i until
-  pub later : from ≤ i
-  pub same : (ds : List Definition) → Env ns roots ends' pre ds → check_forest pre tested ds (siblings ns i until) ≡ check_forest pre tested ds (siblings ns from until)
-
-pub walk-start : (pre tested : Bool) {ns roots ends' : List ℕ} {from until : ℕ} → Trees ns roots ends' from until → WalkLeft pre tested ns roots ends' from until from
-walk-start pre tested t = record { trees = t; later = omega arith; same = λ ds e. refl }
-
-module _ {pre tested : Bool} {ns roots ends' : List ℕ} {from until i : ℕ} (l : WalkLeft pre tested ns roots ends' from until i) where
-  pub walk-end : until ≤ i → (ds : List Definition) → Env ns roots ends' pre ds → Passed ≡ check_forest pre tested ds (siblings ns from until)
-  walk-end h ds e = sym (check-none pre tested ds ns i until h) ∙ l.same ds e
-
-  module _ (h : i < until) (v : Verdict) (is : (ds : List Definition) → Env ns roots ends' pre ds → v ≡ type_verdict pre ds ns i) where
-    pub walk-stop : is_passed v ≡ false → (ds : List Definition) → Env ns roots ends' pre ds → v ≡ check_forest pre tested ds (siblings ns from until)
-    walk-stop f ds e =
-        sym (check-opens pre tested ds l.trees h ∙ rw (← is ds e) (rw (and-stops v _ f) (and-stops v _ f))) ∙ l.same ds e
-
-    module _ (p : is_passed v ≡ true) where
-      pub walk-method : (m : Verdict) → is_passed m ≡ false →
-          ((ds : List Definition) → Env ns roots ends' pre ds → m ≡ method_verdict tested ds (node_of (row_at ns i)) (siblings ns (i + 1) (i + (row_at ns i).size))) →
-          (ds : List Definition) → Env ns roots ends' pre ds → m ≡ check_forest pre tested ds (siblings ns from until)
-      walk-method m f q ds e =
-          sym (check-opens pre tested ds l.trees h ∙ rw (← is ds e, ← q ds e) (rw (and-on v m p) (and-stops m _ f))) ∙ l.same ds e
-
-      pub walk-on : ((ds : List Definition) → Env ns roots ends' pre ds → method_verdict tested ds (node_of (row_at ns i)) (siblings ns (i + 1) (i + (row_at ns i).size)) ≡ Passed) →
-          WalkLeft pre tested ns roots ends' from until (i + (row_at ns i).size)
-      walk-on q =
-          record {
-            trees = rest-trees l.trees h;
-            later = omega (arith, l.later);
-            same = λ ds e. sym (check-opens pre tested ds l.trees h ∙ rw (← is ds e, q ds e) (rw (and-on v Passed p) refl)) ∙ l.same ds e;
-          }
-
--- ---- trees that are not methods are not tested
-pub untested : (ds : List Definition) (n : Node) (kids : Forest Node) → method_verdict false ds n kids ≡ Passed
+-- the verdict of one tree is that of its root
+pub tree-verdict : (pre : Bool) (ds : List Definition) {ns : List ℕ} {n : ℕ} → WholeAt ns n → type_verdict pre ds ns n ≡ check_forest pre false ds (tree_at ns n)
 unfolding method_verdict
-untested ds n kids = refl
+tree-verdict pre ds {ns} {n} w =
+    sym
+    (check-opens pre false ds (opens (tree-whole w) (omega (arith, w.one)))
+    ∙ rw (check-none pre false ds ns (n + (row_at ns n).size) (n + (row_at ns n).size) (omega arith))
+    (and-passed (and_then (type_verdict pre ds ns n) passes) ∙ and-passed (type_verdict pre ds ns n)))
 
--- ---- methods
-module _ (pre : Bool) {ns roots ends' : List ℕ} {i until : ℕ} (t : Trees ns roots ends' i until) (h : i < until) where
-  abbrev method : List Definition → Verdict
-  method ds = method_verdict (not pre) ds (node_of (row_at ns i)) (siblings ns (i + 1) (i + (row_at ns i).size))
-
-  -- methods are tested only where the table of alias ends is asked for
-  pub tested-as : (tested : Bool) → (tested ≡ true → pre ≡ false) → (ds : List Definition) → Env ns roots ends' pre ds →
-      (not tested || end_is 23 ns ends' i) ≡ (not tested || as_func ds (tree (node_of (row_at ns i)) (siblings ns (i + 1) (i + (row_at ns i).size)) end))
-  tested-as true z ds e = e.func (z refl) i (row-within t h) ∙ ap (as_func ds) (tree-opens (opened t h).here)
-  tested-as false z ds e = refl
-
-  pub method-passed : (b : Bool) → b ≡ (not (not pre) || end_is 23 ns ends' i) → b ≡ true → (ds : List Definition) → Env ns roots ends' pre ds → method ds ≡ Passed
-  unfolding method_verdict
-  method-passed b q z ds e = rw (← tested-as (not pre) (not-true pre) ds e, ← q, z)
-
-  pub method-refused : (b : Bool) → b ≡ (not (not pre) || end_is 23 ns ends' i) → b ≡ false → (ds : List Definition) → Env ns roots ends' pre ds →
-      Refused (refusal.Refusal.MethodNoFunction (label_value (node_of (row_at ns i)).label)) ≡ method ds
-  unfolding method_verdict
-  method-refused b q z ds e = rw (← tested-as (not pre) (not-true pre) ds e, ← q, z)
-
--- ---- the loop over methods
-pub record MethodsLeft (pre : Bool) (ns roots ends' : List ℕ) (from until i : ℕ) : Type 0 where
-  pub walk : WalkLeft pre (not pre) ns roots ends' from until i
-  pub place : walk.trees.place ≡ Method
-
-pub methods-start : (pre : Bool) {ns roots ends' : List ℕ} {from until : ℕ} → Methods ns roots ends' from until → MethodsLeft pre ns roots ends' from until from
-unfolding walk-start
-methods-start pre m = record { walk = walk-start pre (not pre) m.trees; place = m.methods }
-
-pub methods-on : {pre : Bool} {ns roots ends' : List ℕ} {from until i : ℕ} (l : MethodsLeft pre ns roots ends' from until i) (h : i < until) (v : Verdict) →
-    ((ds : List Definition) → Env ns roots ends' pre ds → v ≡ type_verdict pre ds ns i) → is_passed v ≡ true →
-    (b : Bool) → b ≡ (not (not pre) || end_is 23 ns ends' i) → b ≡ true → MethodsLeft pre ns roots ends' from until (i + (row_at ns i).size)
-unfolding walk-on rest-trees
-methods-on {pre} l h v is p b q z =
-    record { walk = walk-on l.walk h v is p (method-passed pre l.walk.trees h b q z); place = l.place }
-
--- ---- the loop over a function's arguments and results
 breadth-none : (ns : List ℕ) (i until : ℕ) → until ≤ i → breadth (siblings ns i until) ≡ 0
 unfolding breadth
 breadth-none ns i until h = ap breadth (siblings-none ns i until h)
 
-breadth-opens : {ns roots ends' : List ℕ} {i until : ℕ} (t : Trees ns roots ends' i until) (h : i < until) →
-    breadth (siblings ns i until) ≡ suc (breadth (siblings ns (i + (row_at ns i).size) until))
+breadth-opens : {ns : List ℕ} {i until : ℕ} → Opened ns i until → breadth (siblings ns i until) ≡ suc (breadth (siblings ns (i + (row_at ns i).size) until))
 unfolding breadth
-breadth-opens t h = ap breadth (siblings-opens (opened t h))
+breadth-opens o = ap breadth (siblings-opens o)
 
-pub record FuncLeft (pre : Bool) (ns roots ends' : List ℕ) (from until i kids : ℕ) : Type 0 where
-  pub walk : WalkLeft pre false ns roots ends' from until i
-  pub counted : kids + breadth (siblings ns i until) ≡ breadth (siblings ns from until)
-  pub few : kids ≤ i
+-- ---- trees beside each other, as the crate environment has them
+pub table-ended : (count : ℕ) (o : Option (Bor (List ℕ))) → IfSome o (λ e. EndNodes e.now count) → EndNodes (ends_of o) count
+table-ended count None h = no-ends count zero_table refl
+table-ended count (Some e) h = h
 
-pub func-start : (pre : Bool) {ns roots ends' : List ℕ} {from until : ℕ} → Trees ns roots ends' from until → FuncLeft pre ns roots ends' from until from 0
-func-start pre t = record { walk = walk-start pre false t; counted = omega arith; few = omega arith }
+abbrev methods-of : {w : Walk} {methods : Bool} {i until : ℕ} → TreesIn w methods i until → methods ≡ true → Trees w.rows.now w.roots.now (ends_of w.ends) i until
+methods-of {w} t m =
+    record {
+      count = w.nodes;
+      place = Method;
+      walk = record { names = w.names; nodes = w.trees.nodes; bound = w.bound; ended = table-ended w.nodes w.ends w.ended };
+      whole = t.whole;
+      inside = t.inside;
+      fits = t.methods_are m;
+    }
 
-module _ {pre : Bool} {ns roots ends' : List ℕ} {from until i kids : ℕ} (l : FuncLeft pre ns roots ends' from until i kids) where
-  pub func-end : until ≤ i → (value : ℕ) (v : Verdict) → v ≡ value_verdict value kids → (ds : List Definition) → Env ns roots ends' pre ds → v ≡ func_verdict pre ds value (siblings ns from until)
-  unfolding func_verdict
-  func-end h value v q ds e =
-      let k : kids ≡ breadth (siblings ns from until) = omega (arith, breadth-none ns i until h, l.counted) in
-      q ∙ ap (value_verdict value) k ∙ sym (and-on (check_forest pre false ds (siblings ns from until)) _ (ap is_passed (sym (walk-end l.walk h ds e))))
+module _ {w : Walk} {methods : Bool} {i until : ℕ} (t : TreesIn w methods i until) (h : i < until) where
+  pub first : Opened w.rows.now i until
+  first = opens t.whole h
 
-  module _ (h : i < until) (v : Verdict) (is : (ds : List Definition) → Env ns roots ends' pre ds → v ≡ type_verdict pre ds ns i) where
-    pub func-stop : is_passed v ≡ false → (value : ℕ) (ds : List Definition) → Env ns roots ends' pre ds → v ≡ func_verdict pre ds value (siblings ns from until)
-    unfolding func_verdict
-    func-stop f value ds e =
-        let s = walk-stop l.walk h v is f ds e in
-        s ∙ sym (and-stops (check_forest pre false ds (siblings ns from until)) _ (ap is_passed (sym s) ∙ f))
+  pub rest-in : TreesIn w methods (i + (row_at w.rows.now i).size) until
+  unfolding rest-trees
+  rest-in = record { whole = first.rest; inside = t.inside; methods_are = λ m. (rest-trees (methods-of t m) h).fits }
 
-    pub func-on : is_passed v ≡ true → FuncLeft pre ns roots ends' from until (i + (row_at ns i).size) (kids + 1)
-    func-on p =
-        record {
-          walk = walk-on l.walk h v is p (λ ds e. untested ds _ _);
-          counted = omega (arith, breadth-opens l.walk.trees h, l.counted);
-          few = omega (arith, one-at-least l.walk.trees h, l.few);
-        }
+  -- a method is tested where there is a table of alias ends
+  module _ {fits : Bool} (is : fits ≡ (is_none w.ends || end_is 23 w.rows.now (ends_of w.ends) i)) (ds : List Definition) (e : WalkEnv w ds) where
+    abbrev method : Verdict
+    method = method_verdict (not (is_none w.ends) && methods) ds (node_of (row_at w.rows.now i)) (siblings w.rows.now (i + 1) (i + (row_at w.rows.now i).size))
+
+    method-is : (pre : Bool) → is_none w.ends ≡ pre → (tested : Bool) → methods ≡ tested →
+        method_verdict (not pre && tested) ds (node_of (row_at w.rows.now i)) (siblings w.rows.now (i + 1) (i + (row_at w.rows.now i).size))
+        ≡ unless (not tested || fits) (MethodNoFunction (label_value (node_of (row_at w.rows.now i)).label))
+    unfolding method_verdict
+    method-is true p false m = refl
+    method-is true p true m = rw (is, p) refl
+    method-is false p false m = refl
+    method-is false p true m =
+        rw (is, p, e.func p i (node-within first.here), tree-opens first.here) refl
+
+    pub method-stops : methods ≡ true → fits ≡ false → Err (MethodNoFunction (label_value (node_of (row_at w.rows.now i)).label)) ≡ method
+    method-stops m f = sym (method-is (is_none w.ends) refl methods refl ∙ rw (m, f) refl)
+
+    pub method-goes : (not methods || fits) ≡ true → method ≡ passes
+    method-goes f = method-is (is_none w.ends) refl methods refl ∙ rw f refl
+
+-- ---- a walk that goes over the trees from node `from` up to node `until`
+pub record WalkLeft (w : Walk) (methods : Bool) (from until kids : ℕ) (s : Siblings) : Type 0 where
+  pub over : Over w.rows.now until s
+  pub trees : TreesIn w methods s.at until
+  pub later : from ≤ s.at
+  pub few : kids ≤ s.at
+  pub counted : kids + breadth (siblings w.rows.now s.at until) ≡ breadth (siblings w.rows.now from until)
+  pub same : Under w (λ pre ds. check_forest pre (not pre && methods) ds (siblings w.rows.now s.at until) ≡ check_forest pre (not pre && methods) ds (siblings w.rows.now from until))
+
+-- what it says of all of them
+abbrev pub Said : Walk → Bool → ℕ → ℕ → Answer → Type 0
+Said w methods from until r =
+    Under w (λ pre ds. r ≡ so_many (check_forest pre (not pre && methods) ds (siblings w.rows.now from until)) (breadth (siblings w.rows.now from until)))
+
+module _ {w : Walk} {methods : Bool} {from until kids : ℕ} {s : Siblings} (l : WalkLeft w methods from until kids s) where
+  pub walk-end : {t : Siblings} → Walks s None t → Said w methods from until (Ok kids)
+  walk-end x ds e =
+      let h : until ≤ s.at = omega (arith, last l.over x) in
+      let n : kids ≡ breadth (siblings w.rows.now from until) = omega (arith, breadth-none w.rows.now s.at until h, l.counted) in
+      rw (← l.same ds e, check-none (is_none w.ends) (not (is_none w.ends) && methods) ds w.rows.now s.at until h, n) refl
+
+  module _ {n : ℕ} {node : Node} {t : Siblings} (x : NextTree s n node t) where
+    h : s.at < until
+    h = here l.over x
+
+    pub next-label : methods ≡ true → (node.label < 1024) × (node.label ≡ label_value (node_of (row_at w.rows.now s.at)).label)
+    next-label m =
+        let q = method-label (methods-of l.trees m) h refl in
+        let e = ap (λ (r : Row). r.label) (row l.over x) in
+        (omega (arith, e, q.0), e ∙ sym q.1)
+
+    abbrev after : Verdict → Verdict → Bool → List Definition → Verdict
+    after v m pre ds = and_then (and_then v m) (check_forest pre (not pre && methods) ds (siblings w.rows.now (s.at + (row_at w.rows.now s.at).size) until))
+
+    opens-so : (v m : Verdict) (ds : List Definition) (e : WalkEnv w ds) → v ≡ type_verdict (is_none w.ends) ds w.rows.now n →
+        m ≡ method_verdict (not (is_none w.ends) && methods) ds (node_of (row_at w.rows.now s.at)) (siblings w.rows.now (s.at + 1) (s.at + (row_at w.rows.now s.at).size)) →
+        after v m (is_none w.ends) ds ≡ check_forest (is_none w.ends) (not (is_none w.ends) && methods) ds (siblings w.rows.now from until)
+    opens-so v m ds e p q =
+        rw (p, x.place, q) refl ∙ sym (check-opens (is_none w.ends) (not (is_none w.ends) && methods) ds (first l.trees h)) ∙ l.same ds e
+
+    pub walk-stop : (r : Refusal) → Under w (λ pre ds. Err r ≡ type_verdict pre ds w.rows.now n) → Said w methods from until (Err r)
+    walk-stop r is ds e = rw (← opens-so (Err r) _ ds e (is ds e) refl) refl
+
+    module _ (is : Under w (λ pre ds. passes ≡ type_verdict pre ds w.rows.now n)) {fits : Bool} (f : fits ≡ (is_none w.ends || end_is 23 w.rows.now (ends_of w.ends) n)) where
+      f' : fits ≡ (is_none w.ends || end_is 23 w.rows.now (ends_of w.ends) s.at)
+      f' = f ∙ ap (λ (k : ℕ). is_none w.ends || end_is 23 w.rows.now (ends_of w.ends) k) x.place
+
+      pub walk-method : methods ≡ true → fits ≡ false → Said w methods from until (Err (MethodNoFunction node.label))
+      walk-method m z ds e =
+          rw (← opens-so passes _ ds e (is ds e) (method-stops l.trees h f' ds e m z), (next-label m).1) refl
+
+      pub walk-on : (not methods || fits) ≡ true → WalkLeft w methods from until (kids + 1) t
+      walk-on z =
+          record {
+            over = over-next l.over x;
+            trees = rw (at l.over x) (rest-in l.trees h);
+            later = omega (arith, at l.over x, l.later);
+            few = omega (arith, at l.over x, l.few, (first l.trees h).here.one);
+            counted = rw (at l.over x) (omega (arith, breadth-opens (first l.trees h), l.counted));
+            same = λ ds e. rw (at l.over x) (opens-so passes passes ds e (is ds e) (sym (method-goes l.trees h f' ds e z)));
+          }

@@ -1,2 +1,2 @@
 -- Laws of definitions.
-mod Laws
+pub mod Laws

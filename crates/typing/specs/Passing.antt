@@ -1,24 +1,23 @@
 -- A book that passed the check, with what the check hands on. Definitions; assumes nothing.
-use Rattle.std.specs.Prelude.{◌≡◌, false, List, ℕ, ◌≤◌, length, get_or}
+use Rattle.std.specs.Prelude.{◌≡◌, List, ℕ, ◌≤◌, length, get_or, Result, IfOk, OnErr}
 use Rattle.format.specs.Forest.{end, count}
 use Rattle.format.specs.Book.{trees}
 use Rattle.format.specs.Layout.{nodes_part, definitions_part, files_part}
 use Rattle.book.specs.declared.kinds.Contents.{Contents}
-use Rattle.refusals.specs.declared.Verdict.{Verdict}
-use Rattle.refusals.specs.declared.Verdict.TheVariants.{Passed as passes}
-use Rattle.refusals.specs.Verdict.{is_passed}
+use Rattle.refusals.specs.declared.Refusal.{Refusal}
+use Rattle.refusals.specs.Verdict.{passes}
 use Rattle.judgement.specs.Environment.{main_definitions}
 use Rattle.judgement.specs.Resolve.{resolve_actor}
 use Rattle.judgement.specs.Check.{check}
 use Rattle.environment.specs.Tables.{Chains, definitions_in}
 use Rattle.typing.specs.declared.prog.Passed.{Passed}
-use Rattle.typing.specs.declared.prog.Found.{Found}
 use Rattle.environment.specs.Trees.{AllTrees}
 use Rattle.book.specs.Reading.{Admitted}
 use Rattle.book.specs.Tables.{blank_table, zero_table}
 use Rattle.typing.specs.Decs.{Checked, DecsAs}
+use Rattle.syntax.specs.Verdicts.{verdict_of}
 use Rattle.syntax.specs.Files.{init_at, SplitAs}
-use Rattle.syntax.specs.Interfaces.{interface_tree, InterfaceNodes, no_interface, InterfaceAs}
+use Rattle.syntax.specs.Interfaces.{interface_tree, InterfaceNodes, InterfaceAs}
 
 -- The definitions of an admitted book that are not the init file's passed, with their tables.
 pub record DecsPassed {bs : List ℕ} {c : Contents} (a : Admitted bs c) (main : ℕ) (roots ends' : List ℕ) : Type 0 where
@@ -42,21 +41,16 @@ pub record PassedAs {bs : List ℕ} {c : Contents} (a : Admitted bs c) (roots en
   pub offers : (resolve_actor a.book ≡ end → ⊥) →
       InterfaceAs (nodes_part bs) (count (trees a.book)) (main_definitions a.book) (resolve_actor a.book) p.interface
 
--- A refused book has a verdict and nothing to go on with.
-abbrev pub found_none : Contents → Verdict → Found
-found_none c v = record { verdict = v; passed = record { contents = c; main = 0; interface = no_interface } }
-
 -- The verdict is that of the check; where the book passes, what is handed on is its own.
-pub record ActorFoundAs {bs : List ℕ} {c : Contents} (a : Admitted bs c) (roots ends' : List ℕ) (r : Found) : Type 0 where
-  pub verdict : r.verdict ≡ check a.book
-  pub passed : r.verdict ≡ passes → PassedAs a roots ends' r.passed
-  pub refused : is_passed r.verdict ≡ false → r ≡ found_none c r.verdict
+pub record ActorFoundAs {bs : List ℕ} {c : Contents} (a : Admitted bs c) (roots ends' : List ℕ) (r : Result Passed Refusal) : Type 0 where
+  pub verdict : verdict_of r ≡ check a.book
+  pub passed : IfOk r (PassedAs a roots ends')
 
 -- The same, and where the book is refused, both tables have nothing, as they were lent.
-pub record FoundAs {bs : List ℕ} {c : Contents} (a : Admitted bs c) (roots ends' : List ℕ) (r : Found) : Type 0 where
+pub record FoundAs {bs : List ℕ} {c : Contents} (a : Admitted bs c) (roots ends' : List ℕ) (r : Result Passed Refusal) : Type 0 where
   pub found : ActorFoundAs a roots ends' r
-  pub roots-left : is_passed r.verdict ≡ false → roots ≡ blank_table
-  pub ends-left : is_passed r.verdict ≡ false → ends' ≡ zero_table
+  pub roots-left : OnErr r (roots ≡ blank_table)
+  pub ends-left : OnErr r (ends' ≡ zero_table)
 
 -- A passed book, as a question takes it.
 pub record PassedBook (bs roots ends' : List ℕ) (p : Passed) : Type 0 where

@@ -1,13 +1,11 @@
 -- What the walks over stored types ask and say. Definitions; assumes nothing.
 use Rattle.std.specs.Prelude.{◌≡◌, Bool, false, not, ◌&&◌, List, ℕ, ◌+◌, ◌/◌, ◌%◌, eqb}
-use Rattle.format.specs.Node.{Node}
-use Rattle.format.specs.Forest.{Forest, breadth}
+use Rattle.format.specs.Forest.{breadth}
 use Rattle.format.specs.Book.{Definition}
 use Rattle.format.specs.Layout.{row_at, siblings, node_of, modes_of}
 use Rattle.format.specs.Whole.{Within, tree_at}
 use Rattle.refusals.specs.declared.Refusal as refusal
-use Rattle.refusals.specs.declared.Verdict.{Verdict}
-use Rattle.refusals.specs.Verdict.{and_then, unless}
+use Rattle.refusals.specs.Verdict.{Verdict, unless}
 use Rattle.judgement.specs.Environment.{is_serv_kind}
 use Rattle.judgement.specs.Aliases.{as_func}
 use Rattle.judgement.specs.Check.{kind_verdict, modes_verdict, check_forest}
@@ -32,7 +30,3 @@ type_verdict pre ds ns n =
     let kind = (node_of (row_at ns n)).kind in
     let kids = siblings ns (n + 1) (n + (row_at ns n).size) in
     kind_verdict ds kind (breadth kids) (check_forest pre (not pre && is_serv_kind kind) ds kids)
-
--- A function's arguments and results, and then its modes.
-unfoldable pub func_verdict : Bool → List Definition → ℕ → Forest Node → Verdict
-func_verdict pre ds value kids = and_then (check_forest pre false ds kids) (value_verdict value (breadth kids))

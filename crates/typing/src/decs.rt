@@ -1,100 +1,109 @@
-// The definitions of a book, or of its init file: `check_decs` of typing.rs.
-ghost use Rattle.std.specs.Prelude.{◌≡◌, List, ◌≤◌};
-ghost use Rattle.format.specs.Book.{Definition};
-ghost use Rattle.format.specs.Layout.{nodes_part, definitions_part};
-ghost use Rattle.book.specs.Reading.{Admitted};
-ghost use Rattle.book.specs.Tables.{blank_table, zero_table};
-ghost use Rattle.environment.specs.Tables.{Nodes, Roots, Tabled};
-ghost use Rattle.typing.specs.Decs.{EnteredAs, DecsAs, Entered, Walked, CycleAs};
+// Definitions of a book, or of its init file: `check_decs` of typing.rs.
+ghost use Rattle.std.specs.Prelude.{◌≤◌};
 
-use book::kinds::Contents;
-use environment::Table;
+use crate::types::Walk;
+use book::admitted::AdmittedBook;
+use book::read::{Entry, Node};
 use refusals::{Refusal, Verdict};
 
-// 7: `check_cycle`. The alias ends go into a table that has nothing, and has nothing again where they are refused.
-fn check_cycle(
-    rows: &[u8],
-    roots: &[u16],
-    names: usize,
-    nodes: usize,
-    definitions: usize,
-    ends: &mut [u32],
-) -> Verdict
-    requires { Nodes rows.now names nodes × Roots roots.now nodes × (ends.old ≡ zero_table) × ((ds : List Definition) × Tabled rows.now roots.now definitions ds) × (definitions ≤ 512) }
-    ensures { CycleAs rows.now roots.now names nodes definitions ends.new result }
-{
-    let circle = environment::find_ends(rows, roots, names, nodes, definitions, ends);
-    if circle != Table::NONE {
-        return Verdict::Refused(Refusal::Circle(circle));
-    }
-    Verdict::Passed
+// The definitions of entries `from` up to `to`: they see each other and no others.
+#[derive(Clone, Copy)]
+pub(crate) struct Decs<'a> {
+    pub(crate) book: AdmittedBook<'a>,
+    pub(crate) from: usize,
+    pub(crate) to: usize,
+    ghost ordered: { from ≤ to },
+    ghost within: { to ≤ book.contents.definitions },
 }
 
-// The alias ends of definitions whose bodies passed, and 8.
-fn check_ends(
-    book: &[u8],
-    c: Contents,
-    from: usize,
-    to: usize,
-    roots: &[u16],
-    ends: &mut [u32],
-) -> Verdict
-    requires { Admitted book.now c × Walked (definitions_part book.now) (nodes_part book.now) c.names c.nodes from to roots.now × (ends.old ≡ zero_table) }
-    ensures { EnteredAs (definitions_part book.now) (nodes_part book.now) c.names c.nodes from to result roots.now ends.new }
-{
-    let rows = c.nodes(book);
-    let v = check_cycle(rows, roots, c.names, c.nodes, to - from, ends);
-    if !v.passed() {
-        return v;
-    }
-    if crate::defs::validate_decs(c.definitions(book), rows, ends, from, to) {
-        return Verdict::Passed;
-    }
-    environment::clear_ends(ends);
-    Verdict::Refused(Refusal::NoFunction)
-}
+impl<'a> Decs<'a> {
+    ghost use Rattle.std.specs.Prelude.{◌≡◌};
+    ghost use Rattle.judgement.specs.Check.{bodies_verdict, bodies_fit};
+    ghost use Rattle.book.specs.Tables.{blank_table, zero_table};
+    ghost use Rattle.typing.specs.Decs.{definitions_of, Defined, EndsFound, EnteredOf, DecsOf};
 
-// The bodies of definitions that are in the table (3, 4, 5, 6), and what follows.
-fn check_entered(
-    book: &[u8],
-    c: Contents,
-    from: usize,
-    to: usize,
-    roots: &[u16],
-    ends: &mut [u32],
-) -> Verdict
-    requires { Admitted book.now c × Entered (definitions_part book.now) (nodes_part book.now) c.names c.nodes from to roots.now × (ends.old ≡ zero_table) }
-    ensures { EnteredAs (definitions_part book.now) (nodes_part book.now) c.names c.nodes from to result roots.now ends.new }
-{
-    let rows = c.nodes(book);
-    let v = crate::defs::check_defs(c.definitions(book), rows, roots, ends, from, to);
-    if !v.passed() {
-        return v;
+    pub(crate) fn new(book: AdmittedBook<'a>, from: usize, to: usize) -> Decs<'a>
+        requires ordered { from ≤ to }
+        requires within { to ≤ book.contents.definitions }
+        ensures book { result.book ≡ book.entry }
+        ensures from { result.from ≡ from }
+        ensures to { result.to ≡ to }
+    {
+        Decs { book, from, to }
     }
-    check_ends(book, c, from, to, roots, ends)
-}
 
-// The definitions of entries `from` up to `to`: 2, the bodies, 7 and 8. The roots and alias ends go into tables that have nothing, and have
-// nothing again where the definitions are refused.
-pub(crate) fn check_decs(
-    book: &[u8],
-    c: Contents,
-    from: usize,
-    to: usize,
-    roots: &mut [u16],
-    ends: &mut [u32],
-) -> Verdict
-    requires { Admitted book.now c × (from ≤ to) × (to ≤ c.definitions) × (roots.old ≡ blank_table) × (ends.old ≡ zero_table) }
-    ensures { DecsAs (definitions_part book.now) (nodes_part book.now) c.names c.nodes from to result roots.new ends.new }
-{
-    let twice = environment::enter(c.definitions(book), c.names, c.nodes, from, to, roots);
-    if twice != Table::NONE {
-        return Verdict::Refused(Refusal::Twice(twice));
+    // 3 to 6: the bodies, in order, of definitions that are in the table.
+    fn check_bodies(self, roots: &[u16]) -> Verdict
+        requires { Defined self roots.now }
+        ensures { result ≡ bodies_verdict (definitions_of self.entry) (definitions_of self.entry) }
+    {
+        let walk = Walk::new(self.book, roots, None);
+        let entries = self.book.definitions();
+        for d in self.from..self.to {
+            walk.check_type(Entry::at(entries, d).root as usize)?;
+        }
+        Ok(())
     }
-    let v = check_entered(book, c, from, to, roots, ends);
-    if !v.passed() {
-        environment::clear(roots);
-        return v;
+
+    // 8: whether each method in the bodies is a function.
+    fn methods_fit<'t>(self, roots: &'t [u16], ends: &'t [u32]) -> bool
+        requires { Defined self roots.now × EndsFound self roots.now ends.now }
+        ensures { result ≡ bodies_fit (definitions_of self.entry) (definitions_of self.entry) }
+    {
+        let walk = Walk::new(self.book, roots, Some(ends));
+        let entries = self.book.definitions();
+        for d in self.from..self.to {
+            let root = Entry::at(entries, d).root as usize;
+            let size = Node::at(walk.rows, root).size;
+            if !walk.services_fit(false, root, root + size) {
+                return false;
+            }
+        }
+        true
     }
-    v
+
+    // 3 to 8, of definitions that are in the table. Their alias ends go into a table that has nothing, and has nothing again where they are refused.
+    fn check_entered(self, roots: &[u16], ends: &mut [u32]) -> Verdict
+        requires defined { Defined self roots.now }
+        requires empty { ends.old ≡ zero_table }
+        ensures { EnteredOf self.entry result roots.now ends.new }
+    {
+        self.check_bodies(roots)?;
+        let c = self.book.contents;
+        environment::find_ends(
+            self.book.nodes(),
+            roots,
+            c.names,
+            c.nodes,
+            self.to - self.from,
+            ends,
+        )?;
+        if self.methods_fit(roots, ends) {
+            return Ok(());
+        }
+        environment::clear_ends(ends);
+        Err(Refusal::NoFunction)
+    }
+
+    // 2 to 8. The roots and alias ends go into tables that have nothing, and have nothing again where the definitions are refused.
+    pub(crate) fn check(self, roots: &mut [u16], ends: &mut [u32]) -> Verdict
+        requires roots { roots.old ≡ blank_table }
+        requires ends { ends.old ≡ zero_table }
+        ensures { DecsOf self.entry result roots.new ends.new }
+    {
+        let c = self.book.contents;
+        environment::enter(
+            self.book.definitions(),
+            c.names,
+            c.nodes,
+            self.from,
+            self.to,
+            roots,
+        )?;
+        let checked = self.check_entered(roots, ends);
+        if checked.is_err() {
+            environment::clear(roots);
+        }
+        checked
+    }
 }

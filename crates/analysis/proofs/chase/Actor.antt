@@ -1,15 +1,22 @@
 -- The walk from a start, and over an actor as written and merged. Assumes nothing.
+--     holds-going, holds-on        a walk that goes on, and one that was stopped
+--     fresh-started, fresh-..      the walk from a start
+--     ServicesLeft, services-..    the loop over services
 use mathlib.Core.Path.{◌≡◌, refl, sym, ap, subst, ◌∙◌}
 use mathlib.Core.Bool.{Bool, true, false, cond}
 use mathlib.Core.List.Memᴰ
-use mathlib.Core.List.{List, []}
-use Prim.Native.Nat.{ℕ, ◌+◌, ◌≤◌, ◌<◌}
+use mathlib.Core.List.{List, [], ◌∷◌}
+use Prim.Native.Nat.{ℕ, suc, ◌+◌, ◌≤◌, ◌<◌}
+use native.Mathlib.Numerals.{add-one}
 use native.Mathlib.Omega.{arith}
 use lib.Dec.{eqb}
-use lib.ListN.{length, get_or, take, replicate, length-replicate}
-use lib.Seq.{slice}
+use Rattle.std.proofs.Common.{length, get_or, drop, replicate, drop-cons, Result, Ok, Err}
+use Rattle.std.proofs.lemmas.List.Elements.{All-same, All-get_or}
+use lib.ListN.{length-replicate}
+use lib.Seq.{drop-length}
+use Rattle.refusals.specs.declared.Refusal.{Refusal}
 use Rattle.format.specs.Forest.{Forest, end, tree, beside}
-use Rattle.format.specs.Node.{Node}
+use Rattle.format.specs.Node.{Kind, PrimT, VarT, OptT, VecT, RecordT, VariantT, FuncT, ServT, ClassT, InitT, Node}
 use Rattle.format.specs.Book.{Definition}
 use Rattle.format.specs.Encode.{Row}
 use Rattle.format.specs.Layout.{row_at, siblings}
@@ -20,58 +27,86 @@ use Rattle.judgement.specs.Environment.{kids_of}
 use Rattle.judgement.specs.Actor.{is_class, all_but_last, class_arguments, service_of, class_of, merged_of}
 use Rattle.judgement.specs.Check.{member}
 use Rattle.format.specs.Distinct.{none}
-use Rattle.book.specs.Tables.{no_flags}
+use Rattle.book.specs.Tables.{no_flags, is_set}
 use Rattle.syntax.specs.declared.interface.Interface.{Interface}
-use Rattle.environment.specs.Tables.{Tabled}
-use Rattle.syntax.specs.Interfaces.{methods_in, interface_tree}
-use Rattle.listing.specs.Chase.{Walk as State, going, arm, chase, visit, chase_types}
+use Rattle.environment.specs.Tables.{Binds}
+use Rattle.syntax.specs.Interfaces.{IsService, methods_in, interface_tree}
+use Rattle.syntax.proofs.Stored.{tree-kids}
+use Rattle.listing.specs.Chase.{Walk as State, going, unbound, arm, chase, visit, chase_types}
 use Rattle.analysis.specs.declared.chase.Walk.{Walk}
 use Rattle.analysis.specs.Book.{Readable}
-use Rattle.analysis.specs.Walking.{Goes, Holds, Started, fuel, ChasedAs, Counted, no_list, nothing_met, WalkedAs, RootIn, InterfaceIn}
-use Rattle.analysis.proofs.BookNodes.{services-over, services-open}
+use Rattle.analysis.specs.Walking.{Goes, Holds, Started, fuel, ChasedAs, Counted, NothingMet, WalkedAs, RootIn, InterfaceIn}
+use Rattle.analysis.proofs.chase.Steps.{visit-stopped}
 
--- ---- a walk that has met nothing
+-- ---- A walk that goes on, and one that was stopped
+pub record Going (ds : List Definition) (s : State) (w : Walk) : Type 0 where
+  pub seen : List ℕ
+  pub out : List ℕ
+  pub is : s ≡ going seen out
+  pub goes : Goes ds 0 seen out w
+
+pub holds-going : (ds : List Definition) (s : State) (w : Walk) → Holds ds s (Ok w) → Going ds s w
+holds-going ds (going seen out) w h = record { seen = seen; out = out; is = refl; goes = h }
+holds-going ds (unbound n) w h = absurd h
+
+module _ (ds : List Definition) (d m : ℕ) where
+  arm-stopped : (below : State → State) → below (unbound m) ≡ unbound m → (k : Kind) → arm (visit d ds) below k (unbound m) ≡ unbound m
+  unfolding arm
+  arm-stopped below e (PrimT p) = refl
+  arm-stopped below e (VarT n) = visit-stopped ds d n m
+  arm-stopped below e OptT = e
+  arm-stopped below e VecT = e
+  arm-stopped below e RecordT = e
+  arm-stopped below e VariantT = e
+  arm-stopped below e (FuncT a ms) = e
+  arm-stopped below e ServT = e
+  arm-stopped below e ClassT = e
+  arm-stopped below e InitT = e
+
+  chase-stopped : (f : Forest Node) → chase (visit d ds) f (unbound m) ≡ unbound m
+  unfolding chase
+  chase-stopped end = refl
+  chase-stopped (tree n kids next) =
+      ap (chase (visit d ds) next) (arm-stopped (chase (visit d ds) kids) (chase-stopped kids) n.kind) ∙ chase-stopped next
+
+-- what follows changes nothing
+holds-on : (ds : List Definition) (d : ℕ) (f : Forest Node) (s : State) (why : Refusal) → Holds ds s (Err why) → Holds ds (chase (visit d ds) f s) (Err why)
+holds-on ds d f (going seen out) why h = absurd h
+holds-on ds d f (unbound n) why h = subst (λ (s : State). Holds ds s (Err why)) (sym (chase-stopped ds d n f)) h
+
+-- ---- A walk that has met nothing
 no-marks : (m n : ℕ) → eqb (get_or (replicate m 0) n 0) 1 ≡ member n []
 unfolding member
 no-marks m n = ap (λ (v : ℕ). eqb v 1) (everywhere m n 0)
 
-pub nothing-goes : (ds : List Definition) → Goes ds 0 [] [] nothing_met
-unfolding nothing_met no_flags no_list
-nothing-goes ds =
+nothing-goes : (ds : List Definition) (w : Walk) → NothingMet w → Goes ds 0 [] [] w
+unfolding no_flags
+nothing-goes ds w e =
     record {
-      goes = refl;
-      marks = λ n h. no-marks 1024 n;
-      long = length-replicate {A = ℕ} 1024 0;
-      listed = refl;
-      room = length-replicate {A = ℕ} 512 0;
+      marks = λ n h. ap (λ (l : List ℕ). is_set l n) e.seen ∙ no-marks 1024 n;
+      long = ap length e.seen ∙ length-replicate {A = ℕ} 1024 0;
+      listed = e.listed;
       once = none;
       defined = λ n i. absurd (Memᴰ.not-nil i);
-      slack = omega arith;
+      slack = omega (arith, ap length e.listed);
     }
 
-module _ {ns roots : List ℕ} {definitions : ℕ} (t : Counted ns roots definitions) where
-  pub fresh-started : {w : Walk} → w ≡ nothing_met → Started ns roots w
-  fresh-started {w} e =
-      record {
-        definitions = t.ds;
-        binds = t.tabled.0;
-        few = omega (arith, t.tabled.1, t.few);
-        state = going [] [];
-        holds = subst (Goes t.ds 0 [] []) (sym e) (nothing-goes t.ds);
-      }
+module _ {ns roots : List ℕ} (t : Counted ns roots) where
+  pub fresh-started : {w : Walk} → NothingMet w → Started ns roots w
+  fresh-started {w} e = record { definitions = t.ds; binds = t.binds; few = t.few; seen = []; out = []; goes = nothing-goes t.ds w e }
 
   -- the whole walk over trees of rows
-  pub fresh-chased : (from until : ℕ) (w r : Walk) → w ≡ nothing_met → ChasedAs ns roots from until w r → WalkedAs ns roots definitions (siblings ns from until) r
+  pub fresh-chased : (from until : ℕ) (w : Walk) (r : Result Walk Refusal) → NothingMet w → ChasedAs ns roots from until w r → WalkedAs ns roots (siblings ns from until) r
   unfolding chase_types
-  fresh-chased from until w r e c ds b = c ds (going [] []) b.0 (omega (arith, b.1, t.few)) (subst (Goes ds 0 [] []) (sym e) (nothing-goes ds))
+  fresh-chased from until w r e c ds b few = c ds [] [] b few (nothing-goes ds w e)
 
   -- and over none
-  pub fresh-none : (f : Forest Node) → f ≡ end → (w : Walk) → w ≡ nothing_met → WalkedAs ns roots definitions f w
+  pub fresh-none : (f : Forest Node) → f ≡ end → (w : Walk) → NothingMet w → WalkedAs ns roots f (Ok w)
   unfolding chase_types chase
-  fresh-none f z w e ds b = rw z (subst (Goes ds 0 [] []) (sym e) (nothing-goes ds))
+  fresh-none f z w e ds b few = rw z (nothing-goes ds w e)
 
-  pub walked-same : {f g : Forest Node} (r : Walk) → f ≡ g → WalkedAs ns roots definitions f r → WalkedAs ns roots definitions g r
-  walked-same r e h ds b = subst (λ (x : Forest Node). Holds ds 0 (chase_types ds x) r) e (h ds b)
+  pub walked-same : {f g : Forest Node} (r : Result Walk Refusal) → f ≡ g → WalkedAs ns roots f r → WalkedAs ns roots g r
+  walked-same r e h ds b few = subst (λ (x : Forest Node). Holds ds (chase_types ds x) r) e (h ds b few)
 
 -- ---- trees beside each other, a service and a class
 module _ (f : ℕ → State → State) where
@@ -92,60 +127,122 @@ module _ (f : ℕ → State → State) where
 pub written-is : (ns : List ℕ) {n : ℕ} (q : Row) → q ≡ row_at ns n → (n ≡ 65535 → ⊥) → siblings ns n (n + q.size) ≡ actor_at ns n
 written-is ns {n} q is s = ap (λ (r : Row). siblings ns n (n + r.size)) is ∙ sym (actor-some ns n s)
 
--- ---- the loop over services
-pub record ServiceCome (ns : List ℕ) (ds : List Definition) (root count : ℕ) (services : List ℕ) (v : Walk) (k : ℕ) : Type 0 where
-  pub state : State
-  pub holds : Holds ds 0 state v
-  pub same : chase (visit (fuel ds) ds) (methods_in ns (slice k count services)) state
-      ≡ chase (visit (fuel ds) ds) (methods_in ns (take count services)) (chase_types ds (class_arguments (actor_at ns root)))
+-- ---- The loop over services: those that are left lead where all of them do
+abbrev pub over_services : List ℕ → List Definition → List ℕ → State → State
+over_services ns ds services = chase (visit (fuel ds) ds) (methods_in ns services)
 
-pub record ServicesLeft (ns roots : List ℕ) (definitions root count : ℕ) (services : List ℕ) (v : Walk) (k : ℕ) : Type 0 where
-  pub passed : k ≤ count
-  pub come : (ds : List Definition) → Tabled ns roots definitions ds → ServiceCome ns ds root count services v k
+none-over : (ns : List ℕ) (ds : List Definition) (s : State) → over_services ns ds [] s ≡ s
+unfolding methods_in chase
+none-over ns ds s = refl
 
-module _ {ns roots : List ℕ} {definitions root count : ℕ} {services : List ℕ} where
-  pub services-start : (v : Walk) → WalkedAs ns roots definitions (class_arguments (actor_at ns root)) v → ServicesLeft ns roots definitions root count services v 0
-  services-start v h = record { passed = omega arith; come = λ ds b. record { state = chase_types ds (class_arguments (actor_at ns root)); holds = h ds b; same = refl } }
+pub record ServiceCome (ns : List ℕ) (ds : List Definition) (root : ℕ) (services : List ℕ) (v : Walk) (k : ℕ) : Type 0 where
+  pub seen : List ℕ
+  pub out : List ℕ
+  pub goes : Goes ds 0 seen out v
+  pub same : over_services ns ds (drop k services) (going seen out) ≡ over_services ns ds services (chase_types ds (class_arguments (actor_at ns root)))
 
-  module _ (t : Counted ns roots definitions) {v : Walk} {k : ℕ} (l : ServicesLeft ns roots definitions root count services v k) where
+-- The interface is merged, and these are its services.
+pub record MergedAs (a : Interface) (services : List ℕ) : Type 0 where
+  pub merged : a.merged ≡ true
+  pub are : services ≡ a.services
+
+pub record ServicesLeft (ns roots : List ℕ) (a : Interface) (services : List ℕ) (v : Walk) (k : ℕ) : Type 0 where
+  pub interface : MergedAs a services
+  pub passed : k ≤ length services
+  pub come : (ds : List Definition) → Binds ns roots ds → length ds ≤ 512 → ServiceCome ns ds a.root services v k
+
+pub actor-written : {ns roots : List ℕ} → Counted ns roots → (a : Interface) → a.merged ≡ false → (r : Result Walk Refusal) → WalkedAs ns roots (actor_at ns a.root) r → WalkedAs ns roots (interface_tree ns a) r
+unfolding interface_tree
+actor-written t a m r h = rw m h
+
+module _ {ns roots : List ℕ} (t : Counted ns roots) {a : Interface} {services : List ℕ} where
+  -- from the services to the interface
+  actor-over : MergedAs a services → (r : Result Walk Refusal) →
+      ((ds : List Definition) → Binds ns roots ds → length ds ≤ 512 → Holds ds (over_services ns ds services (chase_types ds (class_arguments (actor_at ns a.root)))) r) →
+      WalkedAs ns roots (interface_tree ns a) r
+  unfolding interface_tree chase_types
+  actor-over m r h ds b few =
+      rw m.merged
+      (subst (λ (s : State). Holds ds s r)
+      (ap (λ (l : List ℕ). over_services ns ds l (chase_types ds (class_arguments (actor_at ns a.root)))) m.are
+      ∙ sym (merged-chase (visit (fuel ds) ds) (actor_at ns a.root) (methods_in ns a.services) (going [] [])))
+      (h ds b few))
+
+  -- the class's arguments stop it
+  pub arguments-stop : MergedAs a services → {f : Forest Node} → f ≡ class_arguments (actor_at ns a.root) → (why : Refusal) → WalkedAs ns roots f (Err why) →
+      WalkedAs ns roots (interface_tree ns a) (Err why)
+  arguments-stop m e why h =
+      actor-over m (Err why) λ ds b few.
+      holds-on ds (fuel ds) (methods_in ns services) (chase_types ds (class_arguments (actor_at ns a.root))) why (walked-same t (Err why) e h ds b few)
+
+  pub services-start : MergedAs a services → {f : Forest Node} → f ≡ class_arguments (actor_at ns a.root) → (v : Walk) → WalkedAs ns roots f (Ok v) →
+      ServicesLeft ns roots a services v 0
+  services-start m e v h =
+      record {
+        interface = m;
+        passed = omega arith;
+        come = λ ds b few.
+            let g = holds-going ds (chase_types ds (class_arguments (actor_at ns a.root))) v (walked-same t (Ok v) e h ds b few) in
+            record { seen = g.seen; out = g.out; goes = g.goes; same = ap (over_services ns ds services) (sym g.is) };
+      }
+
+  module _ {v : Walk} {k : ℕ} (l : ServicesLeft ns roots a services v k) where
     pub services-started : Started ns roots v
     services-started =
-        let c = l.come t.ds t.tabled in
-        record { definitions = t.ds; binds = t.tabled.0; few = omega (arith, t.tabled.1, t.few); state = c.state; holds = c.holds }
+        let c = l.come t.ds t.binds t.few in
+        record { definitions = t.ds; binds = t.binds; few = t.few; seen = c.seen; out = c.out; goes = c.goes }
 
-    module _ (h : k < count) (long : count ≤ length services) (w : WholeAt ns (get_or services k 0)) (q : Row) (is : q ≡ row_at ns (get_or services k 0)) where
-      pub services-on : (x : Walk) → ChasedAs ns roots (get_or services k 0 + 1) (get_or services k 0 + q.size) v x → ServicesLeft ns roots definitions root count services x (k + 1)
-      services-on x c = record { passed = omega arith; come = come }
-        where
-          come : (ds : List Definition) → Tabled ns roots definitions ds → ServiceCome ns ds root count services x (k + 1)
-          come ds b =
-              let y = l.come ds b in
-              let f = visit (fuel ds) ds in
-              let kids = siblings ns (get_or services k 0 + 1) (get_or services k 0 + q.size) in
-              record {
-                state = chase f kids y.state;
-                holds = c ds y.state b.0 (omega (arith, b.1, t.few)) y.holds;
-                same = sym (ap (λ (g : Forest Node). chase f g y.state) (services-open ns services h long w is) ∙ chase-beside f kids (methods_in ns (slice (k + 1) count services)) y.state) ∙ y.same;
-              }
+    pub services-over : length services ≤ k → WalkedAs ns roots (interface_tree ns a) (Ok v)
+    services-over h =
+        actor-over l.interface (Ok v) λ ds b few.
+        let c = l.come ds b few in
+        let z : k ≡ length services = omega (arith, l.passed) in
+        subst (λ (s : State). Holds ds s (Ok v))
+        (sym (none-over ns ds (going c.seen c.out)) ∙ ap (λ (j : List ℕ). over_services ns ds j (going c.seen c.out)) (sym (ap (λ (j : ℕ). drop j services) z ∙ drop-length services)) ∙ c.same) c.goes
 
-module _ {ns roots : List ℕ} {definitions : ℕ} (t : Counted ns roots definitions) (a : Interface) where
-  pub actor-written : a.merged ≡ false → (r : Walk) → WalkedAs ns roots definitions (actor_at ns a.root) r → WalkedAs ns roots definitions (interface_tree ns a) r
-  unfolding interface_tree
-  actor-written m r h = rw m h
+    module _ (h : k < length services) where
+      -- the next service is a node of the book
+      pub service-in : (s : InterfaceIn ns roots a) → get_or services k 0 < s.rooted.count
+      service-in s =
+          let all = All-same (IsService ns s.rooted.count) services a.services l.interface.are s.nodes.service in
+          (All-get_or (IsService ns s.rooted.count) services k 0 h all).0
 
-  pub actor-merged : a.merged ≡ true → {v : Walk} {k : ℕ} → ServicesLeft ns roots definitions a.root a.count a.services v k → a.count ≤ k →
-      WalkedAs ns roots definitions (interface_tree ns a) v
-  unfolding interface_tree chase chase_types
-  actor-merged m {v} {k} l h ds b =
-      let c = l.come ds b in
-      let f = visit (fuel ds) ds in
-      let main = actor_at ns a.root in
-      let methods = methods_in ns (take a.count a.services) in
-      let over : c.state ≡ chase f methods (chase_types ds (class_arguments main)) =
-      sym (ap (λ (g : Forest Node). chase f g c.state) (services-over ns a.services l.passed h)) ∙ c.same in
-      let all : c.state ≡ chase_types ds (merged_of main methods) =
-      over ∙ sym (merged-chase f main methods (going [] [])) in
-      rw m (subst (λ (s : State). Holds ds 0 s v) all c.holds)
+      module _ (s : ℕ) (at : s ≡ get_or services k 0) (w : WholeAt ns s) (q : Row) (is : q ≡ row_at ns s) where
+        -- its methods, and then those of the services after it
+        opens : (ds : List Definition) (x : State) →
+            over_services ns ds (drop k services) x ≡ over_services ns ds (drop (k + 1) services) (chase (visit (fuel ds) ds) (siblings ns (s + 1) (s + q.size)) x)
+        unfolding methods_in
+        opens ds x =
+            ap (λ (j : List ℕ). over_services ns ds j x) (drop-cons services k 0 h ∙ ap (λ (j : ℕ). j ∷ drop (suc k) services) (sym at) ∙ ap (λ (j : ℕ). s ∷ drop j services) (sym (add-one k)))
+            ∙ ap (λ (f : Forest Node). chase (visit (fuel ds) ds) (beside f (methods_in ns (drop (k + 1) services))) x)
+            (tree-kids w ∙ ap (λ (z : Row). siblings ns (s + 1) (s + z.size)) (sym is))
+            ∙ chase-beside (visit (fuel ds) ds) (siblings ns (s + 1) (s + q.size)) (methods_in ns (drop (k + 1) services)) x
+
+        pub services-on : (x : Walk) → ChasedAs ns roots (s + 1) (s + q.size) v (Ok x) → ServicesLeft ns roots a services x (k + 1)
+        services-on x c =
+            record {
+              interface = l.interface;
+              passed = omega arith;
+              come = λ ds b few.
+                  let y = l.come ds b few in
+                  let g =
+                  holds-going ds (chase (visit (fuel ds) ds) (siblings ns (s + 1) (s + q.size)) (going y.seen y.out)) x
+                  (c ds y.seen y.out b few y.goes) in
+                  record {
+                    seen = g.seen;
+                    out = g.out;
+                    goes = g.goes;
+                    same = ap (over_services ns ds (drop (k + 1) services)) (sym g.is) ∙ sym (opens ds (going y.seen y.out)) ∙ y.same;
+                  };
+            }
+
+        pub services-stop : (why : Refusal) → ChasedAs ns roots (s + 1) (s + q.size) v (Err why) → WalkedAs ns roots (interface_tree ns a) (Err why)
+        services-stop why c =
+            actor-over l.interface (Err why) λ ds b few.
+            let y = l.come ds b few in
+            let x = chase (visit (fuel ds) ds) (siblings ns (s + 1) (s + q.size)) (going y.seen y.out) in
+            subst (λ (z : State). Holds ds z (Err why)) (sym (opens ds (going y.seen y.out)) ∙ y.same)
+            (holds-on ds (fuel ds) (methods_in ns (drop (k + 1) services)) x why (c ds y.seen y.out b few y.goes))
 
 pub interface-root : {ns roots : List ℕ} {i : Interface} → InterfaceIn ns roots i → RootIn ns roots i.root
 interface-root s = record { rooted = s.rooted; node = s.nodes.root }

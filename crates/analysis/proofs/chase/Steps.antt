@@ -10,11 +10,10 @@ use mathlib.Core.List.Memᴰ
 use mathlib.Core.List.{List, [], ◌∷◌, ◌++◌, map}
 use Prim.Native.Nat.{ℕ, zero, suc, ◌+◌, ◌-◌, ◌≤◌, ◌<◌}
 use native.Mathlib.Decide.{dec_lt, ℕ_discrete}
-use native.Mathlib.Numerals.{add-one}
 use native.Mathlib.Omega.{arith}
 use lib.Dec.{T}
 use lib.ListN.{length, set, length-map, length-set}
-use lib.Seq.{take-suc-set}
+use Rattle.std.proofs.Common.{length-append}
 use Rattle.format.specs.Forest.{Forest}
 use Rattle.format.specs.Node.{Node}
 use Rattle.format.specs.Book.{Definition}
@@ -29,13 +28,12 @@ use Rattle.format.specs.Distinct.{more}
 use Rattle.judgement.specs.WellFormed.{defined_name, Defined}
 use Rattle.format.proofs.Distinct.{pigeonhole}
 use Rattle.judgement.proofs.Lookup.{member-says}
-use Rattle.format.proofs.Logic.{clash}
 use Rattle.environment.specs.Tables.{Nodes}
 use Rattle.listing.specs.Chase.{Walk as State, going, unbound, push, chase, meet_name, visit}
 use Rattle.listing.proofs.Leaves.{each, Leafy, chase-each}
 use Rattle.analysis.specs.declared.chase.Walk.{Walk}
 use Rattle.analysis.specs.Book.{Agrees, Rooted, Readable}
-use Rattle.analysis.specs.Walking.{Goes, Holds, is_new}
+use Rattle.analysis.specs.Walking.{Goes, is_new}
 use Rattle.analysis.proofs.BookNodes.{here-leafy, row_names, names-none, names-name, names-other}
 use Rattle.analysis.proofs.recursive.Rows.{agrees-set}
 use Rattle.analysis.proofs.chase.NewNames.{old-set}
@@ -63,7 +61,7 @@ chase-rows {ns} {from = from} {until = until} r f s =
 
 -- ---- One name
 module _ (ds : List Definition) where
-  visit-stopped : (d n m : ℕ) → visit d ds n (unbound m) ≡ unbound m
+  pub visit-stopped : (d n m : ℕ) → visit d ds n (unbound m) ≡ unbound m
   unfolding visit
   visit-stopped zero n m = refl
   visit-stopped (suc k) n m = refl
@@ -123,67 +121,36 @@ module _ {ns : List ℕ} {names count : ℕ} (nodes : Nodes ns names count) (mar
   rows-skip i r x h s = skip-by (r - i) i r (omega arith) h s
 
 -- ---- The walk
+module _ (ds : List Definition) (entered : ℕ) {seen out : List ℕ} {w : Walk} (g : Goes ds entered seen out w) where
+  -- Names seen are distinct and defined.
+  pub goes-short : length seen ≤ length ds
+  goes-short = rw (length-map ds defined_name) at (pigeonhole g.once (map defined_name ds) g.defined)
 
--- What a name marked, and one listed, make of a walk.
+-- A name more is marked.
 abbrev pub marked : Walk → ℕ → Walk
-marked w n = record { seen = set w.seen n 1; list = w.list; len = w.len; stopped = w.stopped; bad = w.bad }
-
-abbrev pub extended : Walk → ℕ → Walk
-extended w n = record { seen = w.seen; list = set w.list w.len n; len = w.len + 1; stopped = w.stopped; bad = w.bad }
-
--- A walk that is not stopped goes on; one that is stopped does not.
-pub record Going (ds : List Definition) (entered : ℕ) (s : State) (w : Walk) : Type 0 where
-  pub seen : List ℕ
-  pub out : List ℕ
-  pub is : s ≡ going seen out
-  pub goes : Goes ds entered seen out w
-
-pub record Stopped (s : State) (w : Walk) : Type 0 where
-  pub name : ℕ
-  pub is : s ≡ unbound name
-  pub bad : w.bad ≡ name
-
-module _ (ds : List Definition) (entered : ℕ) where
-  pub holds-goes : (s : State) (w : Walk) → Holds ds entered s w → w.stopped ≡ false → Going ds entered s w
-  holds-goes (going seen out) w h f = record { seen = seen; out = out; is = refl; goes = h }
-  holds-goes (unbound n) w h f = let e = h.0 in clash cc
-
-  pub holds-stopped : (s : State) (w : Walk) → Holds ds entered s w → w.stopped ≡ true → Stopped s w
-  holds-stopped (going seen out) w h f = let e = h.goes in clash cc
-  holds-stopped (unbound n) w h f = record { name = n; is = refl; bad = h.1 }
-
-  module _ {seen out : List ℕ} {w : Walk} (g : Goes ds entered seen out w) where
-    -- Names seen are distinct and defined.
-    pub goes-short : length seen ≤ length ds
-    goes-short = rw (length-map ds defined_name) at (pigeonhole g.once (map defined_name ds) g.defined)
+marked w n = record { seen = set w.seen n 1; listed = w.listed }
 
 module _ {ds : List Definition} {entered : ℕ} {seen out : List ℕ} {w : Walk} (g : Goes ds entered seen out w) (n : ℕ) where
   pub goes-enter : n < 1024 → member n seen ≡ false → Defined ds n → Goes ds (entered + 1) (n ∷ seen) out (marked w n)
   goes-enter h new d =
       record {
-        goes = g.goes;
         marks = agrees-set w.seen seen g.marks n (omega (arith, g.long));
         long = length-set w.seen n 1 ∙ g.long;
         listed = g.listed;
-        room = g.room;
         once = more (λ m. subst T new ((member-says n seen).1 m)) g.once;
         defined = λ m i. ⊎_elim (λ (e : m ≡ n). subst (Defined ds) (sym e) d) (g.defined m) (Memᴰ.cases_cons i);
         slack = omega (arith, g.slack);
       }
 
-goes-room : {ds : List Definition} (entered : ℕ) {seen out : List ℕ} {w : Walk} → Goes ds (entered + 1) seen out w → length ds ≤ 512 → w.len < 512
-goes-room {ds} entered g few = omega (arith, g.slack, goes-short ds (entered + 1) g)
-
-pub goes-list : {ds : List Definition} (entered : ℕ) {seen out : List ℕ} {w : Walk} → Goes ds (entered + 1) seen out w → length ds ≤ 512 → (n : ℕ) →
-    Goes ds entered seen (out ++ (n ∷ [])) (extended w n)
-goes-list {ds} entered {seen} {out} {w} g few n =
+-- The last name entered is listed.
+pub goes-list : {ds : List Definition} (entered : ℕ) {seen out : List ℕ} {w : Walk} → Goes ds (entered + 1) seen out w → (n : ℕ) (x : Walk) →
+    x.seen ≡ w.seen → x.listed.items ≡ w.listed.items ++ (n ∷ []) → Goes ds entered seen (out ++ (n ∷ [])) x
+goes-list {ds} entered {seen} {out} {w} g n x s e =
     record {
-      goes = g.goes;
-      marks = g.marks;
-      long = g.long;
-      listed = rw (add-one w.len) (take-suc-set w.list w.len n (omega (arith, goes-room entered g few, g.room)) ∙ ap (λ (l : List ℕ). l ++ (n ∷ [])) g.listed);
-      room = length-set w.list w.len n ∙ g.room;
+      marks = subst (λ (l : List ℕ). Agrees l seen) (sym s) g.marks;
+      long = ap length s ∙ g.long;
+      listed = e ∙ ap (λ (l : List ℕ). l ++ (n ∷ [])) g.listed;
       once = g.once;
       defined = g.defined;
-      slack = omega (arith, g.slack);
+      slack = omega (arith, g.slack, ap length e ∙ length-append w.listed.items (n ∷ []));
     }

@@ -6,7 +6,7 @@
 use mathlib.Core.Path.{◌≡◌, refl, sym, ap, ap₂, subst, ◌∙◌}
 use mathlib.Core.Bool.{Bool, true, false, cond}
 use mathlib.Core.List.{List, [], ◌∷◌, ◌++◌, map, append_assoc}
-use Prim.Native.Nat.{ℕ, suc, ◌+◌, ◌*◌, ◌≤◌, ◌<◌}
+use Prim.Native.Nat.{ℕ, suc, ◌+◌, ◌*◌, ◌/◌, ◌≤◌, ◌<◌}
 use native.Mathlib.Nat.{add-zero, add-suc, suc-add, zero-add}
 use native.Mathlib.Omega.{arith}
 use borrow.Author.Tests.{lt-ltb, le-ltb}
@@ -98,6 +98,13 @@ puts-then {places} {k} {es} {fs} {old} {mid} p q =
       counted = omega (arith, p.counted, q.counted, length-append es fs);
       written = q.written ∙ ap₂ (λ (j : ℕ) (l : List ℕ). put_all places j fs l) p.counted p.written ∙ sym (put-append places k es fs old);
     }
+
+pub puts-long : {places k next : ℕ} {es : List Use} {old new : List ℕ} → Puts places k es old new next → length new ≡ length old
+puts-long {places} {k} {es = es} {old = old} p = ap length p.written ∙ put-length places k es old
+
+-- Places are as many in a slice that keeps its length.
+pub puts-places : (a b : List ℕ) → length a ≡ length b → {k next : ℕ} {es : List Use} {old new : List ℕ} → Puts (length a / 3) k es old new next → Puts (length b / 3) k es old new next
+puts-places a b e {k} {next} {es} {old} {new} p = subst (λ (n : ℕ). Puts (n / 3) k es old new next) e p
 
 -- First without places, which counts; then with them.
 pub puts-counts : {places k next : ℕ} {es : List Use} {old new : List ℕ} → Puts places k es old new next → places ≡ 0 → new ≡ old

@@ -1,41 +1,50 @@
--- The loops over trees that stand beside each other: `put_tree`, `put_trees` and `skip`. Assumes nothing.
+-- The loops over trees that stand beside each other: `put_trees` and `skip`. Assumes nothing.
 use mathlib.Core.Path.{◌≡◌, refl, sym, ap, ap₂, subst, ◌∙◌}
 use mathlib.Core.Bool.{Bool, true, false, cond}
 use mathlib.Core.List.{List, [], ◌∷◌}
-use Prim.Native.Nat.{ℕ, ◌+◌, ◌-◌, ◌≤◌, ◌<◌}
+use Prim.Native.Nat.{ℕ, suc, ◌+◌, ◌/◌, ◌≤◌, ◌<◌}
+use native.Mathlib.Nat.{add-zero}
 use native.Mathlib.Numerals.{add-one}
 use native.Mathlib.Omega.{arith}
 use borrow.Author.Tests.{lt-ltb, le-ltb}
 use lib.ListN.{length, get_or}
+use Rattle.std.specs.Prelude.{Some, None}
+use Rattle.std.specs.Iterator.{Yields, SkipsThenYields}
 use Rattle.format.specs.Forest.{Forest, breadth}
 use Rattle.format.specs.Node.{Node}
 use Rattle.format.specs.Encode.{Row}
 use Rattle.format.specs.Layout.{row_at, siblings}
-use Rattle.format.specs.Whole.{Within, Whole, tree_at}
+use Rattle.format.specs.Whole.{Whole, tree_at}
 use Rattle.format.proofs.Trees.{breadth-beside}
-use Rattle.format.proofs.Rows.{Opened, opens, node-within, nothing, siblings-none, siblings-opens}
+use Rattle.format.proofs.Rows.{Opened, opens, nothing, siblings-none, siblings-opens}
 use Rattle.format.proofs.Stored.{tree-whole, tree-opens}
 use Rattle.syntax.proofs.Stored.{whole-join, siblings-join}
 use Rattle.refusals.specs.Handed.{Use}
 use Rattle.listing.specs.Offers.{site, indexed}
-use Rattle.analysis.specs.Entries.{uses_by, put, put_all, Puts, AtMost, hit, Tested, SkipsTo}
-use Rattle.analysis.proofs.def_use.Entries.{put-length, puts-none, Leads, leads-start, leads-on, leads-end, one_use, uses-one, uses-none}
+use Rattle.book.specs.declared.walks.Siblings.{Siblings}
+use Rattle.book.specs.declared.read.Node as read
+use Rattle.book.specs.Reading.{as_row}
+use Rattle.book.specs.Walks.{Over, NextTree, Walks}
+use Rattle.book.proofs.Walking as walks
+use Rattle.analysis.proofs.BookNodes.{next-at}
+use Rattle.analysis.specs.Entries.{uses_by, Puts, AtMost, hit, Tested, SkipsTo}
+use Rattle.analysis.proofs.def_use.Entries.{puts-long, puts-places, puts-none, Leads, leads-start, leads-on, leads-end, one_use, uses-one, uses-none}
 
 -- ---- One tree
-module _ (near : List ℕ) (i next : ℕ) (e : Use) (places k : ℕ) (old : List ℕ) where
+module _ (near : List ℕ) (i next : ℕ) (e : Use) where
   abbrev pub of_tree : List Use
   of_tree = cond (hit near i next) (e ∷ []) []
 
-  pub tree-out : next ≤ get_or near i 0 → Puts places k of_tree old old k
+  pub tree-out : next ≤ get_or near i 0 → (places k : ℕ) (old : List ℕ) → Puts places k of_tree old old k
   unfolding hit
-  tree-out h = rw (le-ltb (get_or near i 0) next h) (puts-none places k old)
+  tree-out h places k old = rw (le-ltb (get_or near i 0) next h) (puts-none places k old)
 
-  pub tree-in : get_or near i 0 < next → {new : List ℕ} → new ≡ put places k e old → Puts places k of_tree old new (k + 1)
-  unfolding hit put_all
-  tree-in h w = rw (lt-ltb (get_or near i 0) next h) record { counted = refl; written = w }
+  pub tree-in : get_or near i 0 < next → {places k at : ℕ} {old new : List ℕ} → Puts places k (e ∷ []) old new at → Puts places k of_tree old new at
+  unfolding hit
+  tree-in h p = rw (lt-ltb (get_or near i 0) next h) p
 
-  pub tree-most : {new : List ℕ} {at : ℕ} → Puts places k of_tree old new at → AtMost 1 k old new at
-  tree-most p = record { few = omega (arith, p.counted, short (hit near i next)); long = ap length p.written ∙ put-length places k of_tree old }
+  tree-most : {places k at : ℕ} {old new : List ℕ} → Puts places k of_tree old new at → AtMost 1 k old new at
+  tree-most p = record { few = omega (arith, p.counted, short (hit near i next)); long = puts-long p }
     where
       short : (b : Bool) → length (cond b (e ∷ []) []) ≤ 1
       short true = omega arith
@@ -55,47 +64,41 @@ module _ (m r j : ℕ) where
       ∙ ap₂ (λ (t : Forest Node) (q : ℕ). site m r j t ∷ indexed m r q (siblings ns (i + (row_at ns i).size) until)) (sym (tree-opens o.here)) (sym (add-one j))
 
 -- ---- The loop of `put_trees`, at node i
-pub record TreesLeft (ns near : List ℕ) (m r from until k places : ℕ) (old mid : List ℕ) (i index at : ℕ) : Type 0 where
+pub record TreesLeft (ns near : List ℕ) (m r from until k : ℕ) (old mid : List ℕ) (i index at : ℕ) : Type 0 where
   pub trees : Whole ns i until
   pub later : from + index ≤ i
   pub few : at + from ≤ k + i
   pub long : length mid ≡ length old
   pub left : (x : Tested ns near from until) →
-      Leads places k old (uses_by x.used (indexed m r 0 (siblings ns from until))) at mid (uses_by x.used (indexed m r index (siblings ns i until)))
+      Leads (length old / 3) k old (uses_by x.used (indexed m r 0 (siblings ns from until))) at mid (uses_by x.used (indexed m r index (siblings ns i until)))
 
-pub trees-start : {ns : List ℕ} {from until : ℕ} (near : List ℕ) (m r k places : ℕ) (old : List ℕ) → Whole ns from until → TreesLeft ns near m r from until k places old old from 0 k
-trees-start {ns} {from} {until} near m r k places old w =
+pub trees-start : {ns : List ℕ} {from until : ℕ} (near : List ℕ) (m r k : ℕ) (old : List ℕ) → Whole ns from until → TreesLeft ns near m r from until k old old from 0 k
+trees-start {ns} {from} {until} near m r k old w =
     record {
       trees = w;
       later = omega arith;
       few = omega arith;
       long = refl;
-      left = λ x. leads-start places k old (uses_by x.used (indexed m r 0 (siblings ns from until)));
+      left = λ x. leads-start (length old / 3) k old (uses_by x.used (indexed m r 0 (siblings ns from until)));
     }
 
-module _ {ns near : List ℕ} {m r from until k places : ℕ} {old mid : List ℕ} {i index at : ℕ} (l : TreesLeft ns near m r from until k places old mid i index at) where
-  pub trees-most : until ≤ i → AtMost (until - from) k old mid at
-  trees-most h = record { few = omega (arith, l.few, l.later, l.trees.ordered); long = l.long }
-
-  pub trees-end : until ≤ i → (x : Tested ns near from until) → Puts places k (uses_by x.used (indexed m r 0 (siblings ns from until))) old mid at
+module _ {ns near : List ℕ} {m r from until k : ℕ} {old mid : List ℕ} {i index at : ℕ} (l : TreesLeft ns near m r from until k old mid i index at) where
+  pub trees-end : until ≤ i → (x : Tested ns near from until) → Puts (length old / 3) k (uses_by x.used (indexed m r 0 (siblings ns from until))) old mid at
   trees-end h x = leads-end (l.left x) (ap (uses_by x.used) (sites-none m r index ns i until h) ∙ uses-none x.used)
 
   module _ (h : i < until) where
     here : Opened ns i until
     here = opens l.trees h
 
-    pub trees-within : Within ns (i + 1)
-    trees-within = node-within here.here
-
     module _ (q : Row) (is : q ≡ row_at ns i) where
-      pub trees-next : (i < i + q.size) × (i + q.size ≤ until)
+      trees-next : (i < i + q.size) × (i + q.size ≤ until)
       trees-next = rw is (omega (arith, here.here.one), here.rest.ordered)
 
-      pub trees-on : {mid' : List ℕ} {at' : ℕ} → Puts places at (of_tree near i (i + q.size) (record { method = m; result = r; index = index }) places at mid) mid mid' at' →
-          TreesLeft ns near m r from until k places old mid' (i + q.size) (index + 1) at'
-      trees-on {mid'} {at'} p =
+      trees-step : {mid' : List ℕ} {at' : ℕ} → Puts (length mid / 3) at (of_tree near i (i + q.size) (record { method = m; result = r; index = index })) mid mid' at' →
+          TreesLeft ns near m r from until k old mid' (i + q.size) (index + 1) at'
+      trees-step {mid'} {at'} p =
           let e : Use = record { method = m; result = r; index = index } in
-          let most = tree-most near i (i + q.size) e places at mid p in
+          let most = tree-most near i (i + q.size) e p in
           let some = trees-next.0 in
           record {
             trees = rw is here.rest;
@@ -108,50 +111,73 @@ module _ {ns near : List ℕ} {m r from until k places : ℕ} {old mid : List �
                 let rest = indexed m r (index + 1) (siblings ns (i + (row_at ns i).size) until) in
                 let own : cond (hit near i (i + q.size)) (e ∷ []) [] ≡ one_use used s =
                 ap (λ (z : Row). cond (hit near i (i + z.size)) (e ∷ []) []) is ∙ ap (λ (b : Bool). cond b (e ∷ []) []) (sym (x.hits.agrees i (omega (arith, l.later)) h)) in
-                subst (λ (z : Row). Leads places k old (uses_by used (indexed m r 0 (siblings ns from until))) at' mid' (uses_by used (indexed m r (index + 1) (siblings ns (i + z.size) until)))) (sym is)
+                subst (λ (z : Row). Leads (length old / 3) k old (uses_by used (indexed m r 0 (siblings ns from until))) at' mid' (uses_by used (indexed m r (index + 1) (siblings ns (i + z.size) until)))) (sym is)
                 (leads-on (l.left x) (one_use used s) (uses_by used rest) (ap (uses_by used) (sites-open m r index here) ∙ uses-one used s rest)
-                (subst (λ (es : List Use). Puts places at es mid mid' at') own p));
+                (subst (λ (es : List Use). Puts (length old / 3) at es mid mid' at') own (puts-places _ _ l.long p)));
           }
 
--- ---- The loop of `skip`
-pub record SkipLeft (ns : List ℕ) (from until count i left : ℕ) : Type 0 where
-  pub before : Whole ns from i
-  pub after : Whole ns i until
-  pub counted : breadth (siblings ns from i) + left ≡ count
+-- the walk has given a tree, and its entry is put or it has none
+module _ {ns near : List ℕ} {m r from until k : ℕ} {old mid : List ℕ} {s : Siblings} {index at : ℕ} (o : Over ns until s) (l : TreesLeft ns near m r from until k old mid s.at index at)
+    {i : ℕ} {node : read.Node} {t : Siblings} (x : NextTree s i node t) {j j' : ℕ} (is : j ≡ index) (on : j' ≡ index + 1) where
+  pub trees-on : {mid' : List ℕ} {at' : ℕ} → Puts (length mid / 3) at (of_tree near i (i + node.size) (record { method = m; result = r; index = j })) mid mid' at' →
+      TreesLeft ns near m r from until k old mid' t.at j' at'
+  trees-on {mid'} {at'} p =
+      let there = subst (λ (n : ℕ). Puts (length mid / 3) at (of_tree near n (n + node.size) (record { method = m; result = r; index = j })) mid mid' at') x.place p in
+      let here' = subst (λ (n : ℕ). Puts (length mid / 3) at (of_tree near s.at (s.at + node.size) (record { method = m; result = r; index = n })) mid mid' at') is there in
+      subst (λ (n : ℕ). TreesLeft ns near m r from until k old mid' n j' at') (sym (next-at o x))
+      (subst (λ (n : ℕ). TreesLeft ns near m r from until k old mid' (s.at + node.size) n at') (sym on) (trees-step l (walks.here o x) (as_row node) (walks.row o x) here'))
 
-pub skip-start : {ns : List ℕ} {from until : ℕ} (count : ℕ) → Whole ns from until → SkipLeft ns from until count from count
+-- ---- A walk that has passed `seen` trees
+record SkipLeft (ns : List ℕ) (from until i seen : ℕ) : Type 0 where
+  before : Whole ns from i
+  after : Whole ns i until
+  counted : breadth (siblings ns from i) ≡ seen
+
+skip-start : {ns : List ℕ} {from until : ℕ} → Whole ns from until → SkipLeft ns from until from 0
 unfolding breadth
-skip-start {ns} {from} {until} count w =
+skip-start {ns} {from} {until} w =
     record {
       before = nothing ns from from refl (record { held = omega (arith, w.within.held, w.ordered); few = w.within.few });
       after = w;
-      counted = rw (siblings-none ns from from (omega arith)) (omega arith);
+      counted = rw (siblings-none ns from from (omega arith)) refl;
     }
 
-module _ {ns : List ℕ} {from until count i left : ℕ} (l : SkipLeft ns from until count i left) where
-  pub skip-stop : left ≡ 0 → SkipsTo ns from until count i
-  skip-stop z = record { before = l.before; after = l.after; least = omega (arith, l.counted); enough = λ h. omega (arith, l.counted) }
+skip-on : {ns : List ℕ} {from until i seen : ℕ} → SkipLeft ns from until i seen → i < until → SkipLeft ns from until (i + (row_at ns i).size) (seen + 1)
+unfolding breadth
+skip-on {ns} {from} {until} {i} l h =
+    let o = opens l.after h in
+    record {
+      before = whole-join l.before (tree-whole o.here);
+      after = o.rest;
+      counted = rw (siblings-join l.before (tree-whole o.here), breadth-beside (siblings ns from i) (tree_at ns i), tree-opens o.here) (omega (arith, l.counted));
+    }
 
-  pub skip-end : until ≤ i → SkipsTo ns from until count i
-  skip-end h = record { before = l.before; after = l.after; least = omega (arith, l.counted); enough = λ q. absurd (omega arith) }
+-- what it gives passes over so many
+passes : {ns : List ℕ} {from until seen : ℕ} {s t : Siblings} (xs : List (ℕ × read.Node)) → Yields Walks s xs t → Over ns until s → SkipLeft ns from until s.at seen →
+    Over ns until t × SkipLeft ns from until t.at (seen + length xs)
+passes {ns} {from} {until} {seen} {s} [] e o l =
+    let P : Siblings → Type 0 = λ (q : Siblings). Over ns until q × SkipLeft ns from until q.at (seen + 0) in
+    subst P e (o, subst (λ (n : ℕ). SkipLeft ns from until s.at n) (sym (add-zero seen)) l)
+passes {ns} {from} {until} {seen} {s} {t} (y ∷ ys) (j, x, e) o l =
+    let on = subst (λ (n : ℕ). SkipLeft ns from until n (seen + 1)) (sym (walks.at o x)) (skip-on l (walks.here o x)) in
+    let q = passes {seen = seen + 1} ys e (walks.over-next o x) on in
+    let n : seen + 1 + length ys ≡ seen + suc (length ys) = omega arith in
+    (q.0, subst (SkipLeft ns from until t.at) n q.1)
 
-  module _ (h : i < until) where
-    skipped : Opened ns i until
-    skipped = opens l.after h
+module _ {ns : List ℕ} {from until : ℕ} (w : Whole ns from until) {s : Siblings} (o : Over ns until s) (start : s.at ≡ from) where
+  begun : SkipLeft ns from until s.at 0
+  begun = subst (λ (n : ℕ). SkipLeft ns from until n 0) (sym start) (skip-start w)
 
-    pub skip-within : Within ns (i + 1)
-    skip-within = node-within skipped.here
+  -- the tree after so many
+  pub skip-some : {count n : ℕ} {node : read.Node} {u : Siblings} → SkipsThenYields Walks s count (Some (n, node)) u → SkipsTo ns from until count n
+  skip-some {count} {n} (xs, (t, e, x), long) =
+      let q = passes xs e o begun in
+      subst (SkipsTo ns from until count) (sym x.place)
+      record { before = q.1.before; after = q.1.after; least = omega (arith, q.1.counted, long); enough = λ h. omega (arith, q.1.counted, long) }
 
-    module _ (q : Row) (is : q ≡ row_at ns i) where
-      pub skip-next : (i < i + q.size) × (i + q.size ≤ until)
-      skip-next = rw is (omega (arith, skipped.here.one), skipped.rest.ordered)
-
-      pub skip-on : (left ≡ 0 → ⊥) → SkipLeft ns from until count (i + q.size) (left - 1)
-      unfolding breadth
-      skip-on z =
-          rw is
-          record {
-            before = whole-join l.before (tree-whole skipped.here);
-            after = skipped.rest;
-            counted = rw (siblings-join l.before (tree-whole skipped.here), breadth-beside (siblings ns from i) (tree_at ns i), tree-opens skipped.here) (omega (arith, l.counted));
-          }
+  -- the end, where there are no more
+  pub skip-none : {count : ℕ} {u : Siblings} → SkipsThenYields Walks s count None u → SkipsTo ns from until count until
+  skip-none (xs, (t, e, x), long) =
+      let q = passes xs e o begun in
+      let l = subst (λ (n : ℕ). SkipLeft ns from until n (0 + length xs)) (walks.last q.0 x) q.1 in
+      record { before = l.before; after = l.after; least = omega (arith, l.counted, long); enough = λ h. absurd (omega arith) }

@@ -1,74 +1,61 @@
 -- Names by their flags. Assumes nothing.
 --     flags-ascending          flags that tell a set give its names, ascending
---     FlagsLeft, flags-..      the loop that lists them
+--     flagged-on               one name more
+--     ListedTo, listed-..      the loop that lists them
 use mathlib.Core.Path.{◌≡◌, refl, sym, ap, ◌∙◌}
-use mathlib.Core.Bool.{cond}
-use mathlib.Core.List.{List, [], ◌∷◌, ◌++◌, append_assoc, append-nil}
-use Prim.Native.Nat.{ℕ, zero, suc, ◌+◌, ◌-◌, ◌≤◌, ◌<◌}
-use native.Mathlib.Nat.{sub-zero}
-use native.Mathlib.Numerals.{add-one}
+use mathlib.Core.Bool.{Bool, true, false, cond}
+use mathlib.Core.List.{List, [], ◌∷◌, ◌++◌, append-nil}
+use Prim.Native.Nat.{ℕ, zero, suc, ◌+◌, ◌≤◌}
 use native.Mathlib.Omega.{arith}
 use borrow.Author.Tests.{eq-eqb, ne_eqb}
-use lib.ListN.{length, take, get_or, set, length-set, length-replicate}
-use lib.Seq.{take-suc-set}
+use Rattle.std.proofs.Common.{length, get_or, length-append}
 use Rattle.book.specs.Tables.{is_set, flagged}
 use Rattle.listing.specs.Recursive.{sorted}
 use Rattle.analysis.specs.Book.{Agrees}
-use Rattle.analysis.specs.Handed.{no_names}
 
 pub flags-ascending : (flags l : List ℕ) → Agrees flags l → (n k : ℕ) → n + k ≤ 1024 → flagged flags n k ≡ sorted l n k
 unfolding flagged sorted
 flags-ascending flags l h n zero le = refl
 flags-ascending flags l h n (suc k) le = rw (h n (omega arith), flags-ascending flags l h (suc n) k (omega arith))
 
--- ---- One name more
-flagged-none : (flags : List ℕ) (n : ℕ) → flagged flags n 0 ≡ []
+-- the name, where its flag is set
+abbrev flagged_at : List ℕ → ℕ → List ℕ
+flagged_at flags n = cond (is_set flags n) (n ∷ []) []
+
+pub flagged-on : (flags : List ℕ) (n k : ℕ) → flagged flags n (suc k) ≡ flagged flags n k ++ flagged_at flags (n + k)
 unfolding flagged
-flagged-none flags n = refl
+flagged-on flags n zero = let z : n ≡ n + 0 = omega arith in ap (flagged_at flags) z
+flagged-on flags n (suc k) =
+    let z : suc n + k ≡ n + suc k = omega arith in
+    look (is_set flags n) (flagged-on flags (suc n) k ∙ ap (λ (m : ℕ). flagged flags (suc n) k ++ flagged_at flags m) z)
+  where
+    look : (b : Bool) → flagged flags (suc n) (suc k) ≡ flagged flags (suc n) k ++ flagged_at flags (n + suc k) →
+        cond b (n ∷ flagged flags (suc n) (suc k)) (flagged flags (suc n) (suc k))
+        ≡ cond b (n ∷ flagged flags (suc n) k) (flagged flags (suc n) k) ++ flagged_at flags (n + suc k)
+    look true e = ap (λ (l : List ℕ). n ∷ l) e
+    look false e = e
 
-module _ (flags : List ℕ) (n names : ℕ) (h : n < names) where
-  flagged-opens : flagged flags n (names - n) ≡ cond (is_set flags n) (n ∷ flagged flags (n + 1) (names - (n + 1))) (flagged flags (n + 1) (names - (n + 1)))
-  unfolding flagged
-  flagged-opens = let e : names - n ≡ suc (names - (n + 1)) = omega arith in rw (e, add-one)
+-- ---- The loop that lists them
+pub record ListedTo (flags list : List ℕ) (n : ℕ) : Type 0 where
+  pub few : length list ≤ n
+  pub so_far : list ≡ flagged flags 0 n
 
--- ---- The loop: what is listed, and then the names that are left
-pub record FlagsLeft (flags : List ℕ) (names : ℕ) (list : List ℕ) (len n : ℕ) : Type 0 where
-  pub few : len ≤ n
-  pub passed : n ≤ names
-  pub long : length list ≡ 1024
-  pub rest : take len list ++ flagged flags n (names - n) ≡ flagged flags 0 names
+pub listed-none : {flags list : List ℕ} → list ≡ [] → ListedTo flags list 0
+unfolding flagged
+listed-none e = record { few = omega (arith, ap length e); so_far = e }
 
-pub no-names-length : length no_names ≡ 1024
-unfolding no_names
-no-names-length = length-replicate {A = ℕ} 1024 0
+module _ {flags list : List ℕ} {n : ℕ} (l : ListedTo flags list n) where
+  more : flagged flags 0 (n + 1) ≡ list ++ flagged_at flags n
+  more =
+      let z : n + 1 ≡ suc n = omega arith in
+      let o : 0 + n ≡ n = omega arith in
+      ap (flagged flags 0) z ∙ flagged-on flags 0 n ∙ ap (λ (m : ℕ). flagged flags 0 n ++ flagged_at flags m) o
+      ∙ ap (λ (k : List ℕ). k ++ flagged_at flags n) (sym l.so_far)
 
-module _ {flags : List ℕ} {names : ℕ} where
-  pub flags-start : FlagsLeft flags names no_names 0 0
-  flags-start = record { few = omega arith; passed = omega arith; long = no-names-length; rest = ap (flagged flags 0) (sub-zero names) }
+  pub listed-skip : (get_or flags n 0 ≡ 1 → ⊥) → ListedTo flags list (n + 1)
+  listed-skip h =
+      record { few = omega (arith, l.few); so_far = sym (append-nil list) ∙ sym (rw (ne_eqb (get_or flags n 0) 1 h) at more) }
 
-  module _ {list : List ℕ} {len n : ℕ} (l : FlagsLeft flags names list len n) where
-    pub flags-skip : n < names → (get_or flags n 0 ≡ 1 → ⊥) → FlagsLeft flags names list len (n + 1)
-    flags-skip h k =
-        record {
-          few = omega arith;
-          passed = omega arith;
-          long = l.long;
-          rest = sym (ap (λ (r : List ℕ). take len list ++ r) (flagged-opens flags n names h ∙ rw (ne_eqb (get_or flags n 0) 1 k))) ∙ l.rest;
-        }
-
-    pub flags-on : names ≤ 1024 → n < names → get_or flags n 0 ≡ 1 → FlagsLeft flags names (set list len n) (len + 1) (n + 1)
-    flags-on small h k =
-        let i : len < length list = omega arith in
-        record {
-          few = omega arith;
-          passed = omega arith;
-          long = length-set list len n ∙ l.long;
-          rest =
-              rw (add-one len, take-suc-set list len n i, append_assoc (take len list) (n ∷ []) (flagged flags (n + 1) (names - (n + 1))))
-              (sym (ap (λ (r : List ℕ). take len list ++ r) (flagged-opens flags n names h ∙ rw (eq-eqb (get_or flags n 0) 1 k))) ∙ l.rest);
-        }
-
-    pub flags-end : names ≤ n → take len list ≡ flagged flags 0 names
-    flags-end h =
-        let e : names - n ≡ 0 = omega arith in
-        sym (append-nil (take len list)) ∙ sym (ap (λ (r : List ℕ). take len list ++ r) (ap (flagged flags n) e ∙ flagged-none flags n)) ∙ l.rest
+  pub listed-on : get_or flags n 0 ≡ 1 → ListedTo flags (list ++ (n ∷ [])) (n + 1)
+  listed-on h =
+      record { few = omega (arith, l.few, length-append list (n ∷ [])); so_far = sym (rw (eq-eqb (get_or flags n 0) 1 h) at more) }

@@ -1,31 +1,22 @@
 -- What a walk that is over answers. Assumes nothing.
 --     hand-stopped              the walk was stopped: the question is refused
---     hand-given, hand-short    it was not: the question is answered by the names listed, for which there was room
-use mathlib.Core.Path.{◌≡◌, sym, ap, ◌∙◌}
-use mathlib.Core.Bool.{true, false}
+--     hand-given                it was not: the question is answered by the names listed
+use mathlib.Core.Path.{◌≡◌, sym, ap}
 use mathlib.Core.List.{List}
-use Prim.Native.Nat.{ℕ, ◌≤◌}
-use native.Mathlib.Omega.{arith}
-use lib.ListN.{length, take}
+use Rattle.std.proofs.Common.{Ok, Err}
 use Rattle.format.specs.Book.{Definition}
-use Rattle.refusals.specs.declared.Refusal as refusal
-use Rattle.listing.specs.Chase.{Walk as State, walked}
+use Rattle.refusals.specs.declared.Refusal.{Refusal}
+use Rattle.listing.specs.Chase.{Walk as State, going, unbound, walked}
 use Rattle.refusals.specs.Outcome.{refused, given}
 use Rattle.analysis.specs.declared.chase.Walk.{Walk}
 use Rattle.analysis.specs.Walking.{Holds}
-use Rattle.analysis.proofs.chase.Steps.{holds-goes, holds-stopped, goes-short}
 
--- ---- A walk that is over
+pub hand-stopped : (ds : List Definition) (s : State) (why : Refusal) → Holds ds s (Err why) → walked s ≡ refused why
+unfolding walked
+hand-stopped ds (going seen out) why h = absurd h
+hand-stopped ds (unbound n) why h = ap refused (sym h)
 
-module _ (ds : List Definition) (s : State) (r : Walk) (h : Holds ds 0 s r) where
-  pub hand-stopped : r.stopped ≡ true → walked s ≡ refused (refusal.Refusal.Unbound r.bad)
-  unfolding walked
-  hand-stopped f = let p = holds-stopped ds 0 s r h f in ap walked p.is ∙ ap (λ (n : ℕ). refused (refusal.Refusal.Unbound n)) (sym p.bad)
-
-  module _ (f : r.stopped ≡ false) where
-    pub hand-given : walked s ≡ given (take r.len r.list)
-    unfolding walked
-    hand-given = let g = holds-goes ds 0 s r h f in ap walked g.is ∙ ap given (sym g.goes.listed)
-
-    pub hand-short : length ds ≤ 512 → r.len ≤ 512
-    hand-short few = let g = holds-goes ds 0 s r h f in omega (arith, g.goes.slack, goes-short ds 0 g.goes)
+pub hand-given : (ds : List Definition) (s : State) (w : Walk) → Holds ds s (Ok w) → walked s ≡ given w.listed.items
+unfolding walked
+hand-given ds (going seen out) w h = ap given (sym h.listed)
+hand-given ds (unbound n) w h = absurd h

@@ -1,26 +1,27 @@
 -- The asked names of a projection as counts. Assumes nothing.
---     asked-start, asked-on, asked-end     counting a list
+--     counts-start, counts-name, counts-other, counts-end   counting a list
 --     member-none, member-some             whether a name is still asked for
 --     asking-shrunk                        one asked name less
---     lowest-found, lowest-end             the lowest number still asked for
-use mathlib.Core.Path.{◌≡◌, refl, sym, ap, ap₂, subst, ◌∙◌}
-use mathlib.Core.Logic.{◌⊎◌, inl, inr}
+--     farthest-is, lowest-is               the lowest number that is no name, and the lowest one still asked for
+use mathlib.Core.Path.{◌≡◌, refl, sym, ap, ◌∙◌}
 use mathlib.Core.Bool.{Bool, true, false, cond}
 use mathlib.Core.List.{List, [], ◌∷◌}
-use Prim.Native.Nat.{ℕ, suc, ◌+◌, ◌-◌, ◌≤◌, ◌<◌}
+use Prim.Native.Nat.{ℕ, zero, suc, ◌+◌, ◌-◌, ◌≤◌, ◌<◌}
 use native.Mathlib.Decide.{ℕ_discrete, dec_lt}
-use native.Mathlib.Nat.{pos_of_ne-zero, min-eq_left, min-eq_right}
+use native.Mathlib.Nat.{pos_of_ne-zero}
 use native.Mathlib.Numerals.{add-one}
 use native.Mathlib.Omega.{arith}
-use borrow.Author.Tests.{eq-eqb, ne_eqb, lt-ltb, le-ltb}
-use lib.Dec.{T, ltb}
-use lib.ListN.{length, get_or, set, drop, length-set, length-replicate, get_or-replicate, get_or-eq_default, drop_of_length-le}
+use lib.Dec.{T, leb}
+use lib.ListN.{length, get_or, set, drop, replicate, length-set, length-replicate, get_or-replicate, drop_of_length-le}
 use lib.Seq.{drop-cons, get_or-set_same, get_or-set_other}
+use Rattle.std.specs.Prelude.{Option, Some, None}
+use Rattle.std.specs.Option.{option_or}
+use Rattle.std.specs.List.{Contains}
+use Rattle.std.proofs.lemmas.Bool.{leb-true, le-leb}
 use Rattle.judgement.specs.Check.{member}
-use Rattle.book.specs.Tables.{no_flags}
 use Rattle.listing.specs.Project.{one, times, without, shrink, lowest, left_over}
 use Rattle.listing.proofs.Project.{one-same, one-other, member-times, without-times, shrink-times, listed-times, lowest-least, lowest-listed}
-use Rattle.analysis.specs.Projecting.{Asking, count_one, lower_far, outcome_of, LowestAs}
+use Rattle.analysis.specs.Projecting.{FarthestAs, far_numbers, LowestFar, FirstLeft, Asking, outcome_of}
 
 -- ---- How often a name stands in a list
 times-cons : (n m : ℕ) (l : List ℕ) → times n (m ∷ l) ≡ one n m + times n l
@@ -40,8 +41,17 @@ shrunk-times : (n : ℕ) (l : List ℕ) (k : ℕ) → times k (cond (member n l)
 unfolding shrink
 shrunk-times n l k = shrink-times without without-times n l k
 
+-- A name less leaves the other numbers.
+farther : (n : ℕ) (l : List ℕ) → n < 1024 → (far : Option ℕ) → FarthestAs far l → FarthestAs far (cond (member n l) (without n l) l)
+farther n l h None a = λ m k s. a m k (omega (arith, shrunk-times n l m))
+farther n l h (Some f) a = (
+  a.0,
+  omega (arith, a.1, shrunk-times n l f, one-other f n (λ e. absurd (omega (arith, a.0)))),
+  λ m k s. a.2 m k (omega (arith, shrunk-times n l m)),
+)
+
 -- ---- Names that are asked for
-module _ {left : List ℕ} {far : ℕ} {l : List ℕ} (a : Asking left far l) {n : ℕ} (h : n < 1024) where
+module _ {left : List ℕ} {far : Option ℕ} {l : List ℕ} (a : Asking left far l) {n : ℕ} (h : n < 1024) where
   pub member-none : get_or left n 0 ≡ 0 → member n l ≡ false
   member-none e = go (member n l) (member-times n l).0
     where
@@ -60,10 +70,7 @@ module _ {left : List ℕ} {far : ℕ} {l : List ℕ} (a : Asking left far l) {n
   asking-shrunk q =
       record {
         counted = λ m k. omega (arith, q m k, a.counted m k, shrunk-times n l m);
-        few = a.few;
-        listed = λ k. let p = a.listed k in (p.0, omega (arith, p.1, shrunk-times n l far, one-other far n (λ e. absurd (omega (arith, p.0)))));
-        least = λ m k s. a.least m k (omega (arith, shrunk-times n l m));
-        small = λ m s. a.small m (omega (arith, shrunk-times n l m));
+        farthest = farther n l h far a.farthest;
       }
 
 -- the counts where a name is not asked for, and where it is asked for once less
@@ -81,191 +88,98 @@ less-counts left n h m =
       | no q ↦ get_or-set_other left n m (get_or left n 0 - 1) 0 q ∙ omega (arith, one-other m n q)
     ]
 
--- ---- Counting a list
-pub count-name : (n : ℕ) (left : List ℕ) → n < 1024 → set left n (get_or left n 0 + 1) ≡ count_one n left
-unfolding count_one
-count-name n left h = rw (lt-ltb n 1024 h)
-
-pub count-other : (n : ℕ) (left : List ℕ) → 1024 ≤ n → left ≡ count_one n left
-unfolding count_one
-count-other n left h = rw (le-ltb n 1024 h)
-
-pub far-name : (n far : ℕ) → n < 1024 → far ≡ lower_far n far
-unfolding lower_far
-far-name n far h = rw (lt-ltb n 1024 h)
-
-pub far-lower : (n far : ℕ) → 1024 ≤ n → n < far → n ≡ lower_far n far
-unfolding lower_far
-far-lower n far h l = rw (le-ltb n 1024 h) (sym (min-eq_right {n = n} {m = far} (omega arith)))
-
-pub far-higher : (n far : ℕ) → 1024 ≤ n → far ≤ n → far ≡ lower_far n far
-unfolding lower_far
-far-higher n far h l = rw (le-ltb n 1024 h) (sym (min-eq_left {n = far} {m = n} l))
-
--- which of the two it is
-abbrev Lower : ℕ → ℕ → Type 0
-Lower n far = ((lower_far n far ≡ far) × (1024 ≤ n → far ≤ n)) ⊎ ((lower_far n far ≡ n) × (1024 ≤ n) × (n < far))
-
-lower-either : (n far : ℕ) → Lower n far
-lower-either n far = go (dec_lt n 1024) (dec_lt n far)
-  where
-    go : Dec (n < 1024) → Dec (n < far) → Lower n far
-    go (yes h) d = inl (sym (far-name n far h), λ k. absurd (omega arith))
-    go (no h) (yes d) = inr (sym (far-lower n far (omega arith) d), omega arith, d)
-    go (no h) (no d) = inl (sym (far-higher n far (omega arith) (omega arith)), λ k. omega arith)
-
-count-times : (n : ℕ) (left : List ℕ) → length left ≡ 1024 → (m : ℕ) → m < 1024 → get_or (count_one n left) m 0 ≡ get_or left m 0 + one m n
-count-times n left long m k = go (dec_lt n 1024) (ℕ_discrete m n)
-  where
-    go : Dec (n < 1024) → Dec (m ≡ n) → get_or (count_one n left) m 0 ≡ get_or left m 0 + one m n
-    go (yes h) (yes q) = rw (← count-name n left h, one-same m n q, q) (get_or-set_same left n (get_or left n 0 + 1) 0 (omega arith))
-    go (yes h) (no q) = rw (← count-name n left h) (get_or-set_other left n m (get_or left n 0 + 1) 0 q ∙ omega (arith, one-other m n q))
-    go (no h) d = rw (← count-other n left (omega arith)) (omega (arith, one-other m n (λ e. absurd (omega arith))))
-
-count-length : (n : ℕ) (left : List ℕ) → length (count_one n left) ≡ length left
-unfolding count_one
-count-length n left = go (ltb n 1024)
-  where
-    go : (b : Bool) → length (cond b (set left n (get_or left n 0 + 1)) left) ≡ length left
-    go true = length-set left n (get_or left n 0 + 1)
-    go false = refl
-
--- a list whose numbers from i on are still to be counted
-pub record AskedLeft (list left : List ℕ) (far i : ℕ) : Type 0 where
-  pub inside : i ≤ length list
+-- ---- Counting a list: the numbers from i on are still to be counted
+pub record CountsLeft (list left : List ℕ) (i : ℕ) : Type 0 where
   pub long : length left ≡ 1024
   pub counted : (n : ℕ) → n < 1024 → get_or left n 0 + times n (drop i list) ≡ times n list
-  pub part : (n : ℕ) → times n (drop i list) ≤ times n list
-  pub few : far ≤ 65536
-  pub listed : far < 65536 → (1024 ≤ far) × (0 < times far list)
-  pub least : (n : ℕ) → 1024 ≤ n → times n (drop i list) < times n list → far ≤ n
 
-pub asked-start : (list left : List ℕ) → left ≡ no_flags → AskedLeft list left 65536 0
-unfolding no_flags
-asked-start list left e =
-    record {
-      inside = omega arith;
-      long = rw e (length-replicate {A = ℕ} 1024 0);
-      counted = λ n h. omega (arith, ap (λ (q : List ℕ). get_or q n 0) e ∙ get_or-replicate {A = ℕ} 1024 n 0 0 h);
-      part = λ n. omega arith;
-      few = omega arith;
-      listed = λ h. absurd (omega arith);
-      least = λ n h k. absurd (omega arith);
-    }
+pub counts-start : (list : List ℕ) → CountsLeft list (replicate 1024 0) 0
+counts-start list =
+    record { long = length-replicate {A = ℕ} 1024 0; counted = λ n h. omega (arith, get_or-replicate {A = ℕ} 1024 n 0 0 h) }
 
-module _ {list left : List ℕ} {far i : ℕ} (a : AskedLeft list left far i) where
-  module _ (h : i < length list) (n : ℕ) (is : n ≡ get_or list i 0) where
+module _ {list left : List ℕ} {i : ℕ} (a : CountsLeft list left i) where
+  module _ (h : i < length list) where
     -- the number at i, and those after it
-    here : (m : ℕ) → times m (drop i list) ≡ one m n + times m (drop (i + 1) list)
+    here : (m : ℕ) → times m (drop i list) ≡ one m (get_or list i 0) + times m (drop (i + 1) list)
     here m =
         ap (times m) (drop-cons list i 0 h) ∙ times-cons m (get_or list i 0) (drop (suc i) list)
-        ∙ ap₂ (λ (x j : ℕ). one m x + times m (drop j list)) (sym is) (sym (add-one i))
+        ∙ ap (λ (j : ℕ). one m (get_or list i 0) + times m (drop j list)) (sym (add-one i))
 
-    pub counts-few : length list < 18446744073709551615 → get_or left n 0 + 1 < 18446744073709551616
-    counts-few l = go (dec_lt n 1024)
-      where
-        go : Dec (n < 1024) → get_or left n 0 + 1 < 18446744073709551616
-        go (yes k) = omega (arith, a.counted n k, here n, one-same n n refl, times-length n list)
-        go (no k) = omega (arith, get_or-eq_default left 0 {n = n} (omega (arith, a.long)))
+    pub counts-few : (n : ℕ) → n < 1024 → get_or left n 0 ≤ length list
+    counts-few n k = omega (arith, a.counted n k, times-length n list)
 
-    pub asked-on : {left' : List ℕ} {far' : ℕ} → left' ≡ count_one n left → far' ≡ lower_far n far → AskedLeft list left' far' (i + 1)
-    asked-on {left'} {far'} e f =
+    pub counts-other : 1024 ≤ get_or list i 0 → CountsLeft list left (i + 1)
+    counts-other o =
+        record { long = a.long; counted = λ m k. omega (arith, a.counted m k, here m, one-other m (get_or list i 0) (λ e. absurd (omega arith))) }
+
+    pub counts-name : get_or list i 0 < 1024 → CountsLeft list (set left (get_or list i 0) (get_or left (get_or list i 0) 0 + 1)) (i + 1)
+    counts-name s =
+        let n = get_or list i 0 in
         record {
-          inside = omega arith;
-          long = ap length e ∙ count-length n left ∙ a.long;
-          counted = λ m k. omega (arith, ap (λ (q : List ℕ). get_or q m 0) e, count-times n left a.long m k, here m, a.counted m k);
-          part = λ m. omega (arith, here m, a.part m);
-          few = fewer (lower-either n far);
-          listed = shows (lower-either n far);
-          least = λ m k s. lowest' (lower-either n far) m k s (ℕ_discrete m n);
+          long = length-set left n (get_or left n 0 + 1) ∙ a.long;
+          counted = λ m k. omega (arith, a.counted m k, here m, more m (ℕ_discrete m n));
         }
       where
-        fewer : Lower n far → far' ≤ 65536
-        fewer (inl x) = omega (arith, f, x.0, a.few)
-        fewer (inr x) = omega (arith, f, x.0, x.2, a.few)
+        more : (m : ℕ) → Dec (m ≡ get_or list i 0) → get_or (set left (get_or list i 0) (get_or left (get_or list i 0) 0 + 1)) m 0 ≡ get_or left m 0 + one m (get_or list i 0)
+        more m (yes q) = rw (one-same m (get_or list i 0) q, q) (get_or-set_same left (get_or list i 0) (get_or left (get_or list i 0) 0 + 1) 0 (omega (arith, a.long)))
+        more m (no q) = get_or-set_other left (get_or list i 0) m (get_or left (get_or list i 0) 0 + 1) 0 q ∙ omega (arith, one-other m (get_or list i 0) q)
 
-        shows : Lower n far → far' < 65536 → (1024 ≤ far') × (0 < times far' list)
-        shows (inl x) k = subst (λ (z : ℕ). (1024 ≤ z) × (0 < times z list)) (sym (f ∙ x.0)) (a.listed (omega (arith, f, x.0)))
-        shows (inr x) k = subst (λ (z : ℕ). (1024 ≤ z) × (0 < times z list)) (sym (f ∙ x.0)) (x.1, omega (arith, here n, one-same n n refl, a.part n))
-
-        lowest' : Lower n far → (m : ℕ) → 1024 ≤ m → times m (drop (i + 1) list) < times m list → Dec (m ≡ n) → far' ≤ m
-        lowest' (inl x) m k s (yes q) = omega (arith, f, x.0, x.1 (omega arith))
-        lowest' (inr x) m k s (yes q) = omega (arith, f, x.0)
-        lowest' (inl x) m k s (no q) = omega (arith, f, x.0, a.least m k (omega (arith, here m, one-other m n q)))
-        lowest' (inr x) m k s (no q) = omega (arith, f, x.0, x.2, a.least m k (omega (arith, here m, one-other m n q)))
-
-  pub asked-end : length list ≤ i → ((k : ℕ) → get_or list k 0 < 65536) → Asking left far list
+  pub counts-end : length list ≤ i → (n : ℕ) → n < 1024 → get_or left n 0 ≡ times n list
   unfolding times
-  asked-end h bytes =
-      record {
-        counted = λ n k. omega (arith, a.counted n k, over n);
-        few = a.few;
-        listed = a.listed;
-        least = λ n k s. a.least n k (omega (arith, over n));
-        small = λ n s. small-of list bytes n s;
-      }
-    where
-      over : (n : ℕ) → times n (drop i list) ≡ 0
-      over n = ap (times n) (drop_of_length-le list {i = i} h)
+  counts-end h n k = omega (arith, a.counted n k, ap (times n) (drop_of_length-le list {i = i} h))
 
-      small-of : (l : List ℕ) → ((k : ℕ) → get_or l k 0 < 65536) → (n : ℕ) → 0 < times n l → n < 65536
-      small-of [] b n s = absurd (omega (arith, times-length n []))
-      small-of (m ∷ l) b n s =
-          elim (ℕ_discrete n m) [
-            | yes q ↦ omega (arith, b 0)
-            | no q ↦ small-of l (λ k. b (suc k)) n (omega (arith, times-cons n m l, one-other n m q))
-          ]
+-- ---- The lowest number that is no name
+-- a number that is none stands among those of the list that are none
+kept-on : (b : Bool) (m : ℕ) (ms : List ℕ) (n : ℕ) → Contains ms n → Contains (cond b (m ∷ ms) ms) n
+kept-on true m ms n c = (suc c.0, omega (arith, c.1), c.2)
+kept-on false m ms n c = c
+
+far-in : (n : ℕ) → 1024 ≤ n → (l : List ℕ) → 0 < times n l → Contains (far_numbers l) n
+far-in n h [] s = absurd (omega (arith, times-length n []))
+far-in n h (m ∷ l) s =
+    elim (ℕ_discrete n m) [
+      | yes e ↦ rw (le-leb 1024 m (omega arith)) (0, omega arith, sym e)
+      | no e ↦ kept-on (leb 1024 m) m (far_numbers l) n (far-in n h l (omega (arith, times-cons n m l, one-other n m e)))
+    ]
+
+far-out : (n : ℕ) (l : List ℕ) → Contains (far_numbers l) n → (1024 ≤ n) × (0 < times n l)
+far-out n [] c = absurd (omega (arith, c.1))
+far-out n (m ∷ l) c = go (leb 1024 m) (leb-true 1024 m) (λ d. far-out n l d) c
+  where
+    go : (b : Bool) → (b ≡ true → 1024 ≤ m) → (Contains (far_numbers l) n → (1024 ≤ n) × (0 < times n l)) → Contains (cond b (m ∷ far_numbers l) (far_numbers l)) n →
+        (1024 ≤ n) × (0 < times n (m ∷ l))
+    go true t later (zero, lt, is) = (omega (arith, t refl), omega (arith, times-cons n m l, one-same n m (sym is)))
+    go true t later (suc k, lt, is) = let r = later (k, omega arith, is) in (r.0, omega (arith, r.1, times-cons n m l))
+    go false t later c = let r = later c in (r.0, omega (arith, r.1, times-cons n m l))
+
+pub farthest-is : (l : List ℕ) (r : Option ℕ) → LowestFar r l → FarthestAs r l
+farthest-is l None q = λ n h s. let c = far-in n h l s in absurd (omega (arith, c.1))
+farthest-is l (Some f) q =
+    let r = far-out f l q.0 in
+    (r.0, r.1, λ n h s. let c = far-in n h l s in omega (arith, q.1 c.0 n c.1, c.2))
 
 -- ---- The lowest number still asked for
-lowest-is : (l : List ℕ) (r : ℕ) → (r < 65536 → 0 < times r l) → ((m : ℕ) → 0 < times m l → r ≤ m) → r ≤ 65536 → ((m : ℕ) → 0 < times m l → m < 65536) →
-    (taken : List ℕ) → left_over l taken ≡ outcome_of r taken
+lowest-none : (l : List ℕ) → ((m : ℕ) → 0 < times m l → ⊥) → (taken : List ℕ) → left_over l taken ≡ outcome_of None taken
 unfolding left_over
-lowest-is [] r some least few small taken = rw (eq-eqb r 65536 (all (dec_lt r 65536)))
-  where
-    all : Dec (r < 65536) → r ≡ 65536
-    all (yes h) = absurd (omega (arith, some h, times-length r []))
-    all (no h) = omega arith
-lowest-is (n ∷ l) r some least few small taken =
+lowest-none [] none taken = refl
+lowest-none (n ∷ l) none taken = absurd (none n (omega (arith, times-cons n n l, one-same n n refl)))
+
+lowest-some : (l : List ℕ) (r : ℕ) → 0 < times r l → ((m : ℕ) → 0 < times m l → r ≤ m) → (taken : List ℕ) → left_over l taken ≡ outcome_of (Some r) taken
+unfolding left_over
+lowest-some [] r some least taken = absurd (omega (arith, times-length r []))
+lowest-some (n ∷ l) r some least taken =
     let low = lowest n l in
     let k = (listed-times low (n ∷ l)).0 (lowest-listed n l) in
-    let s = small low k in
-    let i : r < 65536 = omega (arith, least low k) in
-    let e : low ≡ r = omega (arith, least low k, lowest-least n l r ((listed-times r (n ∷ l)).1 (some i))) in
-    rw (ne_eqb r 65536 (λ z. absurd (omega arith)), e)
+    let e : low ≡ r = omega (arith, least low k, lowest-least n l r ((listed-times r (n ∷ l)).1 some)) in
+    rw e
 
--- the names before n are not asked for
-pub record LowestLeft (left : List ℕ) (n : ℕ) : Type 0 where
-  pub few : n ≤ 1024
-  pub none : (m : ℕ) → m < n → get_or left m 0 ≡ 0
-
-pub lowest-start : (left : List ℕ) → LowestLeft left 0
-lowest-start left = record { few = omega arith; none = λ m h. absurd (omega arith) }
-
-module _ {left : List ℕ} {n : ℕ} (x : LowestLeft left n) where
-  before-none : (far : ℕ) (l : List ℕ) → Asking left far l → (m : ℕ) → 0 < times m l → n ≤ m
-  before-none far l a m s = go (dec_lt m n)
-    where
-      go : Dec (m < n) → n ≤ m
-      go (yes h) = absurd (omega (arith, x.none m h, a.counted m (omega (arith, x.few))))
-      go (no h) = omega arith
-
-  pub lowest-on : n < 1024 → get_or left n 0 ≡ 0 → LowestLeft left (n + 1)
-  lowest-on h e = record { few = omega arith; none = λ m k. go m k (ℕ_discrete m n) }
-    where
-      go : (m : ℕ) → m < n + 1 → Dec (m ≡ n) → get_or left m 0 ≡ 0
-      go m k (yes q) = rw q e
-      go m k (no q) = x.none m (omega arith)
-
-  pub lowest-found : n < 1024 → (get_or left n 0 ≡ 0 → ⊥) → (far : ℕ) → LowestAs left far n
-  lowest-found h e far =
-      record {
-        few = λ l a. omega arith;
-        is = λ l a. lowest-is l n (λ k. pos_of_ne-zero (λ z. e (a.counted n h ∙ z))) (before-none far l a) (omega arith) a.small;
-      }
-
-  pub lowest-end : 1024 ≤ n → (far : ℕ) → LowestAs left far far
-  lowest-end h far =
-      record {
-        few = λ l a. a.few;
-        is = λ l a. lowest-is l far (λ k. (a.listed k).1) (λ m s. a.least m (omega (arith, before-none far l a m s)) s) a.few a.small;
-      }
+-- the first name that is left, or where there is none the number that is no name
+pub lowest-is : (left : List ℕ) (first far : Option ℕ) → FirstLeft left first → (l : List ℕ) → Asking left far l → (taken : List ℕ) → left_over l taken ≡ outcome_of (option_or first far) taken
+lowest-is left (Some r) far q l a taken =
+    lowest-some l r (omega (arith, a.counted r q.0, pos_of_ne-zero q.1))
+    (λ m s. elim (dec_lt m r) [ yes h ↦ absurd (omega (arith, a.counted m (omega (arith, q.0)), q.2 m h)) | no h ↦ omega arith ]) taken
+lowest-is left None (Some f) q l a taken =
+    lowest-some l f a.farthest.1
+    (λ m s. elim (dec_lt m 1024) [ yes h ↦ absurd (omega (arith, a.counted m h, q m h)) | no h ↦ a.farthest.2 m (omega arith) s ]) taken
+lowest-is left None None q l a taken =
+    lowest-none l (λ m s. elim (dec_lt m 1024) [ yes h ↦ omega (arith, a.counted m h, q m h) | no h ↦ a.farthest m (omega arith) s ]) taken

@@ -24,6 +24,11 @@ pub record LinksLeft (ns : List ℕ) (nodes : ℕ) (old head next : List ℕ) (j
   pub links : LinksAs ns j head next
   pub others : KeptElse ns nodes old next
 
+-- the same tables under other names
+pub links-same : {ns : List ℕ} {nodes : ℕ} (old : List ℕ) {a b a' b' : List ℕ} (j : ℕ) → a ≡ a' → b ≡ b' → LinksLeft ns nodes old a' b' j → LinksLeft ns nodes old a b j
+links-same {ns} {nodes} old {a} {b} {a'} {b'} j e d l =
+    subst (λ (q : List ℕ). LinksLeft ns nodes old q b j) (sym e) (subst (λ (q : List ℕ). LinksLeft ns nodes old a' q j) (sym d) l)
+
 pub links-start : (ns : List ℕ) (nodes : ℕ) (head next : List ℕ) → head ≡ zero_table → length next ≡ 4097 → LinksLeft ns nodes next head next 0
 links-start ns nodes head next h n =
     record {
@@ -61,9 +66,6 @@ this {ns} {v} {j} q =
     }
 
 module _ {ns : List ℕ} {names nodes : ℕ} (k : Nodes ns names nodes) {old head next : List ℕ} {j : ℕ} (l : LinksLeft ns nodes old head next j) where
-  pub links-end : nodes ≤ j → LinksAs ns nodes head next
-  links-end h = let e : j ≡ nodes = omega (arith, l.passed) in subst (λ (i : ℕ). LinksAs ns i head next) e l.links
-
   module _ (lt : j < nodes) (t : Row) (is : t ≡ row_at ns j) where
     pub links-skip : (t.kind ≡ 18 → ⊥) → LinksLeft ns nodes old head next (j + 1)
     links-skip n =

@@ -7,11 +7,11 @@ use Prim.Native.Nat.{ℕ, ◌+◌, ◌≤◌, ◌<◌}
 use native.Mathlib.Decide.{ℕ_discrete, dec_lt}
 use native.Mathlib.Omega.{arith}
 use lib.Dec.{T, ltb}
-use lib.ListN.{length, get_or, set, length-set, length-replicate}
+use lib.ListN.{length, get_or, set, length-set}
 use lib.Seq.{get_or-set_same, get_or-set_other}
 use Rattle.format.specs.Encode.{Row}
 use Rattle.format.specs.Layout.{row_at}
-use Rattle.format.proofs.Logic.{eq-says, le-says}
+use Rattle.format.proofs.Logic.{le-says}
 use Rattle.format.proofs.References.{everywhere}
 use Rattle.environment.specs.Tables.{Nodes}
 use Rattle.analysis.specs.Reaching.{Hit, FirstHit, NearAs, KeptFrom, no_places}
@@ -23,35 +23,27 @@ name-small {i = i} k h t is e =
     omega (arith, n, k.few_names, ap (λ (r : Row). r.value) is)
 
 -- ---- One row before those that are done
-module _ {ns flags : List ℕ} {nodes i : ℕ} (h : i < nodes) {x : ℕ} (f : FirstHit ns flags (i + 1) nodes x) where
-  miss : (Hit ns flags i → ⊥) → FirstHit ns flags i nodes x
-  miss n =
-      record {
-        later = omega (arith, f.later);
-        inside = f.inside;
-        none = λ j l m q. go j l m q (ℕ_discrete j i);
-        some = f.some;
-      }
-    where
-      go : (j : ℕ) → i ≤ j → j < x → Hit ns flags j → Dec (j ≡ i) → ⊥
-      go j l m q (yes e) = n (subst (Hit ns flags) e q)
-      go j l m q (no d) = f.none j (omega arith) m q
+pub miss : {ns flags : List ℕ} {nodes i : ℕ} → i < nodes → {x : ℕ} → FirstHit ns flags (i + 1) nodes x → (Hit ns flags i → ⊥) → FirstHit ns flags i nodes x
+miss {ns} {flags} {nodes} {i} h {x} f n =
+    record {
+      later = omega (arith, f.later);
+      inside = f.inside;
+      none = λ j l m q. go j l m q (ℕ_discrete j i);
+      some = f.some;
+    }
+  where
+    go : (j : ℕ) → i ≤ j → j < x → Hit ns flags j → Dec (j ≡ i) → ⊥
+    go j l m q (yes e) = n (subst (Hit ns flags) e q)
+    go j l m q (no d) = f.none j (omega arith) m q
 
-  module _ (t : Row) (is : t ≡ row_at ns i) where
-    pub other-kind : (t.kind ≡ 18 → ⊥) → FirstHit ns flags i nodes x
-    other-kind n = miss (λ q. n (ap (λ (r : Row). r.kind) is ∙ q.kind))
-
-    pub not-set : (get_or flags t.value 0 ≡ 1 → ⊥) → FirstHit ns flags i nodes x
-    not-set n = miss (λ q. n (ap (λ (r : Row). get_or flags r.value 0) is ∙ (eq-says _ 1).0 q.flag))
-
-    pub is-set : t.kind ≡ 18 → get_or flags t.value 0 ≡ 1 → FirstHit ns flags i nodes i
-    is-set k e =
-        record {
-          later = omega arith;
-          inside = omega arith;
-          none = λ j l m q. let z : ⊥ = omega arith in z;
-          some = λ l. record { kind = sym (ap (λ (r : Row). r.kind) is) ∙ k; flag = (eq-says _ 1).1 (sym (ap (λ (r : Row). get_or flags r.value 0) is) ∙ e) };
-        }
+pub hit-here : {ns flags : List ℕ} {nodes i : ℕ} → i < nodes → Hit ns flags i → FirstHit ns flags i nodes i
+hit-here h q =
+    record {
+      later = omega arith;
+      inside = omega arith;
+      none = λ j l m p. let z : ⊥ = omega arith in z;
+      some = λ l. q;
+    }
 
 -- ---- All rows from i on are done
 pub record NearLeft (ns flags : List ℕ) (nodes : ℕ) (old near : List ℕ) (last i : ℕ) : Type 0 where
@@ -60,10 +52,6 @@ pub record NearLeft (ns flags : List ℕ) (nodes : ℕ) (old near : List ℕ) (l
   pub here : FirstHit ns flags i nodes last
   pub done : (j : ℕ) → i ≤ j → j ≤ nodes → FirstHit ns flags j nodes (get_or near j 0)
   pub rest : KeptFrom (nodes + 1) old near
-
-pub places-length : length no_places ≡ 4097
-unfolding no_places
-places-length = length-replicate {A = ℕ} 4097 0
 
 pub places-at : (i : ℕ) → get_or no_places i 0 ≡ 0
 unfolding no_places

@@ -1,15 +1,18 @@
 -- The loops that write for each row the name whose definition it lies in, and what an admitted book gives them. Assumes nothing.
 --     owned-inside, owner-small    a row that a name owns is a row of the book, and the name is one of the book
---     owners-start, ..             the loop over definitions, and the loop over the rows of one
+--     owners-start, ..             the loop over definitions
 --     admitted-defining            an admitted book's definitions lie apart
-use mathlib.Core.Path.{◌≡◌, refl, sym, ap, subst, ◌∙◌}
+use mathlib.Core.Path.{◌≡◌, sym, ap, subst, ◌∙◌}
 use mathlib.Core.List.{List, [], ◌∷◌}
-use Prim.Native.Nat.{ℕ, zero, suc, ◌+◌, ◌≤◌, ◌<◌}
+use Prim.Native.Nat.{ℕ, zero, suc, ◌+◌, ◌-◌, ◌≤◌, ◌<◌}
 use native.Mathlib.Nat.{zero-add}
-use native.Mathlib.Decide.{ℕ_discrete}
+use native.Mathlib.Decide.{ℕ_discrete, dec_lt}
 use native.Mathlib.Omega.{arith}
-use lib.ListN.{length, get_or, set, length-set, length-replicate}
-use lib.Seq.{get_or-set_same, get_or-set_other}
+use mathlib.Core.Logic.{◌⊎◌, inl, inr}
+use lib.ListN.{length, get_or, replicate, length-replicate, get_or-replicate}
+use borrow.Rule.Slice.PartMut.{put_mid}
+use Rattle.std.proofs.Common.{rules}
+use Rattle.std.proofs.lemmas.List.{places}
 use Rattle.format.specs.Forest.{count}
 use Rattle.format.specs.Book.{Definition, Book, trees}
 use Rattle.format.specs.Encode.{Row, Entry, definition_entries}
@@ -46,13 +49,6 @@ module _ {ns es : List ℕ} {names nodes definitions : ℕ} (D : Defining ns es 
   pub owner-small : {owners : List ℕ} → OwnersAs ns es definitions owners → (i n : ℕ) → get_or owners i 0 ≡ suc n → n < 1024
   owner-small o i n e = owned-small ((o.exact i n).1 e)
 
-  pub owner-most : {owners : List ℕ} → OwnersAs ns es definitions owners → (i : ℕ) → get_or owners i 0 ≤ 1024
-  owner-most {owners} o i = go (get_or owners i 0) refl
-    where
-      go : (k : ℕ) → get_or owners i 0 ≡ k → k ≤ 1024
-      go zero e = omega arith
-      go (suc n) e = omega (arith, owner-small o i n e)
-
 -- ---- The loop over the definitions: rows of the definitions before d are written
 pub record Written (ns es : List ℕ) (owners : List ℕ) (told d : ℕ) : Type 0 where
   pub long : length owners ≡ 4096
@@ -63,13 +59,26 @@ pub record OwnersLeft (ns es : List ℕ) (definitions : ℕ) (owners : List ℕ)
   pub passed : d ≤ definitions
   pub written : Written ns es owners d d
 
--- The loop over the rows of one: those before i are written too.
-pub record BodyLeft (ns es owners : List ℕ) (d until i : ℕ) : Type 0 where
-  pub began : (entry_at es d).root ≤ i
-  pub passed : i ≤ until
-  pub ends : until ≡ (entry_at es d).root + (row_at ns (entry_at es d).root).size
-  pub written : Written ns es owners (d + 1) d
-  pub here : (j : ℕ) → (entry_at es d).root ≤ j → j < i → get_or owners j 0 ≡ suc (entry_at es d).name
+-- ---- A part that is filled
+module _ (owners : List ℕ) (a e v : ℕ) (ys : List ℕ) (h : a ≤ e) (l : e ≤ length owners) (is : ys ≡ replicate (e - a) v) where
+  abbrev filled : List ℕ
+  filled = put_mid a (e - a) owners ys
+
+  long : length ys ≡ e - a
+  long = ap length is ∙ length-replicate {A = ℕ} (e - a) v
+
+  filled-length : length filled ≡ length owners
+  filled-length = search (rules, places)
+
+  filled-in : (j : ℕ) → a ≤ j → j < e → get_or filled j 0 ≡ v
+  filled-in j b c =
+      let some : j - a < e - a = omega arith in
+      let here : get_or filled j 0 ≡ get_or ys (j - a) 0 = search (rules, places) in
+      here ∙ ap (λ (q : List ℕ). get_or q (j - a) 0) is ∙ get_or-replicate {A = ℕ} (e - a) (j - a) v 0 some
+
+  filled-out : (j : ℕ) → (j < a) ⊎ (e ≤ j) → get_or filled j 0 ≡ get_or owners j 0
+  filled-out j (inl b) = search (rules, places)
+  filled-out j (inr b) = search (rules, places)
 
 pub owners-start : (ns es : List ℕ) (definitions : ℕ) (owners : List ℕ) → owners ≡ no_rows → OwnersLeft ns es definitions owners 0
 owners-start ns es definitions owners e =
@@ -106,78 +115,50 @@ module _ {ns es : List ℕ} {names nodes definitions : ℕ} (D : Defining ns es 
       pub until-inside : e.root + t.size ≤ nodes
       until-inside = omega (arith, until-is, body-inside D d h)
 
-      pub body-start : {owners : List ℕ} → OwnersLeft ns es definitions owners d → BodyLeft ns es owners d (e.root + t.size) e.root
-      body-start l =
-          let root : e.root ≡ (entry_at es d).root = ap (λ (x : Entry). x.root) is in
+      -- the rows of its body are filled with its name
+      pub owners-on : {owners ys : List ℕ} → OwnersLeft ns es definitions owners d → ys ≡ replicate (e.root + t.size - e.root) (e.name + 1) →
+          OwnersLeft ns es definitions (put_mid e.root (e.root + t.size - e.root) owners ys) (d + 1)
+      owners-on {owners} {ys} l filled =
           record {
-            began = omega arith;
             passed = omega arith;
-            ends = until-is;
             written = record {
-              long = l.written.long;
-              sound = λ i n q. owned-later (omega arith) (l.written.sound i n q);
-              complete = l.written.complete;
+              long = filled-length owners e.root (e.root + t.size) (e.name + 1) ys (omega arith) inside filled ∙ l.written.long;
+              sound = λ i n q. sound i n q (dec_lt i e.root) (dec_lt i (e.root + t.size));
+              complete = λ i n o. complete i n o (ℕ_discrete o.entry d);
             };
-            here = λ j a b. let f : ⊥ = omega arith in absurd f;
           }
+        where
+          root : e.root ≡ (entry_at es d).root
+          root = ap (λ (x : Entry). x.root) is
 
-    pub body-on : {owners : List ℕ} {until i : ℕ} → BodyLeft ns es owners d until i → i < until → (x : ℕ) → x ≡ e.name + 1 → BodyLeft ns es (set owners i x) d until (i + 1)
-    body-on {owners} {until} {i} l lt x v =
-        record {
-          began = omega (arith, l.began);
-          passed = omega arith;
-          ends = l.ends;
-          written = record {
-            long = length-set owners i x ∙ l.written.long;
-            sound = λ j n q. sound j n q (ℕ_discrete j i);
-            complete = λ j n o. complete j n o (ℕ_discrete j i);
-          };
-          here = λ j a b. here j a b (ℕ_discrete j i);
-        }
-      where
-        name : x ≡ suc (entry_at es d).name
-        name = omega (arith, ap (λ (y : Entry). y.name) is)
+          name : e.name ≡ (entry_at es d).name
+          name = ap (λ (x : Entry). x.name) is
 
-        same : get_or (set owners i x) i 0 ≡ x
-        same = get_or-set_same owners i x 0 (omega (arith, l.ends, l.written.long, body-inside D d h, D.known.few_nodes))
+          inside : e.root + t.size ≤ length owners
+          inside = omega (arith, until-inside, D.known.few_nodes, l.written.long)
 
-        sound : (j n : ℕ) → get_or (set owners i x) j 0 ≡ suc n → Dec (j ≡ i) → OwnedBy ns es (d + 1) j n
-        sound j n q (yes z) =
-            let a : get_or (set owners i x) i 0 ≡ suc n = subst (λ (k : ℕ). get_or (set owners i x) k 0 ≡ suc n) z q in
-            record {
-              entry = d;
-              below = omega arith;
-              name = omega (arith, name, sym same ∙ a);
-              from = omega (arith, l.began);
-              until = omega (arith, l.ends);
-            }
-        sound j n q (no z) = l.written.sound j n (sym (get_or-set_other owners i j x 0 z) ∙ q)
+          in-it : (i : ℕ) → e.root ≤ i → i < e.root + t.size → get_or (put_mid e.root (e.root + t.size - e.root) owners ys) i 0 ≡ e.name + 1
+          in-it = filled-in owners e.root (e.root + t.size) (e.name + 1) ys (omega arith) inside filled
 
-        complete : (j n : ℕ) → OwnedBy ns es d j n → Dec (j ≡ i) → get_or (set owners i x) j 0 ≡ suc n
-        complete j n o (yes z) = let f : ⊥ = omega (arith, o.until, D.bodies.apart o.entry d o.below h, l.began) in absurd f
-        complete j n o (no z) = get_or-set_other owners i j x 0 z ∙ l.written.complete j n o
+          out-of-it : (i : ℕ) → (i < e.root) ⊎ (e.root + t.size ≤ i) → get_or (put_mid e.root (e.root + t.size - e.root) owners ys) i 0 ≡ get_or owners i 0
+          out-of-it = filled-out owners e.root (e.root + t.size) (e.name + 1) ys (omega arith) inside filled
 
-        here : (j : ℕ) → (entry_at es d).root ≤ j → j < i + 1 → Dec (j ≡ i) → get_or (set owners i x) j 0 ≡ suc (entry_at es d).name
-        here j a b (yes z) = subst (λ (k : ℕ). get_or (set owners i x) k 0 ≡ suc (entry_at es d).name) (sym z) (same ∙ name)
-        here j a b (no z) = get_or-set_other owners i j x 0 z ∙ l.here j a (omega arith)
+          sound : (i n : ℕ) → get_or (put_mid e.root (e.root + t.size - e.root) owners ys) i 0 ≡ suc n → Dec (i < e.root) → Dec (i < e.root + t.size) → OwnedBy ns es (d + 1) i n
+          sound i n q (yes b) c = owned-later (omega arith) (l.written.sound i n (sym (out-of-it i (inl b)) ∙ q))
+          sound i n q (no b) (yes c) =
+              record { entry = d; below = omega arith; name = omega (arith, name, in-it i (omega arith) c); from = omega (arith, root); until = omega (arith, until-is) }
+          sound i n q (no b) (no c) = owned-later (omega arith) (l.written.sound i n (sym (out-of-it i (inr (omega arith))) ∙ q))
 
-  pub body-end : {owners : List ℕ} {d until i : ℕ} → d < definitions → BodyLeft ns es owners d until i → until ≤ i → OwnersLeft ns es definitions owners (d + 1)
-  body-end {owners} {d} {until} {i} h l le =
-      record {
-        passed = omega arith;
-        written = record {
-          long = l.written.long;
-          sound = l.written.sound;
-          complete = λ j n o. go j n o (ℕ_discrete o.entry d);
-        };
-      }
-    where
-      go : (j n : ℕ) (o : OwnedBy ns es (d + 1) j n) → Dec (o.entry ≡ d) → get_or owners j 0 ≡ suc n
-      go j n o (yes e) =
-          let root : (entry_at es o.entry).root ≡ (entry_at es d).root = ap (λ (k : ℕ). (entry_at es k).root) e in
-          let size : (row_at ns (entry_at es o.entry).root).size ≡ (row_at ns (entry_at es d).root).size = ap (λ (k : ℕ). (row_at ns k).size) root in
-          l.here j (omega (arith, o.from)) (omega (arith, o.until, l.ends)) ∙ ap suc (ap (λ (k : ℕ). (entry_at es k).name) (sym e) ∙ o.name)
-      go j n o (no e) = l.written.complete j n record { entry = o.entry; below = omega (arith, o.below); name = o.name; from = o.from; until = o.until }
+          complete : (i n : ℕ) (o : OwnedBy ns es (d + 1) i n) → Dec (o.entry ≡ d) → get_or (put_mid e.root (e.root + t.size - e.root) owners ys) i 0 ≡ suc n
+          complete i n o (yes z) =
+              let from : (entry_at es o.entry).root ≡ (entry_at es d).root = ap (λ (k : ℕ). (entry_at es k).root) z in
+              let size : (row_at ns (entry_at es o.entry).root).size ≡ (row_at ns (entry_at es d).root).size = ap (λ (k : ℕ). (row_at ns k).size) from in
+              let named : (entry_at es o.entry).name ≡ (entry_at es d).name = ap (λ (k : ℕ). (entry_at es k).name) z in
+              in-it i (omega (arith, o.from, root)) (omega (arith, o.until, until-is)) ∙ omega (arith, name, o.name)
+          complete i n o (no z) =
+              let before : o.entry < d = omega (arith, o.below) in
+              out-of-it i (inl (omega (arith, o.until, D.bodies.apart o.entry d before h, root)))
+              ∙ l.written.complete i n record { entry = o.entry; below = before; name = o.name; from = o.from; until = o.until }
 
 -- ---- Definitions that lie end to end lie apart
 later-root : (next : ℕ) (ds : List Definition) (j : ℕ) (x : Entry) → j < length ds → next ≤ (get_or (definition_entries next ds) j x).root

@@ -12,6 +12,8 @@ use native.Mathlib.Decide.{ℕ_discrete, dec_lt}
 use native.Mathlib.Omega.{arith}
 use borrow.Author.Tests.{eq-eqb}
 use lib.Dec.{eqb}
+use Rattle.std.proofs.Common.{Ok, Err}
+use Rattle.refusals.specs.declared.Refusal.TheVariants.{Unbound}
 use lib.ListN.{length, get_or, set, drop, length-set, get_or-eq_default}
 use lib.Seq.{drop-cons, drop-length, get_or-set_other}
 use Rattle.format.specs.Book.{Definition}
@@ -29,7 +31,7 @@ use Rattle.listing.proofs.Leaves.{each}
 use Rattle.analysis.specs.declared.recursive.Marks.{Marks}
 use Rattle.analysis.specs.Book.{Rooted}
 use Rattle.analysis.specs.Marking.{Flagged, MarksHold, Begun, InferredAs}
-use Rattle.analysis.proofs.recursive.Rows.{held, GoneThrough, NodeIn, no-flags-length, no-flags-at, agrees-set, agrees-again, tree-each}
+use Rattle.analysis.proofs.recursive.Rows.{GoneThrough, NodeIn, no-flags-length, no-flags-at, agrees-set, agrees-again, tree-each}
 
 -- ---- Names that are seen
 
@@ -123,26 +125,8 @@ unfolding infer_from listed
 infer-unbound ds [] n = refl
 infer-unbound ds (k ∷ l) n = infer-unbound ds l n
 
-abbrev pub stopped_at : ℕ → Marks → Marks
-stopped_at n m = record { seen = m.seen; marked = m.marked; stopped = true; bad = n }
-
 abbrev pub seen_also : ℕ → Marks → Marks
-seen_also n r = record { seen = set r.seen n 1; marked = r.marked; stopped = r.stopped; bad = r.bad }
-
--- the marks that nothing has stopped are those that the loop holds
-pub from-held : {ns roots list : List ℕ} {m r : Marks} → InferredAs ns roots list (held m.seen m.marked) r → InferredAs ns roots list m r
-from-held h =
-    record {
-      holds = λ b.
-          let k = b.holds in
-          h.holds record {
-            definitions = b.definitions;
-            binds = b.binds;
-            seen-by = b.seen-by;
-            marked-by = b.marked-by;
-            holds = record { goes = refl; seen-are = k.seen-are; marked-are = k.marked-are; seen-long = k.seen-long; long = k.long };
-          };
-    }
+seen_also n r = record { seen = set r.seen n 1; marked = r.marked }
 
 module _ {ns roots list : List ℕ} {first : Marks} where
   pub infer-start : {done : List ℕ} → done ≡ no_flags → InferLeft ns roots list first first done 0
@@ -161,14 +145,14 @@ module _ {ns roots list : List ℕ} {first : Marks} where
       }
 
   module _ {m : Marks} {done : List ℕ} {i : ℕ} (l : InferLeft ns roots list first m done i) where
-    pub infer-end : length list ≤ i → InferredAs ns roots list first m
+    pub infer-end : length list ≤ i → InferredAs ns roots list first (Ok m)
     unfolding infer_from
     infer-end h =
         record {
           holds = λ b.
               let z : i ≡ length list = omega (arith, l.passed) in
               let x = l.inferring b in
-              subst (λ (s : listing.Marks). MarksHold s m)
+              subst (λ (s : listing.Marks). MarksHold s (Ok m))
               (sym (ap (λ (k : List ℕ). infer_from b.definitions k (marking x.seen-now x.set-now)) (ap (λ (j : ℕ). drop j list) z ∙ drop-length list)) ∙ x.rest)
               x.holds;
         }
@@ -182,17 +166,17 @@ module _ {ns roots list : List ℕ} {first : Marks} where
       unfolding infer_from
       step ds s f e = ap (λ (k : List ℕ). infer_from ds k s) opens ∙ ap (λ (g : Found). infer_from ds (drop (i + 1) list) (listed ds n g s)) e
 
-      pub infer-stop : root ≡ 65535 → InferredAs ns roots list first (stopped_at n m)
+      pub infer-stop : root ≡ 65535 → InferredAs ns roots list first (Err (Unbound n))
       unfolding listed
       infer-stop e =
           record {
             holds = λ b.
                 let ds = b.definitions in
                 let x = l.inferring b in
-                subst (λ (s : listing.Marks). MarksHold s (stopped_at n m))
+                subst (λ (s : listing.Marks). MarksHold s (Err (Unbound n)))
                 (sym (infer-unbound ds (drop (i + 1) list) n)
                 ∙ sym (step ds (marking x.seen-now x.set-now) missing (b.binds n ∙ found-none ns (get_or roots n 65535) (sym at-root ∙ e))) ∙ x.rest)
-                (record { stops = refl; at-name = refl });
+                refl;
           }
 
       module _ (a : Rooted ns roots) (some : root ≡ 65535 → ⊥) where
@@ -241,7 +225,6 @@ module _ {ns roots list : List ℕ} {first : Marks} where
                     seen-now = n ∷ x.seen-now;
                     set-now = x.set-now;
                     holds = record {
-                      goes = k.goes;
                       seen-are = agrees-again m.seen x.seen-now k.seen-are n (k.seen-are n name-in ∙ g.0);
                       marked-are = k.marked-are;
                       seen-long = k.seen-long;
@@ -262,14 +245,13 @@ module _ {ns roots list : List ℕ} {first : Marks} where
                   let y = each-after (refs_of ns roots n) x.seen-now x.set-now in
                   let s = marking x.seen-now x.set-now in
                   let k : Flagged y.now-seen y.now-set r =
-                  subst (λ (t : listing.Marks). MarksHold t r)
+                  subst (λ (t : listing.Marks). MarksHold t (Ok r))
                   (tree-each root-node s ∙ ap (λ (vs : List ℕ). each note_name vs s) refs-are ∙ y.state) (through s x.holds) in
                   let one = grows-one n y.now-seen in
                   record {
                     seen-now = n ∷ y.now-seen;
                     set-now = y.now-set;
                     holds = record {
-                      goes = k.goes;
                       seen-are = agrees-set r.seen y.now-seen k.seen-are n (omega (arith, name-in, k.seen-long));
                       marked-are = k.marked-are;
                       seen-long = length-set r.seen n 1 ∙ k.seen-long;

@@ -11,6 +11,7 @@ use native.Mathlib.Decide.{ℕ_discrete}
 use native.Mathlib.Omega.{arith}
 use borrow.Author.Tests.{eq-eqb, ne_eqb}
 use lib.Dec.{eqb}
+use Rattle.std.proofs.Common.{Ok}
 use lib.ListN.{length, get_or, set, length-set, length-replicate}
 use lib.Seq.{get_or-set_same, get_or-set_other}
 use Rattle.format.specs.Encode.{Row}
@@ -18,7 +19,7 @@ use Rattle.format.specs.Forest.{Forest}
 use Rattle.format.specs.Layout.{row_at}
 use Rattle.format.specs.Node.{Node}
 use Rattle.format.specs.References.{references}
-use Rattle.format.specs.Whole.{Within, tree_at}
+use Rattle.format.specs.Whole.{tree_at}
 use Rattle.format.proofs.References.{everywhere, references-siblings}
 use Rattle.judgement.specs.Check.{member}
 use Rattle.book.specs.Tables.{no_flags, is_set}
@@ -30,16 +31,16 @@ use Rattle.listing.proofs.Recursive.{go-each}
 use Rattle.analysis.specs.declared.recursive.Marks.{Marks}
 use Rattle.analysis.specs.Book.{Agrees}
 use Rattle.analysis.specs.Marking.{Flagged, MarksHold, nothing_marked}
-use Rattle.analysis.proofs.BookNodes.{untabled, here-within, here-leafy, row_names, names-none, names-name, names-other}
+use Rattle.analysis.proofs.BookNodes.{untabled, here-leafy, row_names, names-none, names-name, names-other}
 
 -- ---- What is held
--- The flags of a loop that nothing has stopped, as its answer would have them.
+-- The flags of a loop, as its answer has them.
 abbrev pub held : List ℕ → List ℕ → Marks
-held seen set' = record { seen = seen; marked = set'; stopped = false; bad = 0 }
+held seen set' = record { seen = seen; marked = set' }
 
 -- From m, whatever it holds, a tree was gone through.
 abbrev pub GoneThrough : Forest Node → Marks → Marks → Type 0
-GoneThrough t m r = (s : listing.Marks) → MarksHold s m → MarksHold (go t s) r
+GoneThrough t m r = (s : listing.Marks) → MarksHold s (Ok m) → MarksHold (go t s) (Ok r)
 
 -- A node of a book.
 pub record NodeIn (ns : List ℕ) (node : ℕ) : Type 0 where
@@ -82,32 +83,31 @@ module _ (flags l : List ℕ) (agrees : Agrees flags l) (n : ℕ) where
 -- from the start
 pub nothing-held : Flagged [] [] nothing_marked
 unfolding nothing_marked
-nothing-held = record { goes = refl; seen-are = agrees-none; marked-are = agrees-none; seen-long = no-flags-length; long = no-flags-length }
+nothing-held = record { seen-are = agrees-none; marked-are = agrees-none; seen-long = no-flags-length; long = no-flags-length }
 
 -- ---- One name
-pub note-again : (n : ℕ) (v : Marks) → n < 1024 → get_or v.seen n 0 ≡ 1 → (s : listing.Marks) → MarksHold s v → MarksHold (note_name n s) v
+pub note-again : (n : ℕ) (v : Marks) → n < 1024 → get_or v.seen n 0 ≡ 1 → (s : listing.Marks) → MarksHold s (Ok v) → MarksHold (note_name n s) (Ok v)
 unfolding note_name note
 note-again n v lt e (marking seen set') h =
     let is : member n seen ≡ true = sym (h.seen-are n lt) ∙ eq-eqb (get_or v.seen n 0) 1 e in
-    subst (λ (b : Bool). MarksHold (note n b seen set') v) (sym is) h
+    subst (λ (b : Bool). MarksHold (note n b seen set') (Ok v)) (sym is) h
 note-again n v lt e (unbound m) h = h
 
 abbrev pub noted : ℕ → Marks → Marks
-noted n v = record { seen = set v.seen n 1; marked = set v.marked n 1; stopped = v.stopped; bad = v.bad }
+noted n v = record { seen = set v.seen n 1; marked = set v.marked n 1 }
 
-pub note-anew : (n : ℕ) (v : Marks) → n < 1024 → (get_or v.seen n 0 ≡ 1 → ⊥) → (s : listing.Marks) → MarksHold s v → MarksHold (note_name n s) (noted n v)
+pub note-anew : (n : ℕ) (v : Marks) → n < 1024 → (get_or v.seen n 0 ≡ 1 → ⊥) → (s : listing.Marks) → MarksHold s (Ok v) → MarksHold (note_name n s) (Ok (noted n v))
 unfolding note_name note
 note-anew n v lt e (marking seen set') h =
     let is : member n seen ≡ false = sym (h.seen-are n lt) ∙ ne_eqb (get_or v.seen n 0) 1 e in
-    subst (λ (b : Bool). MarksHold (note n b seen set') (noted n v)) (sym is)
+    subst (λ (b : Bool). MarksHold (note n b seen set') (Ok (noted n v))) (sym is)
     (record {
-      goes = h.goes;
       seen-are = agrees-set v.seen seen h.seen-are n (omega (arith, h.seen-long));
       marked-are = agrees-set v.marked set' h.marked-are n (omega (arith, h.long));
       seen-long = length-set v.seen n 1 ∙ h.seen-long;
       long = length-set v.marked n 1 ∙ h.long;
     })
-note-anew n v lt e (unbound m) h = record { stops = h.stops; at-name = h.at-name }
+note-anew n v lt e (unbound m) h = h
 
 -- ---- A tree and its rows
 module _ {ns : List ℕ} {n : ℕ} (i : NodeIn ns n) where
@@ -121,12 +121,6 @@ module _ {ns : List ℕ} {n : ℕ} (i : NodeIn ns n) where
   pub ends-in : n + (row_at ns n).size ≤ i.count
   ends-in = (i.all.nodes.tree n i.inside).ends
 
-  pub row-in : (k until : ℕ) → until ≡ n + (row_at ns n).size → k < until → Within ns (k + 1)
-  row-in k until e h = record { held = omega (arith, ends-in, i.all.nodes.within.held); few = i.all.nodes.within.few }
-
-  pub root-in : Within ns (n + 1)
-  root-in = here-within (untabled i.all) i.inside
-
   pub small : (k until : ℕ) → until ≡ n + (row_at ns n).size → k < until → (r : Row) → r ≡ row_at ns k → r.kind ≡ 18 → r.value < 1024
   small k until e h r is q =
       let f = (i.all.nodes.row k (omega (arith, ends-in))).name (ap (λ (x : Row). x.kind) (sym is) ∙ q) in
@@ -135,34 +129,29 @@ module _ {ns : List ℕ} {n : ℕ} (i : NodeIn ns n) where
 -- ---- The loop: what is noted, and then the rows that are left
 pub record Noting (ns : List ℕ) (root until : ℕ) (v : Marks) (i : ℕ) (s : listing.Marks) : Type 0 where
   pub state : listing.Marks
-  pub holds : MarksHold state v
+  pub holds : MarksHold state (Ok v)
   pub rest : each note_name (row_names ns i until) state ≡ each note_name (row_names ns root until) s
 
 pub record GoLeft (ns : List ℕ) (root until : ℕ) (m v : Marks) (i : ℕ) : Type 0 where
   pub ends : until ≡ root + (row_at ns root).size
   pub began : root ≤ i
   pub passed : i ≤ until
-  pub noting : (s : listing.Marks) → MarksHold s m → Noting ns root until v i s
+  pub noting : (s : listing.Marks) → MarksHold s (Ok m) → Noting ns root until v i s
 
 module _ {ns : List ℕ} {root until : ℕ} {m : Marks} where
-  pub go-start : (r : Row) → r ≡ row_at ns root → until ≡ root + r.size → GoLeft ns root until m m root
-  go-start r is e =
-      let e' : until ≡ root + (row_at ns root).size = e ∙ ap (λ (x : Row). root + x.size) is in
-      record { ends = e'; began = omega arith; passed = omega arith; noting = λ s h. record { state = s; holds = h; rest = refl } }
-
   module _ {v : Marks} {i : ℕ} (l : GoLeft ns root until m v i) where
     pub go-end : NodeIn ns root → until ≤ i → GoneThrough (tree_at ns root) m v
     unfolding each
     go-end n h s k =
         let x = l.noting s k in
-        subst (λ (t : listing.Marks). MarksHold t v)
+        subst (λ (t : listing.Marks). MarksHold t (Ok v))
         (sym (ap (λ (q : List ℕ). each note_name q x.state) (names-none ns i until h)) ∙ x.rest ∙ sym (tree-rows n s until l.ends))
         x.holds
 
     module _ (h : i < until) (r : Row) (is : r ≡ row_at ns i) where
       -- by what the row makes of the marks, and what is held then
       go-on : (f : listing.Marks → listing.Marks) → ((s : listing.Marks) → each note_name (row_names ns i until) s ≡ each note_name (row_names ns (i + 1) until) (f s)) →
-          {w : Marks} → ((s : listing.Marks) → MarksHold s v → MarksHold (f s) w) → GoLeft ns root until m w (i + 1)
+          {w : Marks} → ((s : listing.Marks) → MarksHold s (Ok v) → MarksHold (f s) (Ok w)) → GoLeft ns root until m w (i + 1)
       go-on f step held =
           record {
             ends = l.ends;
@@ -176,14 +165,18 @@ module _ {ns : List ℕ} {root until : ℕ} {m : Marks} where
       pub go-other : (r.kind ≡ 18 → ⊥) → GoLeft ns root until m v (i + 1)
       go-other d = go-on (λ s. s) (λ s. ap (λ (q : List ℕ). each note_name q s) (names-other ns i until h (λ e. d (ap (λ (z : Row). z.kind) is ∙ e)))) (λ s k. k)
 
-      go-name : r.kind ≡ 18 → {w : Marks} → ((s : listing.Marks) → MarksHold s v → MarksHold (note_name r.value s) w) → GoLeft ns root until m w (i + 1)
+      go-name : r.kind ≡ 18 → {w : Marks} → ((s : listing.Marks) → MarksHold s (Ok v) → MarksHold (note_name r.value s) (Ok w)) → GoLeft ns root until m w (i + 1)
       unfolding each
       go-name e =
           go-on (note_name r.value)
           (λ s. ap (λ (q : List ℕ). each note_name q s) (names-name ns i until h (ap (λ (z : Row). z.kind) (sym is) ∙ e) ∙ ap (λ (z : Row). z.value ∷ row_names ns (i + 1) until) (sym is)))
 
-      pub go-again : r.kind ≡ 18 → r.value < 1024 → get_or v.seen r.value 0 ≡ 1 → GoLeft ns root until m v (i + 1)
-      go-again e lt q = go-name e (note-again r.value v lt q)
+      module _ (n : NodeIn ns root) (e : r.kind ≡ 18) where
+        lt : r.value < 1024
+        lt = small n i until l.ends h r is e
 
-      pub go-anew : r.kind ≡ 18 → r.value < 1024 → (get_or v.seen r.value 0 ≡ 1 → ⊥) → GoLeft ns root until m (noted r.value v) (i + 1)
-      go-anew e lt q = go-name e (note-anew r.value v lt q)
+        pub go-again : get_or v.seen r.value 0 ≡ 1 → GoLeft ns root until m v (i + 1)
+        go-again q = go-name e (note-again r.value v lt q)
+
+        pub go-anew : (get_or v.seen r.value 0 ≡ 1 → ⊥) → GoLeft ns root until m (noted r.value v) (i + 1)
+        go-anew q = go-name e (note-anew r.value v lt q)

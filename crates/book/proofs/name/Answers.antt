@@ -1,28 +1,27 @@
 -- `name` meets its contract: the book of the layout, and its name. Assumes nothing.
-use mathlib.Core.Path.{sym, ◌∙◌}
-use Rattle.format.specs.Layout.{part}
-use Rattle.book.proofs.Named.{book-of, name-broken, name-outside, has-name, name-there, names-start, names-within}
+use mathlib.Core.Path.{sym, ap, ◌∙◌}
+use mathlib.Core.List.{List, []}
+use Prim.Native.Nat.{ℕ}
+use lib.ListN.{length, get_or}
+use Rattle.format.specs.Layout.{names_of}
+use Rattle.book.proofs.Named.{book-of, name-broken, name-outside, name-there}
+use Rattle.book.proofs.Opened.{names-here}
+use Rattle.book.proofs.name.Goals.{in_default-via-in-Some+else-number-c, in_default-via-in_default}
 use Rattle.book.proofs.name.Goals as goal
 
+pub names-requires : goal.names-requires
+names-requires c = book-of _ _ c.in-Some.ensures
+
+pub returns-in-Some : goal.returns-in-Some
+returns-in-Some c =
+    let o = book-of _ _ c.in-Some.ensures in
+    c.name_at.ensures
+    ∙ ap (λ (bs : List ℕ). get_or (names_of (length bs) bs) c.args.number []) (c.names.ensures ∙ sym (names-here o))
+    ∙ name-there o c.args.number
+
 pub returns-in_default : goal.returns-in_default
-returns-in_default c = name-broken _ _ (sym c.in_default.is ∙ c.layout.ensures)
-
-pub returns-then-names-number : goal.returns-then-names-number
-returns-then-names-number c = name-outside (book-of _ _ (sym c.in-Whole.is ∙ c.layout.ensures)) _ c.if-names-number.true
-
-pub slice_bounds-name_at-count : goal.slice_bounds-name_at-count
-slice_bounds-name_at-count c = names-start (book-of _ _ (sym c.in-Whole.is ∙ c.layout.ensures))
-
-pub slice_bounds-name_at-start : goal.slice_bounds-name_at-start
-slice_bounds-name_at-start c = names-start (book-of _ _ (sym c.in-Whole.is ∙ c.layout.ensures))
-
-pub slice_bounds-name_at-end : goal.slice_bounds-name_at-end
-slice_bounds-name_at-end c = names-within (book-of _ _ (sym c.in-Whole.is ∙ c.layout.ensures))
-
-pub name_at-requires : goal.name_at-requires
-unfolding part
-name_at-requires c = has-name (book-of _ _ (sym c.in-Whole.is ∙ c.layout.ensures)) _ c.if-names-number.false
-
-pub returns : goal.returns
-unfolding part
-returns c = c.name_at.ensures ∙ name-there (book-of _ _ (sym c.in-Whole.is ∙ c.layout.ensures)) _
+returns-in_default c =
+    elim c.in_default.branch [
+      | in_default-via-in-Some+else-number-c w ↦ name-outside (book-of _ _ w.in-Some.ensures) _ w.if-number-c.false
+      | in_default-via-in_default w ↦ name-broken _ _ w.in_default.ensures
+    ]

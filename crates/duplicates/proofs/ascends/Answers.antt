@@ -1,19 +1,9 @@
--- `ascends` meets its contract: the numbers passed are distinct, and the last of them is the greatest. Assumes nothing.
-use Prim.Native.Nat.{ℕ}
-use mathlib.Core.Path.{◌≡◌}
-use native.Mathlib.Omega.{arith}
-use lib.Seq.{take_all}
-use Rattle.duplicates.proofs.Places.{ascending-start, ascending-on}
+-- `ascends` meets its contract: each number is below the next. Assumes nothing.
+use Rattle.std.specs.Prelude.{nat_lt}
+use Rattle.std.proofs.Common.{rules}
+use Rattle.std.proofs.lemmas.List.Sorted.{answers_always}
+use Rattle.duplicates.proofs.Places.{sorted-distinct}
 use Rattle.duplicates.proofs.ascends.Goals as goal
 
-pub loop-n-init : goal.loop-n-init
-loop-n-init c = ascending-start _
-
-pub returns-then-keys-n : goal.returns-then-keys-n
-returns-then-keys-n c = λ e. let z : ◌≡◌ {A = ℕ} 0 1 = cc in absurd (omega arith)
-
-pub loop-n-preserved : goal.loop-n-preserved
-loop-n-preserved c = ascending-on c.loop-n.invariant c.loop-n-test.true c.if-keys-n.false
-
 pub returns : goal.returns
-returns c = λ e. rw (take_all _ _ c.loop-n-test.false) at c.loop-n.invariant.distinct
+returns c = sorted-distinct _ _ (c.is_sorted_by.ensures.cases nat_lt (answers_always _ _ _ (λ f a r q k. search rules)))

@@ -1,17 +1,15 @@
 -- `by_pairs` meets its contract: no number stands twice before the place that the loop is at. Assumes nothing.
-use native.Mathlib.Omega.{arith}
+use Rattle.std.proofs.lemmas.Bool.Decides.{not_from_Decides}
+use lib.ListN.{get_or}
 use Rattle.format.specs.Distinct.{none}
-use Rattle.duplicates.proofs.Places.{distinct-on}
+use Rattle.duplicates.proofs.Places.{distinct-on, contains-stands}
 use Rattle.duplicates.proofs.by_pairs.Goals as goal
 
 pub loop-n-init : goal.loop-n-init
-loop-n-init c = (omega arith, none)
+loop-n-init c = none
 
-pub returns-then-stands_before : goal.returns-then-stands_before
-returns-then-stands_before c = record { inside = omega arith; distinct = c.loop-n.invariant.1; again = λ h. rw c.if-stands_before.true at c.stands_before.ensures }
+pub returns-then-contains : goal.returns-then-contains
+returns-then-contains c = record { inside = c.loop-n-test.true; distinct = c.loop-n.invariant; again = (contains-stands _ (get_or c.args.keys.now c.loop-n.n 0)).0 (cc) }
 
 pub loop-n-preserved : goal.loop-n-preserved
-loop-n-preserved c = (omega arith, distinct-on _ _ c.loop-n-test.true c.loop-n.invariant.1 (rw c.if-stands_before.false at c.stands_before.ensures))
-
-pub returns : goal.returns
-returns c = record { inside = omega arith; distinct = c.loop-n.invariant.1; again = λ h. absurd (omega arith) }
+loop-n-preserved c = distinct-on _ _ c.loop-n-test.true c.loop-n.invariant (not_from_Decides _ (contains-stands _ (get_or c.args.keys.now c.loop-n.n 0)) cc)

@@ -1,9 +1,5 @@
-use Prim.Native.Nat.{◌-◌}
 use Rattle.environment.proofs.RootTable.{TableLeft}
 use Rattle.environment.proofs.enter.Given as goal
 
 abbrev pub invariant-loop-d : goal.invariant-loop-d
 invariant-loop-d l = TableLeft l.entries l.names l.nodes l.from l.to l.roots l.d
-
-abbrev pub decreases-loop-d : goal.decreases-loop-d
-decreases-loop-d l = l.to - l.d

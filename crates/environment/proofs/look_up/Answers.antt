@@ -1,19 +1,14 @@
 -- `look_up` meets its contract. Assumes nothing.
-use native.Mathlib.Omega.{arith}
-use Rattle.environment.proofs.ChainEnds.{end-inside, kind-none, kind-at}
+use mathlib.Core.Path.{sym, ◌∙◌}
+use borrow.Author.Rules.{rules}
+use Rattle.format.proofs.Rows.{node-within}
+use Rattle.environment.specs.Tables.{end_is}
+use Rattle.environment.proofs.ChainEnds.{end-whole}
 use Rattle.environment.proofs.look_up.Goals as goal
 
-pub returns-then-e : goal.returns-then-e
-returns-then-e c =
-    let e = c.end_of-e.ensures in
-    record { found-is = kind-none _ _ _ _ _ e.node-is c.requires c.if-e.true; reached = e }
-
-pub at-t-requires : goal.at-t-requires
-at-t-requires c =
-    let s = c.requires in
-    record { held = omega (arith, end-inside s c.end_of-e.ensures.node-is c.if-e.false, s.nodes.within.held); few = s.nodes.within.few }
+pub is_some_and-requires : goal.is_some_and-requires
+is_some_and-requires c = λ e is κs l v r u z. node-within (end-whole c.requires (sym is ∙ c.end_of-end.ensures.node-is))
 
 pub returns : goal.returns
-returns c =
-    let e = c.end_of-e.ensures in
-    record { found-is = kind-at _ _ _ _ _ e.node-is c.if-e.false _ c.at-t.ensures; reached = e }
+unfolding end_is
+returns c = record { found-is = rw (← c.end_of-end.ensures.node-is) (search rules); reached = c.end_of-end.ensures }

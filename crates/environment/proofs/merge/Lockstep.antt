@@ -1,22 +1,25 @@
 -- The walk over two forests in lockstep: what is left of both is the same just where all of both is. Assumes nothing.
-use mathlib.Core.Path.{◌≡◌, refl, sym, ◌∙◌}
-use mathlib.Core.Bool.{Bool, true, false, ◌&&◌}
+use mathlib.Core.Path.{◌≡◌, sym, ap, ◌∙◌}
+use mathlib.Core.Bool.{Bool, true, false, not, ◌&&◌}
 use mathlib.Core.List.{List}
 use Prim.Native.Nat.{ℕ, ◌+◌, ◌≤◌, ◌<◌}
-use native.Mathlib.Decide.{dec_lt}
 use native.Mathlib.Omega.{arith}
-use borrow.Author.Tests.{le-leb, lt-leb}
-use lib.Dec.{leb}
 use Rattle.format.specs.declared.Place.{Place}
 use Rattle.format.specs.Encode.{Row}
 use Rattle.format.specs.Fits.{place_below}
 use Rattle.format.specs.Layout.{row_at, node_of, siblings}
 use Rattle.format.specs.Rules.{below_kind}
-use Rattle.format.specs.Whole.{Within, Whole, RowFits}
+use Rattle.format.specs.Whole.{Whole, RowFits}
 use Rattle.format.proofs.Nodes.{place-below}
-use Rattle.format.proofs.Rows.{opens, kids-whole, node-within, siblings-none, siblings-opens}
+use Rattle.format.proofs.Rows.{opens, siblings-none, siblings-opens}
 use Rattle.judgement.specs.Environment.{same_forest}
 use Rattle.book.specs.Tables.{HashesAgree}
+use Rattle.book.specs.declared.walks.Siblings.{Siblings}
+use Rattle.book.specs.declared.read.Node.{Node}
+use Rattle.book.specs.Reading.{as_row}
+use Rattle.book.specs.Walks.{Over, NextTree, Walks}
+use Rattle.book.proofs.Walking.{last, here, row, size, at, over-next}
+use Rattle.std.specs.Prelude.{Option, Some, None, is_some}
 use Rattle.environment.specs.Merging.{same_node, Compared}
 
 -- What is answered of two forests, and of two nodes.
@@ -36,6 +39,7 @@ below-row : (r : Row) → r.kind < 27 → place_below (node_of r).kind ≡ below
 unfolding node_of
 below-row r h = place-below r.kind r.value h
 
+-- What is left of two forests, from node i and from node j on, is the same just where all of both is.
 pub record SameLeft (ns hashes : List ℕ) (p : Place) (a a-until b b-until i j : ℕ) : Type 0 where
   pub later : a ≤ i
   pub first : Whole ns i a-until
@@ -43,34 +47,42 @@ pub record SameLeft (ns hashes : List ℕ) (p : Place) (a a-until b b-until i j 
   pub rest : (names : List (List ℕ)) → HashesAgree hashes names →
       same_forest names p (siblings ns i a-until) (siblings ns j b-until) ≡ same_forest names p (siblings ns a a-until) (siblings ns b b-until)
 
-module _ {ns hashes : List ℕ} {p : Place} {a a-until b b-until : ℕ} (x : Compared ns hashes a a-until b b-until) where
-  pub same-start : SameLeft ns hashes p a a-until b b-until a b
-  same-start = record { later = omega arith; first = x.first; second = x.second; rest = λ names agree. refl }
+-- The walks over both have come so far.
+pub record Walked (ns hashes : List ℕ) (p : Place) (a a-until b b-until : ℕ) (s t : Siblings) : Type 0 where
+  pub first : Over ns a-until s
+  pub second : Over ns b-until t
+  pub left : SameLeft ns hashes p a a-until b b-until s.at t.at
 
+module _ {ns hashes : List ℕ} {p : Place} {a a-until b b-until : ℕ} where
   module _ {i j : ℕ} (l : SameLeft ns hashes p a a-until b b-until i j) where
-    pub same-end : a-until ≤ i → SameAs ns hashes p a a-until b b-until (leb b-until j)
-    unfolding same_forest
-    same-end h names agree = go (dec_lt j b-until) ∙ l.rest names agree
-      where
-        go : Dec (j < b-until) → leb b-until j ≡ same_forest names p (siblings ns i a-until) (siblings ns j b-until)
-        go (yes k) = rw (lt-leb b-until j k, siblings-none ns i a-until h, siblings-opens (opens l.second k))
-        go (no k) = rw (le-leb b-until j (omega arith), siblings-none ns i a-until h, siblings-none ns j b-until (omega arith))
-
-    module _ (h : i < a-until) where
-      pub same-short : b-until ≤ j → SameAs ns hashes p a a-until b b-until false
+    module _ (h : a-until ≤ i) where
+      none-left : j ≡ b-until → SameAs ns hashes p a a-until b b-until true
       unfolding same_forest
-      same-short k names agree = rw (← l.rest names agree, siblings-opens (opens l.first h), siblings-none ns j b-until k)
+      none-left k names agree = rw (← l.rest names agree, siblings-none ns i a-until h, siblings-none ns j b-until (omega arith))
 
-      module _ (k : j < b-until) where
-        pub first-within : Within ns (i + 1)
-        first-within = node-within (opens l.first h).here
+      one-left : j < b-until → SameAs ns hashes p a a-until b b-until false
+      unfolding same_forest
+      one-left k names agree = rw (← l.rest names agree, siblings-none ns i a-until h, siblings-opens (opens l.second k))
 
-        pub second-within : Within ns (j + 1)
-        second-within = node-within (opens l.second k).here
+    same-short : i < a-until → b-until ≤ j → SameAs ns hashes p a a-until b b-until false
+    unfolding same_forest
+    same-short h k names agree = rw (← l.rest names agree, siblings-opens (opens l.first h), siblings-none ns j b-until k)
+
+  module _ {s t : Siblings} (w : Walked ns hashes p a a-until b b-until s t) where
+    -- the second has no tree left, and the first has one
+    pub ends-sooner : {i : ℕ} {n : Node} {s' t' : Siblings} → NextTree s i n s' → Walks t None t' → SameAs ns hashes p a a-until b b-until false
+    ends-sooner x y = let end = last w.second y in same-short w.left (here w.first x) (omega arith)
+
+    -- the first has no tree left
+    pub same-end : {s' : Siblings} → Walks s None s' → (o : Option (ℕ × Node)) (t' : Siblings) → Walks t o t' → (r : Bool) → is_some o ≡ not r → SameAs ns hashes p a a-until b b-until r
+    same-end x None t' y true e = let end = last w.first x in none-left w.left (omega arith) (last w.second y)
+    same-end x None t' y false e = let z : ⊥ = cc in absurd z
+    same-end x (Some k) t' y true e = let z : ⊥ = cc in absurd z
+    same-end x (Some k) t' y false e = let end = last w.first x in one-left w.left (omega arith) (here w.second y)
 
 -- Both have a tree left, whose rows are r and s.
 pub record Turn (ns hashes : List ℕ) (p : Place) (a a-until b b-until i j : ℕ) (r s : Row) : Type 0 where
-  pub compared : Compared ns hashes a a-until b b-until
+  pub compared : Compared ns a a-until b b-until
   pub left : SameLeft ns hashes p a a-until b b-until i j
   pub more : i < a-until
   pub other : j < b-until
@@ -81,35 +93,12 @@ module _ {ns hashes : List ℕ} {p : Place} {a a-until b b-until i j : ℕ} {r s
   pub first-fits : RowFits 1024 r
   first-fits = rw turn.is (more-names turn.compared.nodes.few_names (turn.compared.nodes.row i (omega (arith, turn.more, turn.compared.first-in))))
 
-  pub second-fits : RowFits 1024 s
-  second-fits = rw turn.at (more-names turn.compared.nodes.few_names (turn.compared.nodes.row j (omega (arith, turn.other, turn.compared.second-in))))
-
   -- the size of each tree
   pub first-size : (1 ≤ r.size) × (i + r.size ≤ a-until)
   first-size = let o = opens turn.left.first turn.more in rw turn.is (o.here.one, o.rest.ordered)
 
   pub second-size : (1 ≤ s.size) × (j + s.size ≤ b-until)
   second-size = let o = opens turn.left.second turn.other in rw turn.at (o.here.one, o.rest.ordered)
-
-  -- both are within a book
-  pub first-few : (i + 1 ≤ 4096) × (i + r.size ≤ 4096)
-  first-few = (omega (arith, first-size, turn.compared.first-in, turn.compared.nodes.few_nodes), omega (arith, first-size.1, turn.compared.first-in, turn.compared.nodes.few_nodes))
-
-  pub second-few : (j + 1 ≤ 4096) × (j + s.size ≤ 4096)
-  second-few = (omega (arith, second-size, turn.compared.second-in, turn.compared.nodes.few_nodes), omega (arith, second-size.1, turn.compared.second-in, turn.compared.nodes.few_nodes))
-
-  pub kids-compared : Compared ns hashes (i + 1) (i + r.size) (j + 1) (j + s.size)
-  kids-compared =
-      record {
-        names = turn.compared.names;
-        count = turn.compared.count;
-        nodes = turn.compared.nodes;
-        hashed = turn.compared.hashed;
-        first = rw turn.is (kids-whole (opens turn.left.first turn.more).here);
-        first-in = omega (arith, first-size.1, turn.compared.first-in);
-        second = rw turn.at (kids-whole (opens turn.left.second turn.other).here);
-        second-in = omega (arith, second-size.1, turn.compared.second-in);
-      }
 
   -- both open: their nodes, what is below these, and what is after them
   both-open : (names : List (List ℕ)) →
@@ -138,3 +127,23 @@ module _ {ns hashes : List ℕ} {p : Place} {a a-until b b-until i j : ℕ} {r s
             second = rw turn.at (opens turn.left.second turn.other).rest;
             rest = λ names agree. sym (rw (both-open names, ← n names agree, y, ← below, ← m names agree, f)) ∙ turn.left.rest names agree;
           }
+
+-- The walks over both gave a tree each, and went on.
+module _ {ns hashes : List ℕ} {p : Place} {a a-until b b-until i j : ℕ} {s t s' t' : Siblings} {n m : Node}
+    (w : Walked ns hashes p a a-until b b-until s t) (x : NextTree s i n s') (y : NextTree t j m t') where
+  pub turn : Compared ns a a-until b b-until → Turn ns hashes p a a-until b b-until i j (as_row n) (as_row m)
+  turn c =
+      record {
+        compared = c;
+        left = rw (x.place, y.place) w.left;
+        more = rw x.place (here w.first x);
+        other = rw y.place (here w.second y);
+        is = row w.first x ∙ ap (row_at ns) (sym x.place);
+        at = row w.second y ∙ ap (row_at ns) (sym y.place);
+      }
+
+  pub walked-on : SameLeft ns hashes p a a-until b b-until (i + n.size) (j + m.size) → Walked ns hashes p a a-until b b-until s' t'
+  walked-on l =
+      let first-at : i + n.size ≡ s'.at = omega (arith, x.place, size w.first x, at w.first x) in
+      let second-at : j + m.size ≡ t'.at = omega (arith, y.place, size w.second y, at w.second y) in
+      record { first = over-next w.first x; second = over-next w.second y; left = rw (← first-at, ← second-at) l }

@@ -1,36 +1,32 @@
 -- Two tables of roots: the loop that compares them, and the one that makes them one. Assumes nothing.
 --     roots-compared, roots-same           two roots
---     merge-start, merge-on, ..            the loop that compares all
---     merged-start, merged-on, ..          the loop that makes the table of both
+--     MergeLeft, merge-on, ..              the loop that compares all
+--     MergedLeft, merged-end               the loop that makes the table of both
 --     merged-roots, merged-binds           that table is one of roots, and has what the merged definitions say
 use mathlib.Core.Path.{◌≡◌, sym, ap, ap₂, ◌∙◌}
 use mathlib.Core.Bool.{Bool, true, false}
 use mathlib.Core.List.{List}
 use Prim.Native.Nat.{ℕ, ◌+◌, ◌-◌, ◌≤◌, ◌<◌}
-use native.Mathlib.Nat.{sub-zero}
 use native.Mathlib.Decide.{ℕ_discrete, dec_lt}
 use native.Mathlib.Omega.{arith}
 use borrow.Author.Tests.{ne_eqb}
-use lib.ListN.{length, get_or, set, length-set, get_or-eq_default}
-use lib.Seq.{get_or-set_same, get_or-set_other}
+use lib.ListN.{length, get_or, get_or-eq_default}
 use Rattle.format.specs.declared.Place.TheVariants.{Root}
 use Rattle.format.specs.Book.{Definition}
 use Rattle.format.specs.Encode.{Row}
 use Rattle.format.specs.Layout.{row_at, siblings}
-use Rattle.format.specs.Whole.{Within, WholeIn, tree_at}
-use Rattle.format.proofs.Rows.{node-within}
+use Rattle.format.specs.Whole.{WholeIn, tree_at}
 use Rattle.format.proofs.Stored.{tree-whole}
 use Rattle.refusals.specs.declared.Refusal as refusal
-use Rattle.refusals.specs.declared.Verdict.{Verdict}
-use Rattle.refusals.specs.declared.Verdict.TheVariants.{Passed, Refused}
-use Rattle.refusals.specs.Verdict.{unless}
+use Rattle.refusals.specs.Verdict.{Verdict, passes, unless}
+use Rattle.std.specs.Prelude.{Err}
 use Rattle.judgement.specs.Environment.{find_type, merge_definitions, same_forest}
 use Rattle.judgement.specs.Check.{each_name, same_verdict, merge_verdict}
 use Rattle.judgement.proofs.Lookup.{merge-first, merge-second}
 use Rattle.environment.specs.Tables.{Roots, found_at, Binds}
 use Rattle.book.specs.Tables.{HashesAgree}
 use Rattle.environment.specs.Merging.{Compared, Mergeable, ComparedRoots, same_roots, either_root, MergedAs}
-use Rattle.environment.proofs.Links.{found-none, found-some, get_or-within, in-table}
+use Rattle.environment.proofs.Links.{found-none, found-some, in-table}
 use Rattle.environment.proofs.Ends.{each-cons}
 use Rattle.environment.proofs.merge.Lockstep.{SameAs}
 
@@ -58,35 +54,28 @@ module _ (names : List (List ℕ)) (ns : List ℕ) (a b : ℕ) where
       go (no h) (yes e) = rw (found-some ns a h, found-none ns b e, ← second-none h e)
       go (no h) (no k) = rw (found-some ns a h, found-some ns b k, ← both-some h k)
 
-module _ {ns hashes : List ℕ} {a b : ℕ} (x : ComparedRoots ns hashes a b) (h : a ≡ 65535 → ⊥) (k : b ≡ 65535 → ⊥) where
+module _ {ns : List ℕ} {a b : ℕ} (x : ComparedRoots ns a b) (h : a ≡ 65535 → ⊥) (k : b ≡ 65535 → ⊥) where
   first-tree : WholeIn ns a x.count
   first-tree = x.nodes.tree a (x.first h)
 
   second-tree : WholeIn ns b x.count
   second-tree = x.nodes.tree b (x.second k)
 
-  pub first-root : Within ns (a + 1)
-  first-root = node-within first-tree.whole
-
-  pub second-root : Within ns (b + 1)
-  second-root = node-within second-tree.whole
-
   module _ (r s : Row) (is : r ≡ row_at ns a) (at : s ≡ row_at ns b) where
-    pub roots-compared : Compared ns hashes a (a + r.size) b (b + s.size)
+    pub roots-compared : Compared ns a (a + r.size) b (b + s.size)
     roots-compared =
         record {
           names = x.names;
           count = x.count;
           nodes = x.nodes;
-          hashed = x.hashed;
           first = rw is (tree-whole first-tree.whole);
           first-in = rw is first-tree.ends;
           second = rw at (tree-whole second-tree.whole);
           second-in = rw at second-tree.ends;
         }
 
-    pub roots-same : {v : Bool} → SameAs ns hashes Root a (a + r.size) b (b + s.size) v → (names : List (List ℕ)) → HashesAgree hashes names → v ≡ same_roots names ns a b
-    roots-same m names agree =
+    pub roots-same : (hashes : List ℕ) {v : Bool} → SameAs ns hashes Root a (a + r.size) b (b + s.size) v → (names : List (List ℕ)) → HashesAgree hashes names → v ≡ same_roots names ns a b
+    roots-same hashes m names agree =
         m names agree
         ∙ ap₂ (λ (p q : Row). same_forest names Root (siblings ns a (a + p.size)) (siblings ns b (b + q.size))) is at
         ∙ both-some names ns a b h k
@@ -100,16 +89,13 @@ pub record MergeLeft (ns hashes init main : List ℕ) (names n : ℕ) : Type 0 w
   pub rest : (ls : List (List ℕ)) (ids ds : List Definition) → HashesAgree hashes ls → Binds ns init ids → Binds ns main ds →
       each_name (λ m. same_verdict ls m (find_type ids m) (find_type ds m)) n (names - n) ≡ each_name (λ m. same_verdict ls m (find_type ids m) (find_type ds m)) 0 names
 
-pub merge-start : (ns hashes init main : List ℕ) (names : ℕ) → MergeLeft ns hashes init main names 0
-merge-start ns hashes init main names = record { passed = omega arith; rest = λ ls ids ds a i m. rw (sub-zero names) }
-
 -- What the comparison answers.
 abbrev pub MergeAs : List ℕ → List ℕ → List ℕ → List ℕ → ℕ → Verdict → Type 0
 MergeAs ns hashes init main names v =
     (ls : List (List ℕ)) (ids ds : List Definition) → HashesAgree hashes ls → length ls ≡ names → Binds ns init ids → Binds ns main ds → v ≡ merge_verdict ls ids ds
 
 module _ {ns hashes init main : List ℕ} {names n : ℕ} (x : Mergeable ns hashes init main names) (l : MergeLeft ns hashes init main names n) where
-  pub merge-end : names ≤ n → MergeAs ns hashes init main names Passed
+  pub merge-end : names ≤ n → MergeAs ns hashes init main names passes
   unfolding merge_verdict each_name
   merge-end h ls ids ds a e i m = let z : names - n ≡ 0 = omega arith in rw (e, ← l.rest ls ids ds a i m, z)
 
@@ -120,17 +106,6 @@ module _ {ns hashes init main : List ℕ} {names n : ℕ} (x : Mergeable ns hash
     pub second-at : get_or main n 0 ≡ get_or main n 65535
     second-at = in-table x.second (omega (arith, x.nodes.few_names))
 
-    pub roots-at : ComparedRoots ns hashes (get_or init n 0) (get_or main n 0)
-    roots-at =
-        record {
-          names = names;
-          count = x.count;
-          nodes = x.nodes;
-          hashed = x.hashed;
-          first = rw first-at (x.first.node n);
-          second = rw second-at (x.second.node n);
-        }
-
     module _ {v : Bool} (s : (ls : List (List ℕ)) → HashesAgree hashes ls → v ≡ same_roots ls ns (get_or init n 0) (get_or main n 0)) where
       verdict-at : (ls : List (List ℕ)) (ids ds : List Definition) → HashesAgree hashes ls → Binds ns init ids → Binds ns main ds →
           verdicts ls ids ds n ≡ unless v (refusal.Refusal.Differs n)
@@ -139,7 +114,7 @@ module _ {ns hashes init main : List ℕ} {names n : ℕ} (x : Mergeable ns hash
           ∙ roots-verdict ls ns (get_or init n 65535) (get_or main n 65535) n
           ∙ ap (λ (t : Bool). unless t (refusal.Refusal.Differs n)) (ap₂ (same_roots ls ns) (sym first-at) (sym second-at) ∙ sym (s ls a))
 
-      pub merge-differs : v ≡ false → MergeAs ns hashes init main names (Refused (refusal.Refusal.Differs n))
+      pub merge-differs : v ≡ false → MergeAs ns hashes init main names (Err (refusal.Refusal.Differs n))
       unfolding merge_verdict
       merge-differs f ls ids ds a e i m = rw (e, ← l.rest ls ids ds a i m, each-cons (verdicts ls ids ds) n names h, verdict-at ls ids ds a i m, f)
 
@@ -156,9 +131,6 @@ pub record MergedLeft (init main roots : List ℕ) (n : ℕ) : Type 0 where
   pub long : length roots ≡ 1024
   pub done : (m : ℕ) → m < n → get_or roots m 65535 ≡ either_root (get_or init m 65535) (get_or main m 65535)
 
-pub merged-start : (init main both : List ℕ) → length both ≡ 1024 → MergedLeft init main both 0
-merged-start init main both l = record { passed = omega arith; long = l; done = λ m h. absurd (omega arith) }
-
 module _ {init main roots : List ℕ} {n : ℕ} (long : length init ≡ 1024) (long' : length main ≡ 1024) (l : MergedLeft init main roots n) where
   pub merged-end : 1024 ≤ n → MergedAs init main roots
   unfolding either_root
@@ -172,17 +144,6 @@ module _ {init main roots : List ℕ} {n : ℕ} (long : length init ≡ 1024) (l
             get_or-eq_default init 65535 {n = m} (omega arith),
             get_or-eq_default main 65535 {n = m} (omega arith),
           )
-
-  pub merged-on : n < 1024 → (v : ℕ) → v ≡ either_root (get_or init n 0) (get_or main n 0) → MergedLeft init main (set roots n v) (n + 1)
-  merged-on h v e = record { passed = omega arith; long = simp length-set l.long; done = λ m i. done' m i (ℕ_discrete m n) }
-    where
-      done' : (m : ℕ) → m < n + 1 → Dec (m ≡ n) → get_or (set roots n v) m 65535 ≡ either_root (get_or init m 65535) (get_or main m 65535)
-      done' m i (yes q) =
-          rw q
-          (get_or-set_same roots n v 65535 (omega (arith, l.long))
-          ∙ e
-          ∙ ap₂ either_root (get_or-within init n 0 65535 (omega arith)) (get_or-within main n 0 65535 (omega arith)))
-      done' m i (no q) = get_or-set_other roots n m v 65535 q ∙ l.done m (omega arith)
 
 -- ---- what that table is
 first-kept : (a b : ℕ) → (a ≡ 65535 → ⊥) → either_root a b ≡ a

@@ -1,7 +1,7 @@
 -- `ludzepin_draft_list` meets its contract. Assumes nothing.
 use mathlib.Core.Path.{sym, ap, subst, ◌∙◌}
 use native.Mathlib.Omega.{arith}
-use Rattle.refusals.specs.declared.Answer.{Answer}
+use Rattle.refusals.specs.Handed.{Answer}
 use Rattle.codes.specs.Coded.{coded_answer, Below, small, ReadAnswer}
 use Rattle.exports.proofs.Small.{most-below}
 use Rattle.listing.proofs.DraftList.{draft-bytes-most}
@@ -9,10 +9,10 @@ use Rattle.exports.proofs.ludzepin_draft_list.Goals as goal
 
 pub answer_code-requires : goal.answer_code-requires
 answer_code-requires c =
-    subst (Below small) (sym c.draft_list-of_draft.ensures.answer) (most-below small 512 (omega arith) _ (draft-bytes-most _ _))
+    subst (Below small) (sym c.draft_list.ensures.answer) (most-below small 512 (omega arith) _ (draft-bytes-most _ _))
 
 pub returns : goal.returns
 returns c =
-    let said = c.draft_list-of_draft.ensures in
+    let said = rw c.limits_of-limits.ensures at c.draft_list.ensures in
     let code = c.answer_code.ensures in
     record { answer = code.answer ∙ ap coded_answer said.answer; read = subst (λ (a : Answer). ReadAnswer a c.answer_code.result) said.answer code.read; left = said.left }

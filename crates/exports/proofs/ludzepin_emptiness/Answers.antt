@@ -1,7 +1,7 @@
 -- `ludzepin_emptiness` meets its contract. Assumes nothing.
 use mathlib.Core.Path.{sym, ap, subst, ◌∙◌}
 use native.Mathlib.Omega.{arith}
-use Rattle.refusals.specs.declared.Answer.{Answer}
+use Rattle.refusals.specs.Handed.{Answer}
 use Rattle.codes.specs.Coded.{coded_answer, Below, small, ReadAnswer}
 use Rattle.exports.proofs.Small.{most-below}
 use Rattle.listing.proofs.Empty.{emptiness-bytes-most}
@@ -9,10 +9,10 @@ use Rattle.exports.proofs.ludzepin_emptiness.Goals as goal
 
 pub answer_code-requires : goal.answer_code-requires
 answer_code-requires c =
-    subst (Below small) (sym c.emptiness-empty.ensures.answer) (most-below small 512 (omega arith) _ (emptiness-bytes-most _ _))
+    subst (Below small) (sym c.emptiness.ensures.answer) (most-below small 512 (omega arith) _ (emptiness-bytes-most _ _))
 
 pub returns : goal.returns
 returns c =
-    let said = c.emptiness-empty.ensures in
+    let said = rw c.limits_of-limits.ensures at c.emptiness.ensures in
     let code = c.answer_code.ensures in
     record { answer = code.answer ∙ ap coded_answer said.answer; read = subst (λ (a : Answer). ReadAnswer a c.answer_code.result) said.answer code.read; left = said.left }

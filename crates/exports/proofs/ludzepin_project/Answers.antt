@@ -1,7 +1,7 @@
 -- `ludzepin_project` meets its contract. Assumes nothing.
 use mathlib.Core.Path.{sym, ap, subst, ◌∙◌}
 use native.Mathlib.Omega.{arith}
-use Rattle.refusals.specs.declared.Answer.{Answer}
+use Rattle.refusals.specs.Handed.{Answer}
 use Rattle.codes.specs.Coded.{coded_answer, Below, small, ReadAnswer}
 use Rattle.exports.proofs.Small.{most-below}
 use Rattle.listing.proofs.Project.{project-bytes-most}
@@ -10,11 +10,11 @@ use Rattle.exports.proofs.ludzepin_project.Goals as goal
 pub answer_code-requires : goal.answer_code-requires
 answer_code-requires c =
     let start = c.args in
-    subst (Below small) (sym c.project-taken.ensures.answer)
+    subst (Below small) (sym c.project.ensures.answer)
     (most-below small 4096 (omega arith) _ (project-bytes-most _ _ start.asked.now))
 
 pub returns : goal.returns
 returns c =
-    let said = c.project-taken.ensures in
+    let said = rw c.limits_of-limits.ensures at c.project.ensures in
     let code = c.answer_code.ensures in
     record { answer = code.answer ∙ ap coded_answer said.answer; read = subst (λ (a : Answer). ReadAnswer a c.answer_code.result) said.answer code.read; left = said.left }

@@ -13,7 +13,7 @@ use native.Mathlib.Decide.{ℕ_discrete}
 use native.Mathlib.Omega.{arith}
 use borrow.Author.Tests.{ne_eqb}
 use lib.Dec.{eqb}
-use lib.ListN.{length, get_or, set, take, drop, replicate, length-replicate, length-map, get_or-map}
+use lib.ListN.{length, get_or, set, take, drop, replicate, length-replicate, get_or-map}
 use lib.Seq.{set-set, take-set-lt, set-get_or, get_or-take, drop-cons}
 use Rattle.format.specs.Forest.{Forest, end}
 use Rattle.format.specs.Node.{Kind, PrimT, VarT, OptT, VecT, RecordT, VariantT, FuncT, ServT, ClassT, InitT, Node}
@@ -57,10 +57,6 @@ mark-empty y = ap answered (sym y)
 pub mark-not-empty : {e : Bool} → e ≡ false → mark_of_byte 3 ≡ answered e
 unfolding mark_of_byte
 mark-not-empty n = ap answered (sym n)
-
--- an array's length inside a struct
-pub plain-length : (l : List ℕ) (n : ℕ) → length (map (λ (v : ℕ). v) l) ≡ n → length l ≡ n
-plain-length l n h = sym (length-map l (λ (v : ℕ). v)) ∙ h
 
 -- ---- a name's root, as the table is read
 module _ {ns roots : List ℕ} {names : ℕ} (x : Environment ns roots names) {n : ℕ} (h : n < names) where

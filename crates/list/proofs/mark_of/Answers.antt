@@ -1,9 +1,13 @@
 -- `mark_of` meets its contract. Assumes nothing.
-use Rattle.list.proofs.Listed.{mark-some, mark-none}
+use mathlib.Core.Path.{sym, ◌∙◌}
+use Rattle.list.specs.Printed.{mark_of}
+use Rattle.list.proofs.Listed.{member-any}
 use Rattle.list.proofs.mark_of.Goals as goal
 
-pub returns-then-is_marked : goal.returns-then-is_marked
-returns-then-is_marked c = mark-some _ _ c.is_marked.ensures c.if-is_marked.true
+pub returns-then-contains : goal.returns-then-contains
+unfolding mark_of
+returns-then-contains c = rw (sym (c.contains.ensures.value ∙ member-any c.args.name c.args.marked.now) ∙ c.if-contains.true)
 
-pub returns : goal.returns
-returns c = mark-none _ _ c.is_marked.ensures c.if-is_marked.false
+pub returns-else-contains : goal.returns-else-contains
+unfolding mark_of
+returns-else-contains c = rw (sym (c.contains.ensures.value ∙ member-any c.args.name c.args.marked.now) ∙ c.if-contains.false)

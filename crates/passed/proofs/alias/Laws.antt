@@ -4,11 +4,11 @@
 --     alias-lacks, alias-here, ..   the question
 use mathlib.Core.Path.{◌≡◌, refl, sym, ap, ap₂, subst, ◌∙◌}
 use mathlib.Core.List.{List, [], ◌∷◌}
-use Prim.Native.Nat.{ℕ, ◌+◌, ◌≤◌, ◌<◌}
+use Prim.Native.Nat.{ℕ, suc, ◌+◌, ◌≤◌, ◌<◌}
 use native.Mathlib.Omega.{arith}
 use lib.ListN.{length, get_or}
 use Rattle.refusals.specs.declared.Refusal.TheVariants.{Unbound}
-use Rattle.refusals.specs.declared.AliasAnswer.TheVariants.{Given, Refused}
+use Rattle.std.specs.Prelude.{Ok, Err}
 use Rattle.refusals.specs.Handed.{alias_answer}
 use Rattle.refusals.proofs.Outcomes.{after-passed}
 use Rattle.format.specs.Forest.{Forest, count}
@@ -28,6 +28,7 @@ use Rattle.judgement.proofs.Lengths.{ended, crossed-first}
 use Rattle.judgement.proofs.Books.{main-definitions-fit}
 use Rattle.environment.specs.declared.Link.{Link}
 use Rattle.environment.specs.Tables.{link_of, crossed_in}
+use Rattle.std.specs.Prelude.{Option, Some, None}
 use Rattle.environment.proofs.Links.{found-none, found-some, Bound, LinkSays, link-says}
 use Rattle.environment.proofs.ChainEnds.{name-ended}
 use Rattle.typing.specs.declared.prog.Passed.{Passed}
@@ -88,49 +89,87 @@ module _ {ns roots : List ℕ} {n crossed m k : ℕ} (g : Going ns roots n cross
       last (x ∷ rest) z = absurd (omega arith)
 
   -- the step goes on to the next name
-  module _ (h : k < crossed) (s : Link) (is : s ≡ link_of ns (get_or roots m 65535)) where
-    onward : Left c s.next (k + 1)
-    unfolding last_of head head_kind
-    onward = two l.rest l.run l.left l.same
-      where
-        l : Left c m k
-        l = g.left ms c
+  record Onward (o : Option Link) : Type 0 where
+    link : Link
+    linked : o ≡ Some link
+    next : ℕ
+    goes : link.next ≡ Some next
+    left : Left c next (k + 1)
 
-        says : LinkSays ns roots c.names c.count m s
-        says = link-says c.nodes c.table m s is
+  onward : k < crossed → (o : Option Link) → LinkSays ns roots c.names c.count m o → Onward o
+  unfolding last_of head head_kind
+  onward h o says = two l.rest l.run l.left l.same o says
+    where
+      l : Left c m k
+      l = g.left ms c
 
-        two : (rest : List ℕ) → Run c.definitions (name_type m) (m ∷ rest) l.end → length rest + k ≡ crossed → last_of m rest ≡ last_of n ms → Left c s.next (k + 1)
-        two [] run left same = absurd (omega arith)
-        two (x ∷ rest) run left same =
-            let here = crossed-one c.definitions run m (x ∷ rest) refl in
-            let next = crossed-one c.definitions here.3 x rest refl in
-            let i : Bound ns roots c.names c.count m s = says.bound (λ e. not-both-found (says.lacks e c.definitions c.binds) here.2) in
-            let b : body here.0 ≡ body (tree_at ns s.root) = sym here.2 ∙ i.is c.definitions c.binds in
-            let u : here.0 ≡ tree_at ns s.root = cc in
-            let q : head (tree_at ns s.root) ≡ named x = sym (ap head u) ∙ next.1 in
-            let more : (s.next ≡ 65535 → ⊥) = λ e. other-named (i.stops e) q in
-            let v : named x ≡ named s.next = sym q ∙ i.goes-on more in
-            let j : x ≡ s.next = cc in
-            subst (λ (y : ℕ). Left c y (k + 1)) j
-            (record {
-              inside = rw j (i.next-inside more);
-              rest = rest;
-              end = l.end;
-              run = crosses {u = next.0} (record { is-name = refl; is-type = next.2 }) next.3;
-              left = omega (arith, left);
-              same = same;
-            })
+      named-on : (s : Link) → Bound ns roots c.names c.count m s → (x : ℕ) (rest : List ℕ) {v : Forest Node} → head (tree_at ns s.root) ≡ named x →
+          find_type c.definitions x ≡ body v → Run c.definitions v rest l.end → suc (length rest) + k ≡ crossed → last_of x rest ≡ last_of n ms →
+          (y : Option ℕ) → s.next ≡ y → Onward (Some s)
+      named-on s i x rest q d run left same None e = absurd (other-named (i.stops e) q)
+      named-on s i x rest q d run left same (Some y) e =
+          let v : named x ≡ named y = sym q ∙ i.goes-on y e in
+          let j : y ≡ x = cc in
+          record {
+            link = s;
+            linked = refl;
+            next = x;
+            goes = e ∙ ap Some j;
+            left =
+                record {
+                  inside = rw (← j) (i.next-inside y e);
+                  rest = rest;
+                  end = l.end;
+                  run = crosses (record { is-name = refl; is-type = d }) run;
+                  left = omega (arith, left);
+                  same = same;
+                };
+          }
 
-pub going-on : {ns roots : List ℕ} {n crossed m k : ℕ} (g : Going ns roots n crossed m k) → k < crossed → (s : Link) → s ≡ link_of ns (get_or roots m 65535) →
-    Going ns roots n crossed s.next (k + 1)
-going-on g h s is = record { some = omega (arith, g.some); left = λ ms c. onward g c h s is }
+      two : (rest : List ℕ) → Run c.definitions (name_type m) (m ∷ rest) l.end → length rest + k ≡ crossed → last_of m rest ≡ last_of n ms →
+          (o : Option Link) → LinkSays ns roots c.names c.count m o → Onward o
+      two [] run left same o says = absurd (omega arith)
+      two (x ∷ rest) run left same None says =
+          let here = crossed-one c.definitions run m (x ∷ rest) refl in
+          absurd (not-both-found (says.lacks.1 c.definitions c.binds) here.2)
+      two (x ∷ rest) run left same (Some s) says =
+          let here = crossed-one c.definitions run m (x ∷ rest) refl in
+          let next = crossed-one c.definitions here.3 x rest refl in
+          let i = says.bound in
+          let b : body here.0 ≡ body (tree_at ns s.root) = sym here.2 ∙ i.is c.definitions c.binds in
+          let u : here.0 ≡ tree_at ns s.root = cc in
+          named-on s i x rest (sym (ap head u) ∙ next.1) next.2 next.3 left same s.next refl
+
+  step-on : k < crossed → {o : Option Link} → o ≡ link_of ns (get_or roots m 65535) → Onward o
+  step-on h {o} is = onward h o (link-says c.nodes c.table m o is)
+
+module _ {ns roots : List ℕ} {n crossed m k : ℕ} (g : Going ns roots n crossed m k) {ms : List ℕ} (c : Crossing ns roots n crossed ms) (h : k < crossed)
+    {o : Option Link} (is : o ≡ link_of ns (get_or roots m 65535)) where
+  -- there is a definition, and it is a name
+  pub step-links : o ≡ None → ⊥
+  step-links e = let z = sym e ∙ (step-on g c h is).linked in cc
+
+  pub step-names : {s : Link} → o ≡ Some s → s.next ≡ None → ⊥
+  step-names e f = let w = step-on g c h is in let z = sym e ∙ w.linked in let y = w.goes in cc
+
+pub going-on : {ns roots : List ℕ} {n crossed m k : ℕ} (g : Going ns roots n crossed m k) → k < crossed →
+    {o : Option Link} → o ≡ link_of ns (get_or roots m 65535) → {s : Link} → o ≡ Some s → {x : ℕ} → s.next ≡ Some x → Going ns roots n crossed x (k + 1)
+going-on {k = k} g h is e {x} f = record {
+  some = omega (arith, g.some);
+  left = λ ms c.
+      let w = step-on g c h is in
+      let z = sym e ∙ w.linked in
+      let y = w.goes in
+      let j : w.next ≡ x = cc in
+      subst (λ (y : ℕ). Left c y (k + 1)) j w.left;
+}
 
 -- ---- The question on a book that passed
 module _ {bs : List ℕ} {c : Contents} {a : Admitted bs c} {roots ends' : List ℕ} {p : Passed} (x : PassedAs a roots ends' p) (n : ℕ) where
   abbrev ds : List Definition
   ds = main_definitions a.book
 
-  pub alias-lacks : get_or roots n 65535 ≡ 65535 → Refused (Unbound n) ≡ alias_answer (alias a.book n)
+  pub alias-lacks : get_or roots n 65535 ≡ 65535 → Err (Unbound n) ≡ alias_answer (alias a.book n)
   unfolding alias_answer
   alias-lacks z =
       let m = find-missing ds n (x.checked.env.binds n ∙ found-none (nodes_part bs) (get_or roots n 65535) z) in
@@ -164,9 +203,9 @@ module _ {bs : List ℕ} {c : Contents} {a : Admitted bs c} {roots ends' : List 
           counted = is ∙ (x.chains n small).crossed ∙ ap length first.1;
         })
 
-    pub alias-here : {k last : ℕ} → k ≡ crossed_in ends' n → last ≡ last_of n first.0 → Given (record { names = k; last = last }) ≡ alias_answer (alias a.book n)
+    pub alias-here : {k last : ℕ} → k ≡ crossed_in ends' n → last ≡ last_of n first.0 → Ok (record { names = k; last = last }) ≡ alias_answer (alias a.book n)
     unfolding alias alias_of crossed_by alias_answer alias_length
     alias-here is at =
         let counted = is ∙ (x.chains n small).crossed ∙ ap length first.1 in
-        ap₂ (λ (i j : ℕ). Given (record { names = i; last = j })) counted at
+        ap₂ (λ (i j : ℕ). Ok (record { names = i; last = j })) counted at
         ∙ sym (ap alias_answer (after-passed (check a.book) _ x.passed ∙ ap (crossed_by n) first.1))

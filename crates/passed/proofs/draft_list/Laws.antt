@@ -1,6 +1,6 @@
 -- The definitions and the actor of a draft, as the code finds them. Assumes nothing.
 use mathlib.Core.Path.{◌≡◌, sym, ap, subst, ◌∙◌}
-use mathlib.Core.Bool.{true, false, cond}
+use mathlib.Core.Bool.{true, false}
 use mathlib.Core.List.{List, []}
 use Prim.Native.Nat.{ℕ, ◌-◌, ◌≤◌, ◌<◌}
 use native.Mathlib.Nat.{sub-zero}
@@ -8,10 +8,9 @@ use native.Mathlib.Omega.{arith}
 use borrow.Author.Tests.{ne_eqb}
 use lib.Dec.{eqb}
 use lib.ListN.{length}
-use Rattle.refusals.specs.declared.Refusal as refusal
 use Rattle.refusals.specs.declared.Refusal.TheVariants.{NoActor}
-use Rattle.refusals.specs.declared.Verdict.{Verdict}
-use Rattle.refusals.specs.declared.Verdict.TheVariants.{Passed, Refused}
+use Rattle.std.specs.Prelude.{Err}
+use Rattle.refusals.specs.Verdict.{Verdict, passes}
 use Rattle.refusals.specs.Outcome.{refused, after}
 use Rattle.format.specs.Forest.{count, no_trees}
 use Rattle.format.specs.Book.{Definition, Book, trees}
@@ -26,13 +25,15 @@ use Rattle.judgement.specs.Environment.{keep}
 use Rattle.judgement.specs.Actor.{main_actor}
 use Rattle.judgement.specs.Check.{once_verdict}
 use Rattle.judgement.proofs.Lookup.{keep-first}
-use Rattle.environment.specs.Tables.{Entries, Roots, DefinesAs, definitions_in, Tabled}
+use Rattle.environment.specs.Tables.{Binds, Entries, Roots, DefinesAs, definitions_in}
 use Rattle.environment.proofs.Definitions.{defined-length, defined-binds, defined-once}
 use Rattle.environment.specs.Trees.{AllTrees}
 use Rattle.syntax.proofs.Book.{all-made, definitions-parts, owners-rise, main-actor-is, few-definitions, entries-known, nodes-known, trees-fit, file-root, some-files, files-within}
 use Rattle.listing.specs.Chase.{chase_types, walked}
 use Rattle.listing.specs.Room.{needs_actor}
 use Rattle.listing.specs.DraftList.{draft_definitions, draft_list}
+use Rattle.std.proofs.Common.{Result}
+use Rattle.refusals.specs.declared.Refusal.{Refusal}
 use Rattle.analysis.specs.declared.chase.Walk.{Walk}
 use Rattle.analysis.specs.Walking.{Counted, WalkedAs, RootIn}
 use Rattle.passed.specs.Answers.{walk_outcome}
@@ -111,38 +112,36 @@ module _ {bs : List ℕ} {c : Contents} (a : Admitted bs c) where
           let n = book-trees.nodes in
           (rw (here, names-count a, nodes-count a) draft-entries, omega (arith, names-count a, n.few_names), omega (arith, nodes-count a, n.few_nodes))
 
-      module _ {roots : List ℕ} {twice : ℕ} (found : DefinesAs es c.nodes 0 k roots twice) where
-        d : DefinesAs entries (count (trees b)) 0 k roots twice
+      module _ {roots : List ℕ} {v : Verdict} (found : DefinesAs es c.nodes 0 k roots v) where
+        d : DefinesAs entries (count (trees b)) 0 k roots v
         d = rw (← here, ← nodes-count a) found
 
-        once-is : cond (eqb twice 65535) Passed (Refused (refusal.Refusal.Twice twice)) ≡ once_verdict [] (draft_definitions b)
-        once-is = sym (ap (once_verdict []) draft-definitions-are ∙ defined-once rows draft-entries d book-trees.nodes.few_names)
+        once-is : v ≡ once_verdict [] (draft_definitions b)
+        once-is = defined-once rows draft-entries d ∙ sym (ap (once_verdict []) draft-definitions-are)
 
-        pub draft-twice : (twice ≡ 65535 → ⊥) → draft_list b ≡ refused (refusal.Refusal.Twice twice)
+        pub draft-twice : {why : Refusal} → v ≡ Err why → draft_list b ≡ refused why
         unfolding after
-        draft-twice h = draft-goes (Refused (refusal.Refusal.Twice twice)) (sym (rw (ne_eqb twice 65535 h)) ∙ once-is)
+        draft-twice e = draft-goes (Err _) (sym e ∙ once-is)
 
-        module _ (h : twice ≡ 65535) where
-          table : Roots roots (count (trees b))
-          table = d.table (sym d.twice-is ∙ h)
+        module _ (h : v ≡ passes) where
+          passed : DefinesAs entries (count (trees b)) 0 k roots passes
+          passed = subst (DefinesAs entries (count (trees b)) 0 k roots) h d
 
-          tabled : Tabled rows roots k (draft_definitions b)
-          tabled =
-              rw draft-definitions-are
-              (defined-binds rows draft-entries d book-trees.nodes.few_nodes h, defined-length rows draft-entries ∙ sub-zero k)
+          bound : Binds rows roots (draft_definitions b)
+          bound = rw draft-definitions-are (defined-binds rows draft-entries passed book-trees.nodes.few_nodes)
 
-          few : k ≤ 512
-          few = omega (arith, s.within, few-definitions bs a.laid)
+          few : length (draft_definitions b) ≤ 512
+          few = omega (arith, ap length draft-definitions-are ∙ defined-length rows draft-entries ∙ sub-zero k, s.within, few-definitions bs a.laid)
 
           module _ {ns : List ℕ} (nodes-here : ns ≡ rows) where
             -- what the walk over the tree as written asks, and what it says
-            pub written : RootIn ns roots root × Counted ns roots k
-            written = rw nodes-here (root-in table, walks.counted (draft_definitions b) tabled few)
+            pub written : RootIn ns roots root × Counted ns roots
+            written = rw nodes-here (root-in passed.table, walks.counted (draft_definitions b) bound few)
 
-            module _ (w : Walk) (x : WalkedAs ns roots k (actor_at ns root) w) where
-              pub draft-walks : Walks rows roots k (draft_definitions b) (actor_at rows root) w
-              draft-walks = record { tables = tabled; few = few; comes = subst (λ (l : List ℕ). WalkedAs l roots k (actor_at l root) w) nodes-here x }
+            module _ (w : Result Walk Refusal) (x : WalkedAs ns roots (actor_at ns root) w) where
+              pub draft-walks : Walks rows roots (draft_definitions b) (actor_at rows root) w
+              draft-walks = record { binds = bound; few = few; comes = subst (λ (l : List ℕ). WalkedAs l roots (actor_at l root) w) nodes-here x }
 
               pub draft-says : draft_list b ≡ walk_outcome w
               unfolding after
-              draft-says = walk-says draft-walks (draft-goes Passed (sym (rw h) ∙ once-is))
+              draft-says = walk-says draft-walks (draft-goes passes (sym h ∙ once-is))

@@ -9,7 +9,7 @@ use Prim.Native.Nat.{ℕ, zero, suc, ◌*◌, ◌/◌, ◌≤◌, ◌<◌}
 use native.Mathlib.Decide.{dec_lt}
 use native.Mathlib.Omega.{arith}
 use lib.Dec.{eqb, leb, le→leb, leb→le}
-use lib.ListN.{length, get_or, take, drop}
+use lib.ListN.{length, get_or, drop}
 use Rattle.format.specs.Forest.{Forest, end, count}
 use Rattle.format.specs.Node.{Node}
 use Rattle.format.specs.Book.{Definition, Book, trees}
@@ -23,7 +23,7 @@ use Rattle.judgement.specs.WellFormed.{Defined}
 use Rattle.judgement.proofs.Lookup.{find-missing}
 use Rattle.environment.specs.Tables.{found_at, definitions_in}
 use Rattle.syntax.specs.Interfaces.{methods_in, InterfaceAs}
-use Rattle.refusals.specs.Handed.{Use, numbers, answer_of, uses_left, UsesAs}
+use Rattle.refusals.specs.Handed.{Answer, Use, numbers, answer_of, uses_left, UsesAs}
 use Rattle.listing.specs.Sites.{Site, class_sites, method_sites, sites}
 use Rattle.listing.specs.Uses.{kept, entry_of, uses}
 use Rattle.refusals.specs.Outcome.{Outcome, refused, given, fit}
@@ -31,9 +31,8 @@ use Rattle.listing.proofs.Uses.{passed-walks, uses-row, uses-answered, uses-unde
 use Rattle.analysis.specs.Reaching.{ReachAs, NearAs, Defining}
 use Rattle.analysis.specs.Entries.{uses_by, Offered, Puts}
 use Rattle.syntax.specs.declared.interface.Interface.{Interface}
-use Rattle.analysis.proofs.def_use.Entries.{puts-counts, puts-all}
-use Rattle.refusals.specs.declared.Answer.{Answer}
-use Rattle.refusals.specs.declared.Answer.TheVariants.{Given, Refused}
+use Rattle.analysis.proofs.def_use.Entries.{puts-all}
+use Rattle.std.specs.Prelude.{Ok, Err}
 use Rattle.passed.specs.Uses.{UsesHanded}
 use Rattle.typing.specs.declared.prog.Passed.{Passed}
 use Rattle.typing.specs.Passing.{PassedAs}
@@ -83,7 +82,7 @@ module _ {bs : List ℕ} {c : Contents} {a : Admitted bs c} {roots ends' : List 
 
     module _ {n : ℕ} (few : n < 1024) {flags near : List ℕ} (reach : ReachAs ds n flags) (table : NearAs rows flags (count (trees b)) near) where
       abbrev offered_sites : List Site
-      offered_sites = class_sites 0 (siblings rows i.from i.until) ++ method_sites ds 0 (methods_in rows (take i.count i.services))
+      offered_sites = class_sites 0 (siblings rows i.from i.until) ++ method_sites ds 0 (methods_in rows i.services)
 
       sites-are : sites ds (resolve_actor b) ≡ offered_sites
       unfolding sites
@@ -104,7 +103,7 @@ module _ {bs : List ℕ} {c : Contents} {a : Admitted bs c} {roots ends' : List 
           ∙ ap given
           (row.row-is ∙ ap (map entry_of) (kept-same row.used test (sites ds (resolve_actor b)) same) ∙ ap (λ (l : List Site). map entry_of (kept test l)) sites-are)
 
-      pub offered : Offered rows ends' near i.from i.until i.services i.count
+      pub offered : Offered rows ends' near i.from i.until i.services
       offered = record {
         names = _;
         nodes = _;
@@ -113,7 +112,7 @@ module _ {bs : List ℕ} {c : Contents} {a : Admitted bs c} {roots ends' : List 
         arguments = offers.arguments.whole;
         inside = offers.arguments.inside;
         few = offers.few;
-        service = λ k h. (offers.service k h).0;
+        service = λ k h. (offers.service k 0 h).0;
         definitions = ds;
         used = used_by flags;
         known = record { chains = x.chains; hits = used-hits reach few names-small x.all.nodes table };
@@ -139,9 +138,9 @@ module _ {bs : List ℕ} {c : Contents} {a : Admitted bs c} {roots ends' : List 
         first-rows : NearAs rows flags (count (trees b)) near
         first-rows = subst (λ (k : ℕ). NearAs rows flags k near) (nodes-are x) (subst (λ (l : List ℕ). NearAs l flags p.contents.nodes near) here table)
 
-        pub offered-here : Offered ns ends' near p.interface.from p.interface.until p.interface.services p.interface.count
+        pub offered-here : Offered ns ends' near p.interface.from p.interface.until p.interface.services
         offered-here =
-            subst (λ (l : List ℕ). Offered l ends' near p.interface.from p.interface.until p.interface.services p.interface.count) (sym here)
+            subst (λ (l : List ℕ). Offered l ends' near p.interface.from p.interface.until p.interface.services) (sym here)
             (offered some few (reached reach) first-rows)
 
         pub uses-here : {old new : List ℕ} {r : Answer} → UsesHanded ns ends' near p.interface old new r → UsesAs (uses b n) old new r
@@ -150,37 +149,33 @@ module _ {bs : List ℕ} {c : Contents} {a : Admitted bs c} {roots ends' : List 
 
 -- ---- What is handed over
 module _ {o : Outcome (List Use)} {es : List Use} (is : o ≡ given es) {old : List ℕ} where
-  pub uses-short : length old / 3 < length es → UsesAs o old old (Refused (Short (length es)))
+  pub uses-short : length old / 3 < length es → UsesAs o old old (Err (Short (length es)))
   unfolding fit answer_of uses_left
   uses-short h =
       let short = is-false (leb (length es) (length old / 3)) (λ t. omega (arith, leb→le (length es) (length old / 3) t)) in
       record { answer = rw (is, short); left = rw (is, short) }
 
-  pub uses-given : {new : List ℕ} → length es ≤ length old / 3 → new ≡ flat numbers es ++ drop (3 * length es) old → UsesAs o old new (Given (length es))
+  pub uses-given : {new : List ℕ} → length es ≤ length old / 3 → new ≡ flat numbers es ++ drop (3 * length es) old → UsesAs o old new (Ok (length es))
   unfolding fit answer_of uses_left
   uses-given h e =
       let long = is-true (leb (length es) (length old / 3)) (le→leb (length es) (length old / 3) h) in
       record { answer = rw (is, long); left = rw (is, long) e }
 
-pub uses-nothing : {o : Outcome (List Use)} {old : List ℕ} → o ≡ given [] → UsesAs o old old (Given 0)
+pub uses-nothing : {o : Outcome (List Use)} {old : List ℕ} → o ≡ given [] → UsesAs o old old (Ok 0)
 unfolding fit answer_of uses_left flat
 uses-nothing {old = old} e = uses-given e (omega arith) refl
 
--- counted first, which changes nothing, and then written
-module _ {es : List Use} {old mid : List ℕ} {needed : ℕ} (first : Puts 0 0 es old mid needed) where
-  mid-is : mid ≡ old
-  mid-is = puts-counts first refl
+-- counted first, into a list without places, and then written
+module _ {es : List Use} {places needed : ℕ} {none left : List ℕ} (first : Puts places 0 es none left needed) where
+  counted-is : needed ≡ length es
+  counted-is = omega (arith, first.counted)
 
-  pub hands-short : length mid / 3 < needed → UsesAs (given es) old mid (Refused (Short needed))
-  hands-short h =
-      let n : needed ≡ length es = omega (arith, first.counted) in
-      subst (λ (l : List ℕ). UsesAs (given es) old l (Refused (Short needed))) (sym mid-is)
-      (subst (λ (k : ℕ). UsesAs (given es) old old (Refused (Short k))) (sym n) (uses-short refl (rw (mid-is, n) at h)))
+  module _ {old : List ℕ} where
+    pub hands-short : length old / 3 < needed → UsesAs (given es) old old (Err (Short needed))
+    hands-short h = subst (λ (k : ℕ). UsesAs (given es) old old (Err (Short k))) (sym counted-is) (uses-short refl (rw counted-is at h))
 
-  pub hands-given : {new : List ℕ} {written : ℕ} → (needed ≤ length mid / 3) → Puts (length mid / 3) 0 es mid new written → UsesAs (given es) old new (Given written)
-  hands-given {new} {written} h second =
-      let n : needed ≡ length es = omega (arith, first.counted) in
-      let w : written ≡ length es = omega (arith, second.counted) in
-      let all = puts-all second (omega arith) (omega (arith, w, n, h)) in
-      subst (λ (k : ℕ). UsesAs (given es) old new (Given k)) (sym w)
-      (uses-given refl (rw (mid-is, n) at h) (all ∙ rw (w, mid-is)))
+    pub hands-given : {new : List ℕ} {written : ℕ} → needed ≤ length old / 3 → Puts (length old / 3) 0 es old new written → UsesAs (given es) old new (Ok written)
+    hands-given {new} {written} h second =
+        let w : written ≡ length es = omega (arith, second.counted) in
+        let all = puts-all second (omega arith) (omega (arith, w, counted-is, h)) in
+        subst (λ (k : ℕ). UsesAs (given es) old new (Ok k)) (sym w) (uses-given refl (rw counted-is at h) (all ∙ rw w refl))

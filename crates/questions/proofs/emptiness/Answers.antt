@@ -1,16 +1,19 @@
 -- `emptiness` meets its contract: admission, the check, and the question. Assumes nothing.
-use mathlib.Core.Path.{sym, ◌∙◌}
+use mathlib.Core.Path.{sym}
 use Rattle.listing.specs.Empty.{emptiness}
+use Rattle.typing.proofs.Handing.{handed-on}
 use Rattle.passed.proofs.Asking.{stops, answered, handed-refused, handed-as}
 use Rattle.listing.proofs.Empty.{emptiness-after}
 use Rattle.questions.proofs.emptiness.Goals as goal
 
-pub emptiness_passed-requires : goal.emptiness_passed-requires
-emptiness_passed-requires c = (c.pass-found.ensures.passed c.in-Passed.is).book
+pub emptiness-requires : goal.emptiness-requires
+emptiness-requires c = let e = c.checked.ensures in rw (e.bytes, e.passed, e.roots, e.ends) c.in_ok-passed.ensures.passed.book
 
-pub returns-in-Refused : goal.returns-in-Refused
-returns-in-Refused c = handed-refused _ (stops emptiness _ emptiness-after (sym c.pass-found.ensures.verdict ∙ c.in-Refused.is))
+pub returns-in_err-passed : goal.returns-in_err-passed
+returns-in_err-passed c = rw (handed-on c.from_residual.result c.from_residual.ensures) (handed-refused _ (stops emptiness _ emptiness-after (sym c.in_err-passed.ensures.verdict)))
 
-pub returns-in-Passed : goal.returns-in-Passed
-returns-in-Passed c =
-    let x = c.pass-found.ensures.passed c.in-Passed.is in handed-as (answered emptiness _ x.is) (c.emptiness_passed.ensures x.book)
+pub returns : goal.returns
+returns c =
+    let e = c.checked.ensures in
+    let x = c.in_ok-passed.ensures.passed in
+    handed-as (answered emptiness _ x.is) ((rw (e.bytes, e.passed, e.roots, e.ends) at c.emptiness.ensures) x.book)

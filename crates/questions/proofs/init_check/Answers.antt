@@ -1,15 +1,17 @@
 -- `init_check` meets its contract: admission, the check, and the init arguments. Assumes nothing.
-use mathlib.Core.Path.{sym, ◌∙◌}
-use Rattle.refusals.proofs.Verdicts.{passed-is as is-passed}
+use mathlib.Core.Path.{sym}
+use Rattle.typing.proofs.Handing.{handed-on}
 use Rattle.passed.proofs.Asking.{init-stops, init-goes}
 use Rattle.questions.proofs.init_check.Goals as goal
 
-pub returns-then-not-passed : goal.returns-then-not-passed
-returns-then-not-passed c = init-stops c.pass-found.ensures (sym c.passed.ensures ∙ c.if-not-passed.true)
+pub init_check-requires : goal.init_check-requires
+init_check-requires c = let e = c.checked.ensures in rw (e.bytes, e.passed, e.roots, e.ends) c.in_ok-checked.ensures.passed.book
 
-pub check_init_args-init-requires : goal.check_init_args-init-requires
-check_init_args-init-requires c = ((_, (c.pass-found.ensures.passed (is-passed _ (sym c.passed.ensures ∙ c.if-not-passed.false))).book), c.blank-both.ensures)
+pub returns-in_err-checked : goal.returns-in_err-checked
+returns-in_err-checked c = rw (handed-on c.from_residual.result c.from_residual.ensures) (sym (init-stops _ (sym c.in_err-checked.ensures.verdict)))
 
 pub returns : goal.returns
 returns c =
-    let x = c.pass-found.ensures.passed (is-passed _ (sym c.passed.ensures ∙ c.if-not-passed.false)) in init-goes x (c.check_init_args-init.ensures _ x.book)
+    let e = c.checked.ensures in
+    let x = c.in_ok-checked.ensures.passed in
+    init-goes _ x.is ((rw (e.bytes, e.passed, e.roots, e.ends) at c.init_check.ensures) x.book)

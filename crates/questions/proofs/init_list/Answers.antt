@@ -1,16 +1,19 @@
 -- `init_list` meets its contract: admission, the check, and the question. Assumes nothing.
-use mathlib.Core.Path.{sym, ◌∙◌}
+use mathlib.Core.Path.{sym}
 use Rattle.listing.specs.InitList.{init_list}
+use Rattle.typing.proofs.Handing.{handed-on}
 use Rattle.passed.proofs.Asking.{stops, answered, handed-refused, handed-as}
 use Rattle.listing.proofs.InitList.{init-list-after}
 use Rattle.questions.proofs.init_list.Goals as goal
 
-pub init_list_passed-requires : goal.init_list_passed-requires
-init_list_passed-requires c = (c.pass-found.ensures.passed c.in-Passed.is).book
+pub init_list-requires : goal.init_list-requires
+init_list-requires c = let e = c.checked.ensures in rw (e.bytes, e.passed, e.roots, e.ends) c.in_ok-passed.ensures.passed.book
 
-pub returns-in-Refused : goal.returns-in-Refused
-returns-in-Refused c = handed-refused _ (stops init_list _ init-list-after (sym c.pass-found.ensures.verdict ∙ c.in-Refused.is))
+pub returns-in_err-passed : goal.returns-in_err-passed
+returns-in_err-passed c = rw (handed-on c.from_residual.result c.from_residual.ensures) (handed-refused _ (stops init_list _ init-list-after (sym c.in_err-passed.ensures.verdict)))
 
-pub returns-in-Passed : goal.returns-in-Passed
-returns-in-Passed c =
-    let x = c.pass-found.ensures.passed c.in-Passed.is in handed-as (answered init_list _ x.is) (c.init_list_passed.ensures x.book)
+pub returns : goal.returns
+returns c =
+    let e = c.checked.ensures in
+    let x = c.in_ok-passed.ensures.passed in
+    handed-as (answered init_list _ x.is) ((rw (e.bytes, e.passed, e.roots, e.ends) at c.init_list.ensures) x.book)

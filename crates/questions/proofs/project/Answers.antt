@@ -1,15 +1,18 @@
 -- `project` meets its contract: admission, the check, and the question. Assumes nothing.
-use mathlib.Core.Path.{sym, ◌∙◌}
+use mathlib.Core.Path.{sym}
+use Rattle.typing.proofs.Handing.{handed-on}
 use Rattle.passed.proofs.Asking.{stops, answered, handed-refused, handed-as}
 use Rattle.listing.proofs.Project.{project-after}
 use Rattle.questions.proofs.project.Goals as goal
 
-pub project_passed-requires : goal.project_passed-requires
-project_passed-requires c = (c.pass-found.ensures.passed c.in-Passed.is).book
+pub project-requires : goal.project-requires
+project-requires c = let e = c.checked.ensures in rw (e.bytes, e.passed, e.roots, e.ends) c.in_ok-passed.ensures.passed.book
 
-pub returns-in-Refused : goal.returns-in-Refused
-returns-in-Refused c = handed-refused _ (stops _ _ (project-after _) (sym c.pass-found.ensures.verdict ∙ c.in-Refused.is))
+pub returns-in_err-passed : goal.returns-in_err-passed
+returns-in_err-passed c = rw (handed-on c.from_residual.result c.from_residual.ensures) (handed-refused _ (stops _ _ (project-after _) (sym c.in_err-passed.ensures.verdict)))
 
-pub returns-in-Passed : goal.returns-in-Passed
-returns-in-Passed c =
-    let x = c.pass-found.ensures.passed c.in-Passed.is in handed-as (answered _ _ x.is) (c.project_passed.ensures x.book)
+pub returns : goal.returns
+returns c =
+    let e = c.checked.ensures in
+    let x = c.in_ok-passed.ensures.passed in
+    handed-as (answered _ _ x.is) ((rw (e.bytes, e.passed, e.roots, e.ends) at c.project.ensures) x.book)

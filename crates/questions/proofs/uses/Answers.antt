@@ -1,15 +1,18 @@
 -- `uses` meets its contract: admission, the check, and the question. Assumes nothing.
-use mathlib.Core.Path.{sym, ◌∙◌}
+use mathlib.Core.Path.{sym}
+use Rattle.typing.proofs.Handing.{handed-on}
 use Rattle.passed.proofs.Asking.{stops, answered, uses-refused, uses-as}
 use Rattle.listing.proofs.Uses.{uses-after}
 use Rattle.questions.proofs.uses.Goals as goal
 
-pub uses_passed-requires : goal.uses_passed-requires
-uses_passed-requires c = (c.pass-found.ensures.passed c.in-Passed.is).book
+pub uses-requires : goal.uses-requires
+uses-requires c = let e = c.checked.ensures in rw (e.bytes, e.passed, e.roots, e.ends) c.in_ok-passed.ensures.passed.book
 
-pub returns-in-Refused : goal.returns-in-Refused
-returns-in-Refused c = uses-refused _ (stops _ _ (uses-after _) (sym c.pass-found.ensures.verdict ∙ c.in-Refused.is))
+pub returns-in_err-passed : goal.returns-in_err-passed
+returns-in_err-passed c = rw (handed-on c.from_residual.result c.from_residual.ensures) (uses-refused _ (stops _ _ (uses-after _) (sym c.in_err-passed.ensures.verdict)))
 
-pub returns-in-Passed : goal.returns-in-Passed
-returns-in-Passed c =
-    let x = c.pass-found.ensures.passed c.in-Passed.is in uses-as (answered _ _ x.is) (c.uses_passed.ensures x.book)
+pub returns : goal.returns
+returns c =
+    let e = c.checked.ensures in
+    let x = c.in_ok-passed.ensures.passed in
+    uses-as (answered _ _ x.is) ((rw (e.bytes, e.passed, e.roots, e.ends) at c.uses.ensures) x.book)

@@ -1,9 +1,5 @@
-use Prim.Native.Nat.{◌-◌}
 use Rattle.repeats.specs.Steps.{Skipped}
 use Rattle.repeats.proofs.first_parent.Given as goal
 
 abbrev pub invariant-loop-i : goal.invariant-loop-i
-invariant-loop-i l = Skipped l.rows l.nodes l.i
-
-abbrev pub decreases-loop-i : goal.decreases-loop-i
-decreases-loop-i l = l.nodes - l.i
+invariant-loop-i l = Skipped l.rows l.i

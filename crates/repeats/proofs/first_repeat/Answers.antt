@@ -1,26 +1,24 @@
--- `first_repeat` meets its contract: an admitted book is the one that is read from its bytes. Assumes nothing.
-use mathlib.Core.Path.{subst}
+-- `first_repeat` meets its contract: where no node has two children, none has a label twice; else the search finds the first. Assumes nothing.
 use native.Mathlib.Omega.{arith}
-use Rattle.format.specs.Book.{Book}
-use Rattle.repeats.specs.Found.{FoundAs}
-use Rattle.repeats.proofs.Tables.{read-is, admitted-stands, admitted-nodes, ready}
-use Rattle.repeats.proofs.Searched.{all-within, searched-start, searched-end}
+use Rattle.book.proofs.Named.{book-of}
+use Rattle.repeats.proofs.Tables.{admitted-placed, hashed-none}
+use Rattle.repeats.proofs.Searched.{standing, nodes-are, all-within, searched-start, searched-nothing}
 use Rattle.repeats.proofs.first_repeat.Goals as goal
 
-pub first_parent-first-requires : goal.first_parent-first-requires
-first_parent-first-requires c = let a = c.requires in rw (admitted-nodes a) (all-within (admitted-stands a c.nodes-rows.ensures))
+pub first_parent-requires : goal.first_parent-requires
+first_parent-requires c = let b = c.args.book in rw (c.nodes.ensures, nodes-are b) (all-within (standing b))
 
-pub returns-then-first-nodes : goal.returns-then-first-nodes
-returns-then-first-nodes c =
-    let start = searched-start (admitted-stands c.requires c.nodes-rows.ensures) (admitted-nodes c.requires) c.first_parent-first.ensures in
-    λ b w. subst (λ (q : Book). FoundAs q c.args.c.nodes) (read-is c.args.book.now b w) (searched-end start (omega (arith, c.if-first-nodes.true)))
+pub returns-in_err-first : goal.returns-in_err-first
+returns-in_err-first c =
+    let b = c.args.book in
+    let n = nodes-are b in
+    let start = searched-start (standing b) n (rw c.nodes.ensures at c.in_err-first.ensures) in
+    rw c.from_residual.ensures (searched-nothing start (omega arith) (omega arith))
 
-pub search-requires : goal.search-requires
-search-requires c =
-    let a = c.requires in
-    record { ready = ready a c.nodes-rows.ensures c.name_places-places.ensures c.zeros-hashes.ensures c.no_flags-known.ensures c.no_keys-keys.ensures; nodes_value = admitted-nodes a; skipped = c.first_parent-first.ensures }
+pub name_places-requires : goal.name_places-requires
+name_places-requires c = let b = c.args.book in book-of b.bytes.now b.contents b.laid
 
-pub returns : goal.returns
-returns c =
-    let bs = c.args.book.now in
-    λ b w. subst (λ (q : Book). FoundAs q c.search.result) (read-is bs b w) c.search.ensures
+pub invariant_of-search : goal.invariant_of-search
+invariant_of-search c =
+    let b = c.args.book in
+    record { placed = admitted-placed (book-of b.bytes.now b.contents b.laid) c.name_places.ensures; hashed = hashed-none _ }

@@ -1,13 +1,16 @@
 -- An actor as written: the service at the end of the chain from what stands below its top, and how many names are crossed there. Assumes nothing.
 use mathlib.Core.Path.{◌≡◌, refl, sym, ap, subst, ◌∙◌}
 use mathlib.Core.Bool.{Bool, true, false, cond, false≢true}
-use mathlib.Core.List.{List}
-use Prim.Native.Nat.{ℕ, zero, suc, ◌≤◌, ◌<◌}
+use mathlib.Core.List.{List, [], ◌∷◌}
+use Prim.Native.Nat.{ℕ, ◌≤◌, ◌<◌}
 use native.Mathlib.Decide.{ℕ_discrete}
 use native.Mathlib.Omega.{arith}
 use borrow.Author.Tests.{ne_eqb}
 use lib.Dec.{eqb}
-use lib.ListN.{get_or, take, replicate, length-replicate}
+use lib.ListN.{length}
+use Rattle.std.specs.Prelude.{Option, Some, All}
+use Rattle.std.specs.Option.{option_to_list}
+use Rattle.std.proofs.lemmas.List.Elements.{All-nil, All-cons}
 use Rattle.format.specs.Forest.{Forest, end}
 use Rattle.format.specs.Node.{Node}
 use Rattle.format.specs.Book.{Definition}
@@ -27,7 +30,6 @@ use Rattle.syntax.specs.declared.class.Top.{Top}
 use Rattle.syntax.specs.declared.interface.Interface.{Interface}
 use Rattle.syntax.specs.Classes.{TopAs}
 use Rattle.syntax.specs.Interfaces.{IsService, methods_in, interface_tree, no_interface, ActorAs}
-use Rattle.syntax.proofs.Lists.{no-long}
 use Rattle.syntax.proofs.class.Laws.{none-arguments}
 use Rattle.syntax.proofs.Stored.{tree-service, tree-methods}
 
@@ -39,68 +41,67 @@ none-serves ds t e = rw e (ap (root_passes is_serv_kind) (stays ds end refl))
 pub written-none : {ns : List ℕ} {names count root : ℕ} → AllTrees ns names count → root ≡ 65535 → {r : Interface} → r ≡ no_interface → (ds : List Definition) →
     ActorAs ns count ds (actor_at ns root) r
 unfolding interface_tree
-written-none {ns} {root = root} a e i ds =
+written-none {ns} {count = count} {root = root} a e i ds =
     let none = actor-none ns root e in
     rw i
     (record {
       tree = actor-none ns 65535 refl ∙ sym none;
-      nodes = record { few = omega arith; held = no-long; root = λ h. absurd (h refl); service = λ k h. absurd (let z : ⊥ = omega arith in z) };
+      nodes = record { few = omega arith; root = λ h. absurd (h refl); service = All-nil (IsService ns count) };
       arguments = none-arguments a e;
       methods = λ s. absurd (false≢true (sym (none-serves ds _ none) ∙ s));
       served = λ m h. absurd (h refl);
     })
 
 -- ---- The type at which a chain ends
-record Served (ns : List ℕ) (count : ℕ) (ds : List Definition) (below e n : ℕ) : Type 0 where
-  counted : n ≡ cond (as_service ds (tree_at ns below)) 1 0
-  service : n ≡ 1 → IsService ns count e
-  methods : as_service ds (tree_at ns below) ≡ true → methods_in ns (take n (replicate 16 e)) ≡ methods_at (alias_end ds (tree_at ns below))
+record Served (ns : List ℕ) (count : ℕ) (ds : List Definition) (below : ℕ) (services : List ℕ) : Type 0 where
+  few : length services ≤ 16
+  counted : length services ≡ cond (as_service ds (tree_at ns below)) 1 0
+  service : All (IsService ns count) services
+  methods : as_service ds (tree_at ns below) ≡ true → methods_in ns services ≡ methods_at (alias_end ds (tree_at ns below))
 
-module _ {ns ends' : List ℕ} {below : ℕ} (s : Ended ns ends' below) {e n : ℕ} (is : e ≡ end_node ns ends' below) (ds : List Definition) (z : n ≡ cond (as_service ds (tree_at ns below)) 1 0) where
-  by-end : (f : End) → alias_end ds (tree_at ns below) ≡ f → EndAt ns e f → Served ns s.count ds below e n
+module _ {ns ends' : List ℕ} {below : ℕ} (s : Ended ns ends' below) {o : Option ℕ} (is : o ≡ end_node ns ends' below) (ds : List Definition) {services : List ℕ}
+    (z : services ≡ cond (as_service ds (tree_at ns below)) (option_to_list o) []) where
+  not-served : as_service ds (tree_at ns below) ≡ false → Served ns s.count ds below services
+  not-served f =
+      let none : services ≡ [] = z ∙ rw f in
+      rw none (record { few = omega arith; counted = rw f; service = All-nil (IsService ns s.count); methods = λ t. absurd (false≢true (sym f ∙ t)) })
+
+  by-end : (f : End) → alias_end ds (tree_at ns below) ≡ f → EndAt ns o f → Served ns s.count ds below services
   unfolding as_service root_passes methods_at methods_in
-  by-end (unbound m) q x =
-      let no : as_service ds (tree_at ns below) ≡ false = ap (root_passes is_serv_kind) q in
-      let none : n ≡ 0 = z ∙ rw no in
-      record {
-        counted = z;
-        service = λ o. absurd (let f : ⊥ = omega (arith, none, o) in f);
-        methods = λ t. absurd (false≢true (sym no ∙ t));
-      }
+  by-end (unbound m) q x = not-served (ap (root_passes is_serv_kind) q)
   by-end circle q x = absurd x
   by-end (ends t) q x = go (ℕ_discrete (row_at ns e).kind 24)
     where
+      e : ℕ
+      e = x.0
+
+      here : Some e ≡ end_node ns ends' below
+      here = sym x.1 ∙ is
+
       at : alias_end ds (tree_at ns below) ≡ ends (tree_at ns e)
-      at = q ∙ ap ends x.1
+      at = q ∙ ap ends x.2
 
       whole : WholeAt ns e
-      whole = end-whole s is x.0
+      whole = end-whole s here
 
       says : as_service ds (tree_at ns below) ≡ eqb (row_at ns e).kind 24
       says = ap (root_passes is_serv_kind) at ∙ tree-service whole
 
-      some : n ≡ cond (eqb (row_at ns e).kind 24) 1 0
-      some = z ∙ rw says
-
-      go : Dec ((row_at ns e).kind ≡ 24) → Served ns s.count ds below e n
+      go : Dec ((row_at ns e).kind ≡ 24) → Served ns s.count ds below services
       go (yes k) =
-          let one : n ≡ 1 = some ∙ rw k in
-          record {
-            counted = z;
-            service = λ o. (end-inside s is x.0, k);
-            methods = λ t. rw one (beside-end (kids_of (tree_at ns e)) ∙ tree-methods whole k ∙ ap methods_at (sym at));
-          }
-      go (no k) =
-          let no : eqb (row_at ns e).kind 24 ≡ false = ne_eqb (row_at ns e).kind 24 k in
-          let none : n ≡ 0 = some ∙ rw no in
-          record {
-            counted = z;
-            service = λ o. absurd (let f : ⊥ = omega (arith, none, o) in f);
-            methods = λ t. absurd (false≢true (sym no ∙ sym says ∙ t));
-          }
+          let found : as_service ds (tree_at ns below) ≡ true = says ∙ rw k in
+          let one : services ≡ e ∷ [] = z ∙ rw found (ap option_to_list x.1) in
+          rw one
+          (record {
+            few = omega arith;
+            counted = rw found;
+            service = All-cons (IsService ns s.count) e [] (end-inside s here, k) (All-nil (IsService ns s.count));
+            methods = λ t. beside-end (kids_of (tree_at ns e)) ∙ tree-methods whole k ∙ ap methods_at (sym at);
+          })
+      go (no k) = not-served (says ∙ ne_eqb (row_at ns e).kind 24 k)
 
-  served : Chains ns ends' s.names ds → Served ns s.count ds below e n
-  served c = by-end (alias_end ds (tree_at ns below)) refl (subst (λ (k : ℕ). EndAt ns k (alias_end ds (tree_at ns below))) (sym is) (end-at s ds c))
+  served : Chains ns ends' s.names ds → Served ns s.count ds below services
+  served c = by-end (alias_end ds (tree_at ns below)) refl (subst (λ (k : Option ℕ). EndAt ns k (alias_end ds (tree_at ns below))) (sym is) (end-at s ds c))
 
 -- ---- An actor
 module _ {ns ends' : List ℕ} {names count root : ℕ} (a : AllTrees ns names count) (z : EndNodes ends' count) {top : Top} (t : TopAs ns count root top)
@@ -119,26 +120,16 @@ module _ {ns ends' : List ℕ} {names count root : ℕ} (a : AllTrees ns names c
   unfolding below-ended
   below-length l ds c = l.reached.length-is below-ended ds c ∙ ap (alias_length ds) below-is
 
-  module _ {e : ℕ} (is : e ≡ end_node ns ends' top.below) where
-    pub written-as : {n : ℕ} → n ≡ cond (end_is 24 ns ends' top.below) 1 0 → (ds : List Definition) → Chains ns ends' names ds →
-        ActorAs ns count ds (actor_at ns root) (record { merged = false; root = root; from = top.from; until = top.until; count = n; services = replicate 16 e })
+  module _ {o : Option ℕ} (is : o ≡ end_node ns ends' top.below) where
+    pub written-as : {services : List ℕ} → services ≡ cond (end_is 24 ns ends' top.below) (option_to_list o) [] → (ds : List Definition) → Chains ns ends' names ds →
+        ActorAs ns count ds (actor_at ns root) (record { merged = false; root = root; from = top.from; until = top.until; services = services })
     unfolding interface_tree below-ended
-    written-as {n} q ds c =
-        let s = served below-ended is ds (q ∙ ap (λ (b : Bool). cond b 1 0) (ends-service below-ended ds c)) c in
-        let same = below-is in
-        let few : n ≤ 1 = at-most (as_service ds (tree_at ns top.below)) s.counted in
+    written-as q ds c =
+        let s = served below-ended is ds (q ∙ ap (λ (b : Bool). cond b (option_to_list o) []) (ends-service below-ended ds c)) c in
         record {
           tree = refl;
-          nodes = record { few = omega (arith, few); held = length-replicate {A = ℕ} 16 e; root = λ m. h; service = λ k l. one few s.service k l };
+          nodes = record { few = s.few; root = λ m. h; service = s.service };
           arguments = t.arguments;
-          methods = λ y. s.methods (ap (as_service ds) same ∙ y) ∙ ap (λ (u : Forest Node). methods_at (alias_end ds u)) same;
-          served = λ m v. s.counted ∙ ap (λ (u : Forest Node). cond (as_service ds u) 1 0) same;
+          methods = λ y. s.methods (ap (as_service ds) below-is ∙ y) ∙ ap (λ (u : Forest Node). methods_at (alias_end ds u)) below-is;
+          served = λ m v. s.counted ∙ ap (λ (u : Forest Node). cond (as_service ds u) 1 0) below-is;
         }
-      where
-        at-most : (b : Bool) → n ≡ cond b 1 0 → n ≤ 1
-        at-most true w = omega arith
-        at-most false w = omega arith
-
-        one : n ≤ 1 → (n ≡ 1 → IsService ns count e) → (k : ℕ) → k < n → IsService ns count (get_or (replicate 16 e) k 0)
-        one few f zero l = f (omega arith)
-        one few f (suc k) l = let w : ⊥ = omega arith in absurd w

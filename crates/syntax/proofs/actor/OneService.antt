@@ -1,13 +1,13 @@
 -- One service: by its alias end, and main's. Assumes nothing.
 use mathlib.Core.Path.{◌≡◌, refl, sym, ap, subst, ◌∙◌}
-use mathlib.Core.Bool.{true≢false, false≢true}
-use mathlib.Core.List.{List, [], ◌∷◌}
-use Prim.Native.Nat.{ℕ, ◌≤◌, ◌<◌}
+use mathlib.Core.List.{List, []}
+use Prim.Native.Nat.{ℕ, ◌<◌}
 use native.Mathlib.Decide.{ℕ_discrete}
-use native.Mathlib.Omega.{arith}
 use borrow.Author.Tests.{ne_eqb}
 use lib.Dec.{eqb}
 use lib.ListN.{length}
+use Rattle.std.specs.Prelude.{Some, None, Result, Ok, Err}
+use Rattle.std.proofs.lemmas.List.Elements.{All-nil, All-cons}
 use Rattle.format.specs.Forest.{Forest, end, no_trees}
 use Rattle.format.specs.Node.{Node}
 use Rattle.format.specs.Book.{Definition}
@@ -17,9 +17,7 @@ use Rattle.format.proofs.Trees.{beside-end}
 use Rattle.format.proofs.Stored.{actor-none, actor-some}
 use Rattle.refusals.specs.declared.Refusal.{Refusal}
 use Rattle.refusals.specs.declared.Refusal as refusal
-use Rattle.refusals.specs.declared.Verdict.{Verdict}
-use Rattle.refusals.specs.declared.Verdict.TheVariants.{Passed, Refused}
-use Rattle.refusals.specs.Verdict.{unless}
+use Rattle.refusals.specs.Verdict.{Verdict, passes, unless}
 use Rattle.judgement.specs.Environment.{head, kids_of}
 use Rattle.judgement.specs.Aliases.{ends, chain, chain_from, alias_end, alias_length, methods_at}
 use Rattle.judgement.specs.Actor.{is_class, below_class}
@@ -29,10 +27,9 @@ use Rattle.environment.specs.declared.Alias.{Alias}
 use Rattle.environment.specs.declared.End.{End}
 use Rattle.environment.specs.declared.End.TheVariants.{Unbound, Circle, Ends}
 use Rattle.environment.specs.Tables.{Nodes, as_end, InRange, Tabled}
-use Rattle.environment.proofs.Links.{last_end, length_of, AliasAs, chain-other}
-use Rattle.syntax.specs.declared.actor.Service.{Service}
-use Rattle.syntax.specs.Interfaces.{methods_in}
-use Rattle.syntax.specs.Resolving.{no_service, service_at, ServiceAs, MainAs}
+use Rattle.environment.proofs.Links.{last_end, AliasAs, chain-other}
+use Rattle.syntax.specs.Interfaces.{IsService, methods_in}
+use Rattle.syntax.specs.Resolving.{service_at, ServesAs, ServiceAs, MainAs}
 use Rattle.syntax.proofs.files.Laws.{tree-some}
 use Rattle.syntax.proofs.Stored.{tree-service, tree-methods}
 
@@ -41,57 +38,9 @@ end-alias : (ds : List Definition) → alias_end ds end ≡ ends end
 unfolding alias_end chain head
 end-alias ds = ap last_end (chain-other ds end (length ds) refl)
 
-end-length : (ds : List Definition) → alias_length ds end ≡ 0
-unfolding alias_length chain head
-end-length ds = ap length_of (chain-other ds end (length ds) refl)
-
 end-methods : (ds : List Definition) → methods_of ds end ≡ end
 unfolding methods_of methods_at
 end-methods ds = rw (end-alias ds)
-
--- ---- no service, with a verdict
-module _ (ns roots : List ℕ) (count definitions : ℕ) (said : List Definition → Verdict) (held : List Definition → Forest Node) (long : List Definition → ℕ) where
-  pub none-refused : (k : ℕ) (r : Refusal) → ((ds : List Definition) → Tabled ns roots definitions ds → Refused r ≡ said ds) →
-      ((ds : List Definition) → Tabled ns roots definitions ds → k ≡ long ds) → k ≤ definitions → ServiceAs ns roots count definitions said held long (no_service k (Refused r))
-  none-refused k r h l f =
-      record {
-        verdict = h;
-        one = omega arith;
-        node = λ e. absurd (let f : ⊥ = omega arith in f);
-        methods = λ e. absurd (false≢true e);
-        refused = λ e. refl;
-        length-is = l;
-        few = f;
-      }
-
-  pub none-passed : ((ds : List Definition) → Passed ≡ said ds) → ((ds : List Definition) → end ≡ held ds) → ((ds : List Definition) → 0 ≡ long ds) →
-      ServiceAs ns roots count definitions said held long (no_service 0 Passed)
-  unfolding methods_in
-  none-passed h g l =
-      record {
-        verdict = λ ds t. h ds;
-        one = omega arith;
-        node = λ e. absurd (let f : ⊥ = omega arith in f);
-        methods = λ e ds t. g ds;
-        refused = λ e. refl;
-        length-is = λ ds t. l ds;
-        few = omega arith;
-      }
-
-  -- the same said in other words
-  pub service-as : {said' : List Definition → Verdict} {held' : List Definition → Forest Node} {long' : List Definition → ℕ} → ((ds : List Definition) → said' ds ≡ said ds) →
-      ((ds : List Definition) → held' ds ≡ held ds) → ((ds : List Definition) → long' ds ≡ long ds) →
-      {s : Service} → ServiceAs ns roots count definitions said' held' long' s → ServiceAs ns roots count definitions said held long s
-  service-as h g l x =
-      record {
-        verdict = λ ds t. x.verdict ds t ∙ h ds;
-        one = x.one;
-        node = x.node;
-        methods = λ e ds t. x.methods e ds t ∙ g ds;
-        refused = x.refused;
-        length-is = λ ds t. x.length-is ds t ∙ l ds;
-        few = x.few;
-      }
 
 -- ---- the service at the end of a chain
 abbrev said : List ℕ → ℕ → Refusal → List Definition → Verdict
@@ -103,8 +52,8 @@ held ns node ds = methods_of ds (tree_at ns node)
 abbrev long : List ℕ → ℕ → List Definition → ℕ
 long ns node ds = alias_length ds (tree_at ns node)
 
-abbrev ChasedAs : List ℕ → List ℕ → ℕ → ℕ → ℕ → Refusal → Service → Type 0
-ChasedAs ns roots count definitions node else' s = ServiceAs ns roots count definitions (said ns node else') (held ns node) (long ns node) s
+abbrev ChasedAs : List ℕ → List ℕ → ℕ → ℕ → ℕ → Refusal → Result ℕ Refusal → Type 0
+ChasedAs ns roots count definitions node else' s = ServesAs ns roots count definitions (said ns node else') (held ns node) s
 
 module _ {ns roots : List ℕ} {names count definitions node : ℕ} (nodes : Nodes ns names count) (else' : Refusal) {a : Alias} (x : AliasAs ns roots count definitions node a) where
   ends-as : (ds : List Definition) → Tabled ns roots definitions ds → as_end ns a.end ≡ alias_end ds (tree_at ns node)
@@ -115,16 +64,28 @@ module _ {ns roots : List ℕ} {names count definitions node : ℕ} (nodes : Nod
   unfolding alias_length chain
   crossed-as ds t = x.crossed-is ds t.0 ∙ ap (λ (k : ℕ). length (chain_from k ds (tree_at ns node)).crossed) (sym t.1)
 
-  chase-none : (r : Refusal) → ((ds : List Definition) → Tabled ns roots definitions ds → Refused r ≡ said ns node else' ds) → ChasedAs ns roots count definitions node else' (no_service a.crossed (Refused r))
-  chase-none r h = none-refused ns roots count definitions (said ns node else') (held ns node) (long ns node) a.crossed r h crossed-as x.few
+  -- with what was found, the names that were crossed
+  pub chased : {s : Result ℕ Refusal} → ChasedAs ns roots count definitions node else' s →
+      ServiceAs ns roots count definitions (said ns node else') (held ns node) (long ns node) (record { found = s; crossed = a.crossed })
+  chased f = record { found = f; length-is = crossed-as; few = x.few }
 
-  pub chase-unbound : {n : ℕ} → a.end ≡ Unbound n → ChasedAs ns roots count definitions node else' (no_service a.crossed (Refused (refusal.Refusal.Unbound n)))
+  pub chase-unbound : {n : ℕ} → a.end ≡ Unbound n → ChasedAs ns roots count definitions node else' (Err (refusal.Refusal.Unbound n))
   unfolding as_end service_verdict
-  chase-unbound {n} q = chase-none (refusal.Refusal.Unbound n) (λ ds t. ap (λ (e : End). service_verdict else' (as_end ns e)) (sym q) ∙ ap (service_verdict else') (ends-as ds t))
+  chase-unbound {n} q =
+      record {
+        verdict = λ ds t. ap (λ (e : End). service_verdict else' (as_end ns e)) (sym q) ∙ ap (service_verdict else') (ends-as ds t);
+        service = tt;
+        methods = tt;
+      }
 
-  pub chase-circle : a.end ≡ Circle → ChasedAs ns roots count definitions node else' (no_service a.crossed (Refused else'))
+  pub chase-circle : a.end ≡ Circle → ChasedAs ns roots count definitions node else' (Err else')
   unfolding as_end service_verdict
-  chase-circle q = chase-none else' (λ ds t. ap (λ (e : End). service_verdict else' (as_end ns e)) (sym q) ∙ ap (service_verdict else') (ends-as ds t))
+  chase-circle q =
+      record {
+        verdict = λ ds t. ap (λ (e : End). service_verdict else' (as_end ns e)) (sym q) ∙ ap (service_verdict else') (ends-as ds t);
+        service = tt;
+        methods = tt;
+      }
 
   module _ {e : ℕ} (q : a.end ≡ Ends e) where
     pub chase-inside : e < count
@@ -141,45 +102,53 @@ module _ {ns roots : List ℕ} {names count definitions node : ℕ} (nodes : Nod
     unfolding service_verdict
     at-end ds t = rw (← tree-service whole) (ap (service_verdict else') (comes ds t))
 
-    methods-end : (row_at ns e).kind ≡ 24 → (ds : List Definition) → Tabled ns roots definitions ds → methods_in ns (e ∷ []) ≡ held ns node ds
-    unfolding methods_in methods_of
-    methods-end k ds t = beside-end (kids_of (tree_at ns e)) ∙ tree-methods whole k ∙ ap methods_at (comes ds t)
+    methods-end : (row_at ns e).kind ≡ 24 → (ds : List Definition) → Tabled ns roots definitions ds → kids_of (tree_at ns e) ≡ held ns node ds
+    unfolding methods_of
+    methods-end k ds t = tree-methods whole k ∙ ap methods_at (comes ds t)
 
-    pub chase-ends : ChasedAs ns roots count definitions node else' (service_at ns else' a.crossed e)
+    pub chase-ends : ChasedAs ns roots count definitions node else' (service_at ns else' e)
     chase-ends = go (ℕ_discrete (row_at ns e).kind 24)
       where
-        go : Dec ((row_at ns e).kind ≡ 24) → ChasedAs ns roots count definitions node else' (service_at ns else' a.crossed e)
-        go (yes k) =
-            rw k
-            (record {
-              verdict = λ ds t. rw k at (at-end ds t);
-              one = omega arith;
-              node = λ z. (chase-inside, k);
-              methods = λ z ds t. methods-end k ds t;
-              refused = λ z. absurd (true≢false z);
-              length-is = crossed-as;
-              few = x.few;
-            })
-        go (no k) = rw (ne_eqb (row_at ns e).kind 24 k) (chase-none else' (λ ds t. rw (ne_eqb (row_at ns e).kind 24 k) at (at-end ds t)))
+        go : Dec ((row_at ns e).kind ≡ 24) → ChasedAs ns roots count definitions node else' (service_at ns else' e)
+        go (yes k) = rw k (record { verdict = λ ds t. rw k at (at-end ds t); service = (chase-inside, k); methods = methods-end k })
+        go (no k) =
+            let other = ne_eqb (row_at ns e).kind 24 k in
+            rw other (record { verdict = λ ds t. rw other at (at-end ds t); service = tt; methods = tt })
 
 -- ---- main's service
 module _ (ns roots : List ℕ) (count definitions root : ℕ) where
-  pub main-none : root ≡ 65535 → MainAs ns roots count definitions root (no_service 0 Passed)
-  unfolding main_verdict no_trees below_class is_class
+  pub main-none : root ≡ 65535 → MainAs ns roots count definitions root (Ok None)
+  unfolding main_verdict no_trees below_class is_class methods_in
   main-none h =
-      none-passed ns roots count definitions (λ ds. main_verdict ds (actor_at ns root)) (λ ds. methods_of ds (below_class (actor_at ns root)))
-      (λ ds. alias_length ds (below_class (actor_at ns root)))
-      (λ ds. ap (main_verdict ds) (sym (actor-none ns root h)))
-      (λ ds. sym (ap (λ (t : Forest Node). methods_of ds (below_class t)) (actor-none ns root h) ∙ end-methods ds))
-      (λ ds. sym (ap (λ (t : Forest Node). alias_length ds (below_class t)) (actor-none ns root h) ∙ end-length ds))
+      let passed : (ds : List Definition) → main_verdict ds (actor_at ns root) ≡ passes = λ ds. ap (main_verdict ds) (actor-none ns root h) in
+      record {
+        verdict = λ ds t. sym (passed ds);
+        main = record {
+          passed = λ ds t. passed ds;
+          service = All-nil (IsService ns count);
+          methods = λ ds t. sym (ap (λ (t : Forest Node). methods_of ds (below_class t)) (actor-none ns root h) ∙ end-methods ds);
+        };
+      }
 
-  pub main-some : (root ≡ 65535 → ⊥) → WholeAt ns root → (below : ℕ) → tree_at ns below ≡ below_class (tree_at ns root) → {s : Service} →
-      ChasedAs ns roots count definitions below refusal.Refusal.NoService s → MainAs ns roots count definitions root s
-  unfolding main_verdict
-  main-some h w below is =
-      let same : tree_at ns below ≡ below_class (actor_at ns root) = is ∙ ap below_class (sym (actor-some ns root h)) in
-      service-as ns roots count definitions (λ ds. main_verdict ds (actor_at ns root)) (λ ds. methods_of ds (below_class (actor_at ns root)))
-      (λ ds. alias_length ds (below_class (actor_at ns root)))
-      (λ ds. rw (tree-some ns root w h) (ap (λ (t : Forest Node). service_verdict refusal.Refusal.NoService (alias_end ds t)) same))
-      (λ ds. ap (methods_of ds) same)
-      (λ ds. ap (alias_length ds) same)
+  module _ (h : root ≡ 65535 → ⊥) (w : WholeAt ns root) (below : ℕ) (is : tree_at ns below ≡ below_class (tree_at ns root)) where
+    same : tree_at ns below ≡ below_class (actor_at ns root)
+    same = is ∙ ap below_class (sym (actor-some ns root h))
+
+    verdict-same : (ds : List Definition) → said ns below refusal.Refusal.NoService ds ≡ main_verdict ds (actor_at ns root)
+    unfolding main_verdict
+    verdict-same ds = rw (tree-some ns root w h) (ap (λ (t : Forest Node). service_verdict refusal.Refusal.NoService (alias_end ds t)) same)
+
+    pub main-refused : {r : Refusal} → ChasedAs ns roots count definitions below refusal.Refusal.NoService (Err r) → MainAs ns roots count definitions root (Err r)
+    main-refused s = record { verdict = λ ds t. s.verdict ds t ∙ verdict-same ds; main = tt }
+
+    pub main-found : {n : ℕ} → ChasedAs ns roots count definitions below refusal.Refusal.NoService (Ok n) → MainAs ns roots count definitions root (Ok (Some n))
+    unfolding methods_in
+    main-found {n} s =
+        record {
+          verdict = λ ds t. s.verdict ds t ∙ verdict-same ds;
+          main = record {
+            passed = λ ds t. sym (s.verdict ds t ∙ verdict-same ds);
+            service = All-cons (IsService ns count) n [] s.service (All-nil (IsService ns count));
+            methods = λ ds t. beside-end (kids_of (tree_at ns n)) ∙ s.methods ds t ∙ ap (methods_of ds) same;
+          };
+        }

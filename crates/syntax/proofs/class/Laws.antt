@@ -12,8 +12,8 @@ use Rattle.format.specs.Forest.{Forest, end, tree, beside, breadth}
 use Rattle.format.specs.Node.{Node}
 use Rattle.format.specs.Encode.{Row}
 use Rattle.format.specs.Layout.{row_at, node_of, siblings}
-use Rattle.format.specs.Whole.{Within, Whole, WholeAt, tree_at, actor_at}
-use Rattle.format.proofs.Rows.{opens, kids-whole, node-within, nothing, siblings-none}
+use Rattle.format.specs.Whole.{Whole, WholeAt, tree_at, actor_at}
+use Rattle.format.proofs.Rows.{opens, kids-whole, nothing, siblings-none}
 use Rattle.format.proofs.Stored.{tree-whole, tree-opens, actor-none, actor-some}
 use Rattle.judgement.specs.Environment.{kids_of}
 use Rattle.judgement.specs.Actor.{is_class, last_tree, all_but_last, class_arguments, below_class}
@@ -24,63 +24,43 @@ use Rattle.syntax.specs.declared.class.Top as cut
 use Rattle.syntax.proofs.Stored.{tree-class, tree-kids, whole-join, siblings-join}
 use Rattle.syntax.specs.Classes.{LastAs, BelowAs, ArgumentsAs, TopAs}
 
--- ---- the loop of `last_child`
-pub record LastLeft (ns : List ℕ) (from until last next : ℕ) : Type 0 where
-  pub later : from ≤ last
-  pub inside : last < until
-  pub before : Whole ns from last
-  pub rest : Whole ns last until
-  pub is : next ≡ last + (row_at ns last).size
+-- ---- the loop of `last_child`: the trees before node `at`, and the last of them
+pub record LastLeft (ns : List ℕ) (from until found at : ℕ) : Type 0 where
+  pub before : Whole ns from at
+  pub rest : Whole ns at until
+  pub last : from < at → LastAs ns from at found
 
-pub last-start : {ns : List ℕ} {from until : ℕ} → Whole ns from until → from < until → (r : Row) → r ≡ row_at ns from → LastLeft ns from until from (from + r.size)
-last-start {ns} {from} {until} w h r is =
+pub last-start : {ns : List ℕ} {from until : ℕ} → Whole ns from until → from < until → LastLeft ns from until from from
+last-start {ns} {from} {until} w h =
     record {
-      later = omega arith;
-      inside = h;
       before = nothing ns from from refl (record { held = omega (arith, w.within.held, h); few = w.within.few });
       rest = w;
-      is = rw is;
+      last = λ l. absurd (omega arith);
     }
 
-module _ {ns : List ℕ} {from until last next : ℕ} (l : LastLeft ns from until last next) where
-  after : Whole ns next until
-  after = rw l.is (opens l.rest l.inside).rest
+module _ {ns : List ℕ} {from until last at : ℕ} (l : LastLeft ns from until last at) (h : at < until) where
+  here : WholeAt ns at
+  here = (opens l.rest h).here
 
-  pub next-within : next < until → Within ns (next + 1)
-  next-within h = node-within (opens after h).here
+  abbrev after : ℕ
+  after = at + (row_at ns at).size
 
-  pub next-later : last < next
-  next-later = omega (arith, l.is, (opens l.rest l.inside).here.one)
-
-  pub next-ends : next < until → (r : Row) → r ≡ row_at ns next → next + r.size ≤ until
-  next-ends h r is = rw is (opens after h).rest.ordered
-
-  pub last-on : next < until → (r : Row) → r ≡ row_at ns next → LastLeft ns from until next (next + r.size)
-  last-on h r is =
-      record {
-        later = omega (arith, l.later, next-later);
-        inside = h;
-        before = whole-join l.before (subst (Whole ns last) (sym l.is) (tree-whole (opens l.rest l.inside).here));
-        rest = after;
-        is = rw is;
-      }
-
-  pub last-end : until ≤ next → LastAs ns from until last
+  one-more : LastAs ns from after at
   unfolding breadth
-  last-end h =
-      let here : WholeAt ns last = (opens l.rest l.inside).here in
-      let ends : last + (row_at ns last).size ≡ until = omega (arith, l.is, after.ordered) in
-      let all : siblings ns from until ≡ beside (siblings ns from last) (tree_at ns last) =
-      siblings-join l.before l.rest ∙ ap (λ (e : ℕ). beside (siblings ns from last) (siblings ns last e)) (sym ends) in
-      let cut = all ∙ ap (beside (siblings ns from last)) (tree-opens here) in
+  one-more =
+      let all : siblings ns from after ≡ beside (siblings ns from at) (tree (node_of (row_at ns at)) (siblings ns (at + 1) after) end) =
+      siblings-join l.before (tree-whole here) ∙ ap (beside (siblings ns from at)) (tree-opens here) in
       record {
-        later = l.later;
-        inside = l.inside;
-        ends = ends;
+        later = l.before.ordered;
+        inside = omega (arith, here.one);
+        ends = refl;
         before = l.before;
-        rest = sym (ap all_but_last cut ∙ others-beside (siblings ns from last) (tree (node_of (row_at ns last)) (siblings ns (last + 1) (last + (row_at ns last).size)) end) refl);
-        is = tree-opens here ∙ sym (ap last_tree cut ∙ last-beside (siblings ns from last) (tree (node_of (row_at ns last)) (siblings ns (last + 1) (last + (row_at ns last).size)) end) refl);
+        rest = sym (ap all_but_last all ∙ others-beside (siblings ns from at) (tree (node_of (row_at ns at)) (siblings ns (at + 1) after) end) refl);
+        is = tree-opens here ∙ sym (ap last_tree all ∙ last-beside (siblings ns from at) (tree (node_of (row_at ns at)) (siblings ns (at + 1) after) end) refl);
       }
+
+  pub last-on : LastLeft ns from until at after
+  last-on = record { before = whole-join l.before (tree-whole here); rest = (opens l.rest h).rest; last = λ k. one-more }
 
 -- ---- what stands below a class's top
 module _ {ns : List ℕ} {n : ℕ} (t : Top ns n) (r : Row) (is : r ≡ row_at ns n) where

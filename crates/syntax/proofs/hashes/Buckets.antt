@@ -1,6 +1,6 @@
 -- Hashes in buckets: a hash that is met is found along the links of its bucket, and one more is linked. Assumes nothing.
 --     Sought                           the loop along the links: the hash is at none of the places from x on
---     Buckets                          the links of the hashes met so far: of none, and of one more
+--     buckets-start, buckets-on        the links where no hash is met, and with one more
 use mathlib.Core.Path.{◌≡◌, refl, sym, ap, subst, ◌∙◌}
 use mathlib.Core.Bool.{true, false, or-true}
 use mathlib.Core.List.{List, [], ◌∷◌, ◌++◌}
@@ -10,13 +10,11 @@ use native.Mathlib.Decide.{dec_lt, ℕ_discrete}
 use native.Mathlib.Omega.{arith}
 use borrow.Author.Tests.{eq-eqb, ne_eqb}
 use lib.Dec.{eqb}
-use lib.ListN.{length, get_or, set, length-append, length-set, get_or-append}
+use lib.ListN.{length, get_or, set, replicate, length-replicate, length-append, length-set, get_or-append}
 use lib.Seq.{get_or-append_seam, get_or-set_same, get_or-set_other}
 use Rattle.format.proofs.References.{everywhere}
 use Rattle.judgement.specs.Check.{member}
-use Rattle.book.specs.Tables.{zero_table}
-use Rattle.book.proofs.Blank.{zero-length}
-use Rattle.syntax.specs.Hashed.{LastIn, LinksIn}
+use Rattle.syntax.specs.Buckets.{LastIn, LinksIn, Buckets}
 
 pub bucket-small : (hash : ℕ) → hash % 1024 < 1024
 bucket-small hash = mod-lt hash (omega arith)
@@ -76,30 +74,30 @@ module _ {met : List ℕ} {hash x : ℕ} (s : Sought met hash x) where
           absent i a b e (no l) (yes q) = n (subst (λ (j : ℕ). get_or met j 0 ≡ hash) q e)
           absent i a b e (no l) (no q) = s.absent i (omega arith) b e
 
--- ---- The hashes met so far: for each bucket the last one is linked, and from each hash the one before it in its bucket
-pub record Buckets (met last link : List ℕ) (k : ℕ) : Type 0 where
-  pub counted : length met ≡ k
-  pub heads : length last ≡ 1024
-  pub nexts : length link ≡ 1024
-  pub ends : (b : ℕ) → b < 1024 → LastIn met b (length met) (get_or last b 0)
-  pub links : LinksIn met link
+-- ---- None is met
+blanks : List ℕ
+blanks = replicate 1024 0
 
-pub buckets-start : (last link : List ℕ) → last ≡ zero_table → link ≡ zero_table → Buckets [] last link 0
-unfolding zero_table
-buckets-start last link l n =
-    record {
-      counted = refl;
-      heads = ap length l ∙ zero-length;
-      nexts = ap length n ∙ zero-length;
-      ends = λ b s. let z : get_or last b 0 ≡ 0 = ap (λ (t : List ℕ). get_or t b 0) l ∙ everywhere {A = ℕ} 1024 b 0 in
-          record {
-            inside = omega arith;
-            none = λ i a c e. let f : ⊥ = omega arith in f;
-            some = λ i e. let f : ⊥ = omega arith in absurd f;
-          };
-      links = record { few = omega arith; before = λ i s. let f : ⊥ = omega arith in absurd f };
-    }
+module _ where
+  blank : (b : ℕ) → get_or blanks b 0 ≡ 0
+  unfolding blanks
+  blank b = everywhere {A = ℕ} 1024 b 0
 
+  pub buckets-start : Buckets [] (replicate 1024 0) (replicate 1024 0)
+  unfolding blanks
+  buckets-start =
+      record {
+        heads = length-replicate {A = ℕ} 1024 0;
+        nexts = length-replicate {A = ℕ} 1024 0;
+        ends = λ b s. record {
+          inside = rw (blank b) (omega arith);
+          none = λ i a c e. let f : ⊥ = omega arith in f;
+          some = λ i e. let f : 0 ≡ suc i = sym (blank b) ∙ e in absurd (let g : ⊥ = omega arith in g);
+        };
+        links = record { few = omega arith; before = λ i s. let f : ⊥ = omega arith in absurd f };
+      }
+
+-- ---- One more
 module _ (met : List ℕ) (hash : ℕ) where
   abbrev more : List ℕ
   more = met ++ hash ∷ []
@@ -144,19 +142,21 @@ module _ (met : List ℕ) (hash : ℕ) where
         some = λ i e. new i (omega arith);
       }
 
-  module _ {last link : List ℕ} {k : ℕ} (b : Buckets met last link k) (room : k < 1024) where
+  module _ {last link : List ℕ} (b : Buckets met last link) (room : length met < 1024) where
+    abbrev k : ℕ
+    k = length met
+
     abbrev head : ℕ
     head = get_or last (hash % 1024) 0
 
-    pub buckets-on : Buckets more (set last (hash % 1024) (k + 1)) (set link k head) (k + 1)
+    pub buckets-on : Buckets more (set last (hash % 1024) (k + 1)) (set link k head)
     buckets-on =
         record {
-          counted = omega (arith, more-length, b.counted);
           heads = length-set last (hash % 1024) (k + 1) ∙ b.heads;
           nexts = length-set link k head ∙ b.nexts;
           ends = λ c s. ends c s (ℕ_discrete c (hash % 1024));
           links = record {
-            few = omega (arith, more-length, b.counted, b.nexts, length-set link k head);
+            few = omega (arith, more-length, b.nexts, length-set link k head);
             before = λ i s. before i s (ℕ_discrete i k);
           };
         }
@@ -165,17 +165,16 @@ module _ (met : List ℕ) (hash : ℕ) where
         ends c s (yes e) =
             subst (λ (d : ℕ). LastIn more d (length more) (get_or (set last (hash % 1024) (k + 1)) d 0)) (sym e)
             (subst (LastIn more (hash % 1024) (length more))
-            (ap (λ (m : ℕ). m + 1) b.counted ∙ sym (get_or-set_same last (hash % 1024) (k + 1) 0 (omega (arith, bucket-small hash, b.heads)))) this)
+            (sym (get_or-set_same last (hash % 1024) (k + 1) 0 (omega (arith, bucket-small hash, b.heads)))) this)
         ends c s (no d) = subst (LastIn more c (length more)) (sym (get_or-set_other last (hash % 1024) c (k + 1) 0 d)) (later d (b.ends c s))
 
         before : (i : ℕ) → i < length more → Dec (i ≡ k) → LastIn more (get_or more i 0 % 1024) i (get_or (set link k head) i 0)
         before i s (yes e) =
-            let q : i ≡ length met = e ∙ sym b.counted in
-            subst (λ (c : ℕ). LastIn more c i (get_or (set link k head) i 0)) (sym (new i q))
+            subst (λ (c : ℕ). LastIn more c i (get_or (set link k head) i 0)) (sym (new i e))
             (subst (LastIn more (hash % 1024) i)
             (sym (ap (λ (j : ℕ). get_or (set link k head) j 0) e ∙ get_or-set_same link k head 0 (omega (arith, b.nexts))))
-            (grown (omega arith) (subst (λ (j : ℕ). LastIn met (hash % 1024) j head) (sym q) (b.ends (hash % 1024) (bucket-small hash)))))
+            (grown (omega arith) (subst (λ (j : ℕ). LastIn met (hash % 1024) j head) (sym e) (b.ends (hash % 1024) (bucket-small hash)))))
         before i s (no d) =
-            let l : i < length met = omega (arith, more-length, b.counted) in
+            let l : i < length met = omega (arith, more-length) in
             subst (λ (c : ℕ). LastIn more c i (get_or (set link k head) i 0)) (sym (old i l))
             (subst (LastIn more (get_or met i 0 % 1024) i) (sym (get_or-set_other link k i head 0 d)) (grown (omega arith) (b.links.before i l)))

@@ -73,4 +73,4 @@ module _ (ns : List ℕ) (i : Interface) where
 -- ---- What it offers
 pub interface-as : {ns : List ℕ} {count : ℕ} {ds : List Definition} {t : Forest Node} {i : Interface} → ActorAs ns count ds t i → as_service ds (below_class t) ≡ true → InterfaceAs ns count ds t i
 interface-as x s =
-    record { arguments = x.arguments; few = x.nodes.few; held = x.nodes.held; service = x.nodes.service; methods = x.methods s; serves = s }
+    record { arguments = x.arguments; few = x.nodes.few; service = x.nodes.service; methods = x.methods s; serves = s }

@@ -1,93 +1,72 @@
 -- The walk over an actor, as written and merged. Assumes nothing.
---     top-class, top-other           what is walked of an actor as written
---     MergedLeft                     the loop over services
---     arguments-trees                the arguments of a class
---     arguments-stop, walk-stop, ..  the verdict
-use mathlib.Core.Path.{◌≡◌, refl, sym, ap, subst, ◌∙◌}
-use mathlib.Core.Bool.{Bool, true, false, cond, not, ◌&&◌}
-use mathlib.Core.List.{List, ◌∷◌}
+--     top-stop, top-end, top-other    what is walked of an actor as written
+--     MergedLeft                      the loop over services
+--     merged-stop, written-stop, ..   the verdict
+use mathlib.Core.Path.{◌≡◌, refl, sym, ap, ◌∙◌}
+use mathlib.Core.Bool.{Bool, true, false, cond, not, ◌&&◌, and-false}
+use mathlib.Core.List.{List}
+use Rattle.std.proofs.Common.{drop}
 use Prim.Native.Nat.{ℕ, ◌+◌, ◌≤◌, ◌<◌}
-use native.Mathlib.Numerals.{add-one}
-use native.Mathlib.Decide.{ℕ_discrete}
 use native.Mathlib.Omega.{arith}
 use borrow.Author.Tests.{ne_eqb}
-use lib.Dec.{T}
-use lib.ListN.{length, get_or, take}
-use lib.Seq.{slice, slice_empty, slice-cons}
-use Rattle.format.specs.declared.Place.{Place}
-use Rattle.format.specs.declared.Place.TheVariants.{Root}
+use lib.ListN.{length, get_or}
+use Rattle.std.specs.Prelude.{IsSome, Ok, Err}
+use Rattle.std.specs.Option.{is_none}
 use Rattle.format.specs.Forest.{Forest, end, tree, breadth, beside, no_trees}
 use Rattle.format.specs.Node.{Node}
 use Rattle.format.specs.Book.{Definition}
 use Rattle.format.specs.Encode.{Row}
-use Rattle.format.specs.Fits.{forest_fits}
-use Rattle.format.specs.Layout.{row_at, siblings, node_of}
-use Rattle.format.specs.Whole.{Whole, WholeAt, tree_at, actor_at}
-use Rattle.format.proofs.Trees.{fits-parts}
-use Rattle.format.proofs.Stored.{tree-whole, tree-opens, actor-none, actor-some}
-use Rattle.refusals.specs.declared.Refusal as refusal
-use Rattle.refusals.specs.declared.Verdict.{Verdict}
-use Rattle.refusals.specs.declared.Verdict.TheVariants.{Passed, Refused}
-use Rattle.refusals.specs.Verdict.{is_passed, and_then, unless}
+use Rattle.format.specs.Layout.{row_at, siblings}
+use Rattle.format.specs.Whole.{WholeAt, tree_at, actor_at}
+use Rattle.std.proofs.lemmas.List.{at_drop_more, at_drop_all}
+use Rattle.std.proofs.lemmas.List.Elements.{All-get_or}
+use Rattle.format.proofs.Stored.{tree-opens, actor-none, actor-some}
+use Rattle.refusals.specs.declared.Refusal.{Refusal}
+use Rattle.refusals.specs.declared.Refusal.TheVariants.{NoService}
+use Rattle.refusals.specs.Verdict.{Verdict, passes, and_then, unless}
+use Rattle.refusals.proofs.Verdicts.{and-passed, and_assoc}
 use Rattle.judgement.specs.Environment.{head, head_kind, is_serv_kind, kids_of}
 use Rattle.judgement.specs.Aliases.{Chain, chain, alias_end, root_passes, as_service}
-use Rattle.judgement.specs.Actor.{is_class_kind, is_class, last_tree, all_but_last, class_arguments, below_class, service_of, class_of, merged_of}
+use Rattle.judgement.specs.Actor.{is_class_kind, is_class, all_but_last, class_arguments, below_class, service_of, class_of, merged_of}
 use Rattle.judgement.specs.Check.{kind_verdict, method_verdict, check_forest, actor_verdict}
 use Rattle.judgement.specs.WellFormed.{below_top}
-use Rattle.judgement.proofs.Classes.{last-beside, beside-last}
-use Rattle.environment.specs.Tables.{Roots, EndNodes}
-use Rattle.environment.specs.Trees.{Trees, AllTrees}
+use Rattle.judgement.proofs.Classes.{last-beside}
 use Rattle.environment.proofs.Links.{chain-other}
-use Rattle.environment.proofs.Trees.{opened, kids-trees, node-trees, node-fits, node-some}
 use Rattle.syntax.specs.declared.interface.Interface.{Interface}
-use Rattle.syntax.specs.Classes.{ArgumentsAs}
-use Rattle.syntax.specs.Interfaces.{methods_in, interface_tree}
-use Rattle.refusals.proofs.Verdicts.{and-on, and-stops, and-passed, and_assoc}
+use Rattle.syntax.specs.Interfaces.{IsService, methods_in, interface_tree}
 use Rattle.syntax.proofs.Stored.{tree-class, tree-kids}
 use Rattle.syntax.proofs.interface.Laws.{tree-arguments}
-use Rattle.typing.specs.Walk.{Env, type_verdict}
-use Rattle.typing.specs.Actors.{ServicesStored, ActorStored}
+use Rattle.typing.specs.declared.types.Walk.{Walk}
+use Rattle.typing.specs.Walk.{type_verdict}
+use Rattle.typing.specs.Types.{WalkEnv, Under}
+use Rattle.typing.specs.Actors.{ActorOf}
 use Rattle.typing.proofs.Nodes.{at-service}
-use Rattle.typing.proofs.Walk.{check-none, check-opens, untested}
+use Rattle.typing.proofs.Walk.{Said, many-stops, many-pass, tree-verdict}
+use Rattle.typing.proofs.Fits.{some-not-none}
 
--- ---- what is walked of a tree
-module _ {ns : List ℕ} {n : ℕ} (w : WholeAt ns n) (r : Row) (is : r ≡ row_at ns n) where
-  pub top-class : r.kind ≡ 25 → siblings ns (n + 1) (n + r.size) ≡ below_top (tree_at ns n)
+-- ---- what is walked of an actor as written
+whole : (w : Walk) {n : ℕ} → n < w.nodes → WholeAt w.rows.now n
+whole w h = (w.trees.nodes.tree _ h).whole
+
+module _ (w : Walk) {n : ℕ} (h : n < w.nodes) {r : Row} (is : r ≡ row_at w.rows.now n) where
+  top-class : r.kind ≡ 25 → siblings w.rows.now (n + 1) (n + r.size) ≡ below_top (tree_at w.rows.now n)
   unfolding below_top
   top-class k =
-      ap (λ (q : Row). siblings ns (n + 1) (n + q.size)) is ∙ sym (tree-kids w)
-      ∙ rw (tree-class w, ap (λ (q : Row). q.kind) (sym is) ∙ k)
+      ap (λ (q : Row). siblings w.rows.now (n + 1) (n + q.size)) is ∙ sym (tree-kids (whole w h))
+      ∙ rw (tree-class (whole w h), ap (λ (q : Row). q.kind) (sym is) ∙ k)
 
-  pub top-other : (r.kind ≡ 25 → ⊥) → tree_at ns n ≡ below_top (tree_at ns n)
+  module _ (k : r.kind ≡ 25) where
+    pub top-stop : {x : Refusal} → Said w false (n + 1) (n + r.size) (Err x) → Under w (λ pre ds. Err x ≡ check_forest pre false ds (below_top (tree_at w.rows.now n)))
+    top-stop s ds e = rw (and-false (not (is_none w.ends)), top-class k) at (sym (many-stops _ _ (sym (s ds e))))
+
+    pub top-end : {j : ℕ} → Said w false (n + 1) (n + r.size) (Ok j) → Under w (λ pre ds. passes ≡ check_forest pre false ds (below_top (tree_at w.rows.now n)))
+    top-end s ds e = rw (and-false (not (is_none w.ends)), top-class k) at (sym (many-pass _ _ (sym (s ds e))).0)
+
+  pub top-other : (r.kind ≡ 25 → ⊥) → {v : Verdict} → Under w (λ pre ds. v ≡ type_verdict pre ds w.rows.now n) → Under w (λ pre ds. v ≡ check_forest pre false ds (below_top (tree_at w.rows.now n)))
   unfolding below_top
-  top-other h = rw (tree-class w, ne_eqb (row_at ns n).kind 25 (λ e. h (ap (λ (q : Row). q.kind) is ∙ e)))
-
--- ---- one tree
-module _ {ns roots ends' : List ℕ} {n : ℕ} (t : Trees ns roots ends' n (n + (row_at ns n).size)) (h : n < n + (row_at ns n).size) where
-  pub tree-verdict : (ds : List Definition) → type_verdict false ds ns n ≡ check_forest false false ds (tree_at ns n)
-  tree-verdict ds =
-      sym
-      (check-opens false false ds t h
-      ∙ rw (untested ds (node_of (row_at ns n)) (siblings ns (n + 1) (n + (row_at ns n).size)), check-none false false ds ns (n + (row_at ns n).size) (n + (row_at ns n).size) (omega arith))
-      (and-passed (and_then (type_verdict false ds ns n) Passed) ∙ and-passed (type_verdict false ds ns n)))
-
-  tree-is : no_trees (tree_at ns n) ≡ false
-  unfolding no_trees
-  tree-is = rw (tree-opens (opened t h).here)
-
-  -- ---- an actor as written, where v is what the walk says
-  module _ (v : Verdict) (ds : List Definition) (is : v ≡ check_forest false false ds (below_top (tree_at ns n))) where
-    written : and_then v (unless (as_service ds (below_class (tree_at ns n))) refusal.Refusal.NoService) ≡ actor_verdict ds (tree_at ns n)
-    unfolding actor_verdict below_top
-    written = rw (tree-is, is)
-
-    pub written-stop : is_passed v ≡ false → v ≡ actor_verdict ds (tree_at ns n)
-    written-stop p = sym (and-stops v (unless (as_service ds (below_class (tree_at ns n))) refusal.Refusal.NoService) p) ∙ written
-
-    pub written-end : is_passed v ≡ true → (b : Bool) → b ≡ as_service ds (below_class (tree_at ns n)) → unless b refusal.Refusal.NoService ≡ actor_verdict ds (tree_at ns n)
-    written-end p b q =
-        ap (λ (x : Bool). unless x refusal.Refusal.NoService) q
-        ∙ sym (and-on v (unless (as_service ds (below_class (tree_at ns n))) refusal.Refusal.NoService) p) ∙ written
+  top-other k u ds e =
+      u ds e ∙ tree-verdict (is_none w.ends) ds (whole w h)
+      ∙ ap (check_forest (is_none w.ends) false ds) (rw (tree-class (whole w h), ne_eqb (row_at w.rows.now n).kind 25 (λ e. k (ap (λ (q : Row). q.kind) is ∙ e))) refl)
 
 -- ---- trees beside each other
 check-beside : (pre tested : Bool) (ds : List Definition) (f g : Forest Node) → check_forest pre tested ds (beside f g) ≡ and_then (check_forest pre tested ds f) (check_forest pre tested ds g)
@@ -102,7 +81,7 @@ module _ (ds : List Definition) (methods : Forest Node) where
   service-verdict : check_forest false false ds (service_of methods) ≡ check_forest false true ds methods
   unfolding check_forest kind_verdict is_serv_kind method_verdict
   service-verdict =
-      and-passed (and_then (check_forest false true ds methods) Passed) ∙ and-passed (check_forest false true ds methods)
+      and-passed (and_then (check_forest false true ds methods) passes) ∙ and-passed (check_forest false true ds methods)
 
   service-is : as_service ds (service_of methods) ≡ true
   unfolding as_service alias_end chain head head_kind root_passes is_serv_kind
@@ -124,158 +103,104 @@ module _ (ds : List Definition) (methods : Forest Node) where
       go false = sym (rw service-is (and-passed (check_forest false false ds (service_of methods)) ∙ service-verdict))
 
 -- ---- the loop over services
-pub record MergedLeft (ns roots ends' services : List ℕ) (count k : ℕ) : Type 0 where
-  pub passed : k ≤ count
-  pub same : (ds : List Definition) → Env ns roots ends' false ds → check_forest false true ds (methods_in ns (slice k count services)) ≡ check_forest false true ds (methods_in ns (take count services))
+abbrev pub MergedLeft : Walk → List ℕ → ℕ → Type 0
+MergedLeft w services k =
+    Under w (λ pre ds. check_forest false true ds (methods_in w.rows.now (drop k services)) ≡ check_forest false true ds (methods_in w.rows.now services))
 
-pub merged-start : (ns roots ends' services : List ℕ) (count : ℕ) → MergedLeft ns roots ends' services count 0
-merged-start ns roots ends' services count = record { passed = omega arith; same = λ ds e. refl }
+-- what is said of an actor merged from services
+abbrev pub SaidOf : Walk → Interface → Verdict → Type 0
+SaidOf w i v = IsSome w.ends → Under w (λ pre ds. ActorOf w i ds → i.merged ≡ true → v ≡ actor_verdict ds (interface_tree w.rows.now i))
 
-module _ {ns roots ends' services : List ℕ} {count k : ℕ} (l : MergedLeft ns roots ends' services count k) where
-  pub merged-end : count ≤ k → (ds : List Definition) → Env ns roots ends' false ds → Passed ≡ check_forest false true ds (methods_in ns (take count services))
-  unfolding methods_in check_forest
-  merged-end h ds e =
-      let z : k ≡ count = omega (arith, l.passed) in
-      sym (ap (λ (j : ℕ). check_forest false true ds (methods_in ns (slice j count services))) z ∙ ap (λ (q : List ℕ). check_forest false true ds (methods_in ns q)) (slice_empty count services)) ∙ l.same ds e
+module _ (w : Walk) (i : Interface) where
+  -- where the arguments have the verdict v and the methods the verdict u
+  merged-is : {ds : List Definition} → ActorOf w i ds → i.merged ≡ true → (v u : Verdict) →
+      v ≡ check_forest false false ds (siblings w.rows.now i.from i.until) → u ≡ check_forest false true ds (methods_in w.rows.now i.services) →
+      and_then v u ≡ actor_verdict ds (interface_tree w.rows.now i)
+  unfolding interface_tree
+  merged-is {ds} a m v u p q =
+      rw (p, q, a.arguments.are ∙ tree-arguments w.rows.now i m)
+      (merged-verdict ds (methods_in w.rows.now i.services) (actor_at w.rows.now i.root) ∙ ap (actor_verdict ds) (rw m refl))
 
-  module _ (h : k < count) (long : count ≤ length services) (w : WholeAt ns (get_or services k 0)) (is : (row_at ns (get_or services k 0)).kind ≡ 24)
-      (v : Verdict) (q : (ds : List Definition) → Env ns roots ends' false ds → v ≡ type_verdict false ds ns (get_or services k 0)) where
-    merged-opens : (ds : List Definition) → Env ns roots ends' false ds →
-        check_forest false true ds (methods_in ns (slice k count services)) ≡ and_then v (check_forest false true ds (methods_in ns (slice (k + 1) count services)))
-    unfolding methods_in
-    merged-opens ds e =
-        let s : ℕ = get_or services k 0 in
-        ap (λ (q : List ℕ). check_forest false true ds (methods_in ns q)) (slice-cons k count services 0 h long ∙ ap (λ (j : ℕ). s ∷ slice j count services) (sym (add-one k)))
-        ∙ check-beside false true ds (kids_of (tree_at ns s)) (methods_in ns (slice (k + 1) count services))
-        ∙ ap (λ (u : Verdict). and_then u (check_forest false true ds (methods_in ns (slice (k + 1) count services))))
-        (ap (check_forest false true ds) (tree-kids w) ∙ at-service false ds ns s (row_at ns s) refl is ∙ sym (q ds e))
+  pub arguments-stop : {x : Refusal} → Said w false i.from i.until (Err x) → SaidOf w i (Err x)
+  arguments-stop {x} s q ds e a m =
+      merged-is a m (Err x) _ (rw (and-false (not (is_none w.ends)), some-not-none w.ends q) at (sym (many-stops _ _ (sym (s ds e))))) refl
 
-    pub merged-stop : is_passed v ≡ false → (ds : List Definition) → Env ns roots ends' false ds → v ≡ check_forest false true ds (methods_in ns (take count services))
-    merged-stop p ds e = sym (merged-opens ds e ∙ and-stops v (check_forest false true ds (methods_in ns (slice (k + 1) count services))) p) ∙ l.same ds e
+  module _ {j : ℕ} (s : Said w false i.from i.until (Ok j)) where
+    arguments-pass : IsSome w.ends → Under w (λ pre ds. passes ≡ check_forest false false ds (siblings w.rows.now i.from i.until))
+    arguments-pass q ds e = rw (and-false (not (is_none w.ends)), some-not-none w.ends q) at (sym (many-pass _ _ (sym (s ds e))).0)
 
-    pub merged-on : is_passed v ≡ true → MergedLeft ns roots ends' services count (k + 1)
-    merged-on p = record { passed = omega arith; same = λ ds e. sym (merged-opens ds e ∙ and-on v (check_forest false true ds (methods_in ns (slice (k + 1) count services))) p) ∙ l.same ds e }
+    pub merged-end : {services : List ℕ} → services ≡ i.services → {k : ℕ} → length services ≤ k → (IsSome w.ends → MergedLeft w services k) → SaidOf w i passes
+    unfolding methods_in check_forest
+    merged-end {services} z {k} h l q ds e a m =
+        let f = λ (l : List ℕ). check_forest false true ds (methods_in w.rows.now l) in
+        merged-is a m passes passes (arguments-pass q ds e) (sym (at_drop_all f services k h) ∙ l q ds e ∙ ap f z)
 
--- ---- services of the book
-module _ {ns roots ends' services : List ℕ} {count : ℕ} (s : ServicesStored ns roots ends' services count) {k : ℕ} (h : k < count) where
-  pub service-stored : Trees ns roots ends' (get_or services k 0) (get_or services k 0 + (row_at ns (get_or services k 0)).size) × (get_or services k 0 < get_or services k 0 + (row_at ns (get_or services k 0)).size)
-  service-stored =
-      let m = (s.service k h).0 in
-      (node-trees s.all s.bound s.ended m, node-some s.all s.bound s.ended m)
+    module _ {services : List ℕ} (z : services ≡ i.services) {k : ℕ} (h : k < length services) (l : IsSome w.ends → MergedLeft w services k) {ds' : List Definition} (a' : ActorOf w i ds') where
+      service : IsService w.rows.now w.nodes (get_or services k 0)
+      service = All-get_or (IsService w.rows.now w.nodes) services k 0 h (rw z a'.nodes.service)
 
-  pub service-whole : WholeAt ns (get_or services k 0)
-  service-whole = (s.all.nodes.tree (get_or services k 0) (s.service k h).0).whole
+      merged-opens : {v : Verdict} → Under w (λ pre ds. v ≡ type_verdict pre ds w.rows.now (get_or services k 0)) → IsSome w.ends →
+          Under w (λ pre ds. and_then v (check_forest false true ds (methods_in w.rows.now (drop (k + 1) services))) ≡ check_forest false true ds (methods_in w.rows.now services))
+      unfolding methods_in
+      merged-opens {v} u q ds e =
+          let n : ℕ = get_or services k 0 in
+          let f = λ (l : List ℕ). check_forest false true ds (methods_in w.rows.now l) in
+          let is : v ≡ check_forest false true ds (kids_of (tree_at w.rows.now n)) =
+          (rw (some-not-none w.ends q) at (u ds e)) ∙ sym (at-service false ds w.rows.now n (row_at w.rows.now n) refl service.1)
+          ∙ ap (check_forest false true ds) (sym (tree-kids (whole w service.0))) in
+          ap (λ (u : Verdict). and_then u (f (drop (k + 1) services))) is
+          ∙ sym (check-beside false true ds (kids_of (tree_at w.rows.now n)) (methods_in w.rows.now (drop (k + 1) services)))
+          ∙ sym (at_drop_more f services k 0 h) ∙ l q ds e
 
--- ---- the arguments of a class are trees of the book
-none-fits : (names : ℕ) (f : Forest Node) → f ≡ end → T (forest_fits names Root f)
-unfolding forest_fits
-none-fits names f e = rw e tt
+      pub merged-stop : {x : Refusal} → Under w (λ pre ds. Err x ≡ type_verdict pre ds w.rows.now (get_or services k 0)) → SaidOf w i (Err x)
+      merged-stop {x} u q ds e a m =
+          merged-is a m passes (Err x) (arguments-pass q ds e) (merged-opens u q ds e ∙ ap (λ (l : List ℕ). check_forest false true ds (methods_in w.rows.now l)) z)
 
-module _ {ns roots ends' : List ℕ} {names count : ℕ} (a : AllTrees ns names count) (b : Roots roots count) (e : EndNodes ends' count) where
-  range-trees : (place : Place) {from until : ℕ} → Whole ns from until → until ≤ count → T (forest_fits names place (siblings ns from until)) → Trees ns roots ends' from until
-  range-trees place w i f = record { count = count; place = place; walk = record { names = names; nodes = a.nodes; bound = b; ended = e }; whole = w; inside = i; fits = f }
+      pub merged-on : Under w (λ pre ds. passes ≡ type_verdict pre ds w.rows.now (get_or services k 0)) → IsSome w.ends → MergedLeft w services (k + 1)
+      merged-on u = merged-opens u
 
-  module _ {root from until : ℕ} (h : (root ≡ 65535 → ⊥) → root < count) (y : ArgumentsAs ns count (actor_at ns root) from until) where
-    others : class_arguments (actor_at ns root) ≡ end → Trees ns roots ends' from until
-    others z = range-trees Root y.whole y.inside (none-fits names _ (y.are ∙ z))
-
-    of-class : (root ≡ 65535 → ⊥) → (c : Bool) → is_class (tree_at ns root) ≡ c → Trees ns roots ends' from until
-    unfolding class_arguments range-trees kids-trees
-    of-class n false q = others (ap class_arguments (actor-some ns root n) ∙ rw q refl)
-    of-class n true q =
-        let w = a.nodes.tree root (h n) in
-        let p = node-fits a b e (h n) in
-        let k = kids-trees (range-trees p.0 (tree-whole w.whole) w.ends p.1) (node-some a b e (h n)) in
-        let all = siblings ns (root + 1) (root + (row_at ns root).size) in
-        let are : siblings ns from until ≡ all_but_last all = y.are ∙ ap class_arguments (actor-some ns root n) ∙ rw q (ap all_but_last (tree-kids w.whole)) in
-        range-trees k.place y.whole y.inside
-        (subst (λ (f : Forest Node). T (forest_fits names k.place f)) (sym are)
-        (fits-parts names k.place (all_but_last all) (last_tree all) (subst (λ (f : Forest Node). T (forest_fits names k.place f)) (beside-last all) k.fits)).0)
-
-    pub arguments-trees : Trees ns roots ends' from until
-    unfolding class_arguments is_class
-    arguments-trees = go (ℕ_discrete root 65535)
-      where
-        go : Dec (root ≡ 65535) → Trees ns roots ends' from until
-        go (yes n) = others (ap class_arguments (actor-none ns root n))
-        go (no n) = of-class n (is_class (tree_at ns root)) refl
-
--- ---- the actor
-module _ {ns roots ends' : List ℕ} {ds : List Definition} {i : Interface} (s : ActorStored ns roots ends' ds i) where
-  abbrev t : Forest Node
-  t = interface_tree ns i
-
-  abbrev methods : Forest Node
-  methods = methods_in ns (take i.count i.services)
-
-  pub root-stored : (i.root ≡ 65535 → ⊥) → Trees ns roots ends' i.root (i.root + (row_at ns i.root).size) × (i.root < i.root + (row_at ns i.root).size)
-  root-stored h =
-      let m = s.actor.nodes.root h in
-      (node-trees s.all s.bound s.ended m, node-some s.all s.bound s.ended m)
-
-  module _ (m : i.merged ≡ true) where
-    tree-merged : t ≡ merged_of (actor_at ns i.root) methods
-    unfolding interface_tree
-    tree-merged = rw m refl
-
-    arguments-main : ArgumentsAs ns s.count (actor_at ns i.root) i.from i.until
-    arguments-main =
-        let y = s.actor.arguments in
-        record { whole = y.whole; inside = y.inside; are = y.are ∙ tree-arguments ns i m }
-
-    pub arguments-stored : Trees ns roots ends' i.from i.until
-    arguments-stored = arguments-trees s.all s.bound s.ended s.actor.nodes.root arguments-main
-
-    pub services-stored : ServicesStored ns roots ends' i.services i.count
-    services-stored =
-        let n = s.actor.nodes in
-        record { names = s.names; nodes = s.count; all = s.all; bound = s.bound; ended = s.ended; few = n.few; held = n.held; service = n.service }
-
-    module _ {v : Verdict} (q : v ≡ check_forest false false ds (siblings ns i.from i.until)) where
-      main-is : v ≡ check_forest false false ds (class_arguments (actor_at ns i.root))
-      main-is = q ∙ ap (check_forest false false ds) arguments-main.are
-
-      pub arguments-stop : is_passed v ≡ false → v ≡ actor_verdict ds t
-      arguments-stop p =
-          sym (and-stops v (check_forest false true ds methods) p) ∙ ap (λ (w : Verdict). and_then w (check_forest false true ds methods)) main-is
-          ∙ merged-verdict ds methods (actor_at ns i.root) ∙ ap (actor_verdict ds) (sym tree-merged)
-
-      pub arguments-on : is_passed v ≡ true → {w : Verdict} → w ≡ check_forest false true ds methods → w ≡ actor_verdict ds t
-      arguments-on p {w} z =
-          z ∙ sym (and-on v (check_forest false true ds methods) p) ∙ ap (λ (w : Verdict). and_then w (check_forest false true ds methods)) main-is
-          ∙ merged-verdict ds methods (actor_at ns i.root) ∙ ap (actor_verdict ds) (sym tree-merged)
-
-  module _ (m : i.merged ≡ false) where
-    tree-root : t ≡ actor_at ns i.root
+  -- ---- an actor as written
+  module _ (m : i.merged ≡ false) {ds : List Definition} (a : ActorOf w i ds) where
+    tree-root : interface_tree w.rows.now i ≡ actor_at w.rows.now i.root
     unfolding interface_tree
     tree-root = rw m refl
 
-    pub no-actor : i.root ≡ 65535 → Passed ≡ actor_verdict ds t
+    pub no-actor : i.root ≡ 65535 → passes ≡ actor_verdict ds (interface_tree w.rows.now i)
     unfolding actor_verdict no_trees
-    no-actor h = rw (tree-root, actor-none ns i.root h)
+    no-actor h = rw (tree-root, actor-none w.rows.now i.root h)
 
     module _ (h : i.root ≡ 65535 → ⊥) where
-      tree-some : t ≡ tree_at ns i.root
-      tree-some = tree-root ∙ actor-some ns i.root h
+      tree-some : interface_tree w.rows.now i ≡ tree_at w.rows.now i.root
+      tree-some = tree-root ∙ actor-some w.rows.now i.root h
 
-      module _ {v : Verdict} (q : v ≡ check_forest false false ds (below_top (tree_at ns i.root))) where
-        pub walk-stop : is_passed v ≡ false → v ≡ actor_verdict ds t
-        walk-stop p = written-stop (root-stored h).0 (root-stored h).1 v ds q p ∙ ap (actor_verdict ds) (sym tree-some)
+      tree-is : no_trees (tree_at w.rows.now i.root) ≡ false
+      unfolding no_trees
+      tree-is = rw (tree-opens (whole w (a.nodes.root h)))
+
+      module _ (q : IsSome w.ends) (e : WalkEnv w ds) where
+        written : {v : Verdict} → Under w (λ pre ds. v ≡ check_forest pre false ds (below_top (tree_at w.rows.now i.root))) → (b : Bool) → b ≡ as_service ds (below_class (tree_at w.rows.now i.root)) →
+            and_then v (unless b NoService) ≡ actor_verdict ds (interface_tree w.rows.now i)
+        unfolding actor_verdict below_top
+        written u b s = rw (tree-some, tree-is, s, rw (some-not-none w.ends q) at (u ds e)) refl
 
         -- 10 is a look at the number of services
-        served : i.count ≡ cond (as_service ds (below_class (tree_at ns i.root))) 1 0
-        served = s.actor.served m h ∙ ap (λ (u : Forest Node). cond (as_service ds (below_class u)) 1 0) tree-some
+        served : length i.services ≡ cond (as_service ds (below_class (tree_at w.rows.now i.root))) 1 0
+        served = a.served m h ∙ ap (λ (u : Forest Node). cond (as_service ds (below_class u)) 1 0) tree-some
 
-        pub no-service : is_passed v ≡ true → i.count ≡ 0 → Refused refusal.Refusal.NoService ≡ actor_verdict ds t
-        no-service p z = written-end (root-stored h).0 (root-stored h).1 v ds q p false (sym (go (as_service ds (below_class (tree_at ns i.root))) served)) ∙ ap (actor_verdict ds) (sym tree-some)
-          where
-            go : (b : Bool) → i.count ≡ cond b 1 0 → b ≡ false
-            go true e = absurd (let f : ⊥ = omega (arith, e, z) in f)
-            go false e = refl
+        pub written-stop : {x : Refusal} → Under w (λ pre ds. Err x ≡ check_forest pre false ds (below_top (tree_at w.rows.now i.root))) → Err x ≡ actor_verdict ds (interface_tree w.rows.now i)
+        written-stop u = written u _ refl
 
-        pub some-service : is_passed v ≡ true → (i.count ≡ 0 → ⊥) → Passed ≡ actor_verdict ds t
-        some-service p z = written-end (root-stored h).0 (root-stored h).1 v ds q p true (sym (go (as_service ds (below_class (tree_at ns i.root))) served)) ∙ ap (actor_verdict ds) (sym tree-some)
-          where
-            go : (b : Bool) → i.count ≡ cond b 1 0 → b ≡ true
-            go true e = refl
-            go false e = absurd (z e)
+        module _ (u : Under w (λ pre ds. passes ≡ check_forest pre false ds (below_top (tree_at w.rows.now i.root)))) where
+          pub no-service : length i.services ≡ 0 → Err NoService ≡ actor_verdict ds (interface_tree w.rows.now i)
+          no-service z = written u false (sym (go (as_service ds (below_class (tree_at w.rows.now i.root))) served))
+            where
+              go : (b : Bool) → length i.services ≡ cond b 1 0 → b ≡ false
+              go true e = absurd (let f : ⊥ = omega (arith, e, z) in f)
+              go false e = refl
+
+          pub some-service : (length i.services ≡ 0 → ⊥) → passes ≡ actor_verdict ds (interface_tree w.rows.now i)
+          some-service z = written u true (sym (go (as_service ds (below_class (tree_at w.rows.now i.root))) served))
+            where
+              go : (b : Bool) → length i.services ≡ cond b 1 0 → b ≡ true
+              go true e = refl
+              go false e = absurd (z e)

@@ -1,174 +1,189 @@
 -- The verdict of definitions, test by test as code makes them. Assumes nothing.
-use mathlib.Core.Path.{◌≡◌, refl, sym, ap, subst, ◌∙◌}
-use mathlib.Core.Bool.{Bool, true, false, cond, true≢false, false≢true}
-use mathlib.Core.List.{List, []}
-use Prim.Native.Nat.{ℕ, ◌-◌, ◌≤◌}
+--     admitted, entries, nodes         what the definitions of a book give
+--     bodies-stop, bodies-on, ..       the loop over their bodies
+--     fits-stop, fits-on, ..           the loop over their methods
+--     decs-body, decs-circle, ..       the verdict
+use mathlib.Core.Path.{◌≡◌, refl, sym, ap, ◌∙◌}
+use mathlib.Core.Bool.{Bool, true, false, true≢false}
+use mathlib.Core.List.{List, [], ◌∷◌}
+use Prim.Native.Nat.{ℕ, suc, ◌+◌, ◌-◌, ◌≤◌, ◌<◌}
 use native.Mathlib.Omega.{arith}
-use borrow.Author.Tests.{ne_eqb}
-use lib.Dec.{eqb}
 use lib.ListN.{length}
-use Rattle.format.specs.declared.Place.TheVariants.{Root}
+use Rattle.std.specs.Prelude.{None, Some, IsSome, Err}
+use denote.Bor.{Bor}
 use Rattle.format.specs.Book.{Definition}
-use Rattle.format.specs.Layout.{nodes_part, definitions_part}
-use Rattle.refusals.specs.declared.Refusal as refusal
-use Rattle.refusals.specs.declared.Verdict.{Verdict}
-use Rattle.refusals.specs.declared.Verdict.TheVariants.{Passed, Refused}
-use Rattle.refusals.specs.Verdict.{is_passed, unless}
-use Rattle.judgement.specs.Environment.{find_type}
-use Rattle.judgement.specs.Check.{once_verdict, bodies_verdict, each_name, circle_verdict, bodies_fit, decs_verdict}
-use Rattle.book.specs.declared.kinds.Contents.{Contents}
-use Rattle.book.specs.Reading.{Admitted}
-use Rattle.book.specs.Tables.{blank_table, zero_table}
-use Rattle.book.proofs.Opened.{names-count, definitions-count}
-use Rattle.environment.specs.Tables.{Roots, Binds, Tabled, EndNodes, DefinesAs, AliasEndsAs, definitions_in}
+use Rattle.format.specs.Encode.{Entry}
+use Rattle.format.specs.Layout.{nodes_part, definitions_part, entry_at, row_at, siblings}
+use Rattle.format.specs.Whole.{WholeIn, tree_at, definition_at}
+use Rattle.format.proofs.Lists.{run-none, run-cons}
+use Rattle.refusals.specs.declared.Refusal.{Refusal}
+use Rattle.refusals.specs.declared.Refusal.TheVariants.{NoFunction}
+use Rattle.refusals.specs.Verdict.{Verdict, passes, and_then, unless}
+use Rattle.judgement.specs.Check.{once_verdict, bodies_verdict, check_forest, methods_fit, bodies_fit, decs_verdict}
+use Rattle.book.specs.Reading.{EntryWithin, Admitted}
+use Rattle.book.specs.Tables.{zero_table}
+use Rattle.book.proofs.Named.{book-of}
+use Rattle.environment.specs.Tables.{Nodes, Entries, Roots, Binds, Tabled, DefinesAs, AliasEndsAs, definitions_in}
 use Rattle.environment.proofs.Definitions.{defined-length, defined-binds, defined-once}
 use Rattle.environment.proofs.FuncEnds.{ends-func}
-use Rattle.refusals.proofs.Verdicts.{passed-is, and-on, and-stops}
-use Rattle.syntax.proofs.Book.{all-trees, rows-exact, entries-of, definition-tree-fits}
-use Rattle.typing.specs.Walk.{Env}
-use Rattle.typing.specs.Defs.{BodiesIn, BodiesFitAs}
-use Rattle.typing.specs.Decs.{Bodies, Checked, EnteredAs, DecsAs, Entered, Walked, CycleAs}
-use Rattle.typing.proofs.defs.Entries.{bodies-in}
+use Rattle.syntax.proofs.Book.{all-trees, rows-exact, entries-of, entries-held, few-all}
+use Rattle.typing.specs.declared.types.Walk.{Walk}
+use Rattle.typing.specs.declared.decs.Decs.{Decs}
+use Rattle.typing.specs.Walk.{type_verdict}
+use Rattle.typing.specs.Types.{Reads, WalkEnv, Under}
+use Rattle.typing.specs.Decs.{Checked, definitions_of, Defined, EndsFound, EnteredOf, DecsOf}
+use Rattle.typing.proofs.Walk.{tree-verdict}
 
--- the bodies of the entries of an admitted book
-pub bodies-of : {bs : List ℕ} {c : Contents} (a : Admitted bs c) {from to : ℕ} → from ≤ to → to ≤ c.definitions → Bodies (definitions_part bs) (nodes_part bs) c.names c.nodes from to
-bodies-of {bs} a l h =
-    record {
-      nodes = (all-trees a).nodes;
-      exact = rows-exact a;
-      entries = entries-of a l h;
-      fits = rw (names-count a) (λ d m k. definition-tree-fits bs a.laid d (omega (arith, k, h, definitions-count a)));
-    }
+-- ---- the definitions that are left at entry k: none, or that of k and those after it
+module _ (ns es : List ℕ) {k to : ℕ} where
+  pub definitions-none : to ≤ k → definitions_in ns es k to ≡ []
+  definitions-none h = let z : to - k ≡ 0 = omega arith in rw (z, run-none (entry_at es) k)
 
--- a refusal, wherever it comes from
-refuse : {es ns : List ℕ} {names count from to : ℕ} {v : Verdict} → v ≡ decs_verdict names (definitions_in ns es from to) → is_passed v ≡ false →
-    {roots ends' : List ℕ} → ends' ≡ zero_table → EnteredAs es ns names count from to v roots ends'
-refuse {v = v} is f z = record { verdict = is; checked = λ e. never e; chains = λ e. never e; beyond = λ e. never e; left = λ g. z }
-  where
-    never : {A : Type 0} → v ≡ Passed → A
-    never e = absurd (false≢true (sym f ∙ ap is_passed e))
+  pub definitions-cons : k < to → definitions_in ns es k to ≡ definition_at ns (entry_at es k) ∷ definitions_in ns es (k + 1) to
+  definitions-cons h = let z : to - k ≡ suc (to - (k + 1)) = omega arith in rw (z, run-cons (entry_at es) k (to - (k + 1)))
 
-module _ {es ns : List ℕ} {names count from to : ℕ} (x : Bodies es ns names count from to) {roots : List ℕ} {twice : ℕ} (d : DefinesAs es count from to roots twice) where
+-- ---- definitions of a book
+module _ (d : Decs) where
+  abbrev ns : List ℕ
+  ns = nodes_part d.book.bytes.now
+
+  abbrev es : List ℕ
+  es = definitions_part d.book.bytes.now
+
   abbrev ds : List Definition
-  ds = definitions_in ns es from to
+  ds = definitions_of d
 
-  once-is : once_verdict [] ds ≡ cond (eqb twice 65535) Passed (Refused (refusal.Refusal.Twice twice))
-  once-is = defined-once ns x.entries d x.nodes.few_names
+  pub admitted : Admitted d.book.bytes.now d.book.contents
+  admitted = book-of _ _ d.book.laid
 
-  pub decs-twice : {ends' : List ℕ} → ends' ≡ zero_table → (twice ≡ 65535 → ⊥) → DecsAs es ns names count from to (Refused (refusal.Refusal.Twice twice)) roots ends'
-  unfolding decs_verdict
-  decs-twice z h = record { entered = refuse (sym (rw once-is (rw (ne_eqb twice 65535 h) refl))) refl z; left = λ f. d.left h }
+  pub entries : Entries es d.book.contents.names d.book.contents.nodes d.from d.to
+  entries = entries-of admitted d.ordered d.within
 
-  pub entered : twice ≡ 65535 → Entered es ns names count from to roots
-  entered h = record { bodies = x; defined = subst (DefinesAs es count from to roots) h d }
+  pub nodes : Nodes ns d.book.contents.names d.book.contents.nodes
+  nodes = (all-trees admitted).nodes
 
-module _ {es ns : List ℕ} {names count from to : ℕ} {roots : List ℕ} (e : Entered es ns names count from to roots) where
-  abbrev x : Bodies es ns names count from to
-  x = e.bodies
+  pub few : d.to - d.from ≤ 512
+  few = omega (arith, few-all admitted, d.within)
 
-  binds : Binds ns roots (definitions_in ns es from to)
-  binds = defined-binds ns x.entries e.defined x.nodes.few_nodes refl
+  many : length ds ≡ d.to - d.from
+  many = defined-length ns entries
 
-  -- the table is that of the definitions
-  pub tabled : Tabled ns roots (to - from) (definitions_in ns es from to)
-  tabled = (binds, defined-length ns x.entries)
+  -- entry k, and the tree of its body
+  module _ {k : ℕ} (b : d.from ≤ k) (h : k < d.to) where
+    pub entry-within : EntryWithin es (k + 1)
+    entry-within = record { held = omega (arith, (entries-held admitted).held, d.within); few = (entries-held admitted).few }
 
-  pub table : Roots roots count
-  table = e.defined.table (sym e.defined.twice-is)
+    module _ {e : Entry} (is : e ≡ entry_at es k) where
+      pub body-inside : e.root < d.book.contents.nodes
+      body-inside = rw is (entries.root k b h)
 
-  once-passed : once_verdict [] (definitions_in ns es from to) ≡ Passed
-  once-passed = once-is x e.defined
+      pub body-in : WholeIn ns e.root d.book.contents.nodes
+      body-in = nodes.tree e.root body-inside
 
-  pub bodies-here : {ends' : List ℕ} → EndNodes ends' count → BodiesIn es ns roots ends' from to
-  bodies-here z = bodies-in x.entries x.nodes table z Root x.fits
+  -- ---- in the table of roots
+  module _ {roots : List ℕ} (t : Defined d roots) where
+    pub binds : Binds ns roots ds
+    binds = defined-binds ns entries t nodes.few_nodes
 
-  -- while bodies are walked no method is tested
-  pub env-pre : (ends' : List ℕ) → Env ns roots ends' true (definitions_in ns es from to)
-  env-pre ends' = record { binds = binds; func = λ e. absurd (true≢false e) }
+    pub tabled : Tabled ns roots (d.to - d.from) ds
+    tabled = (binds, many)
 
-  module _ {v : Verdict} (q : v ≡ bodies_verdict (definitions_in ns es from to) (definitions_in ns es from to)) where
-    pub decs-body : {ends' : List ℕ} → ends' ≡ zero_table → is_passed v ≡ false → EnteredAs es ns names count from to v roots ends'
-    unfolding decs_verdict
-    decs-body z f = refuse (sym (rw once-passed (rw (← q) (and-stops v _ f)))) f z
+    pub table : Roots roots d.book.contents.nodes
+    table = t.table
 
-    pub walked : is_passed v ≡ true → Walked es ns names count from to roots
-    walked p = record { entered = e; walked = sym q ∙ passed-is v p }
+    once-passed : once_verdict [] ds ≡ passes
+    once-passed = sym (defined-once ns entries t)
 
-module _ {es ns : List ℕ} {names count from to : ℕ} {roots : List ℕ} (w : Walked es ns names count from to roots) {ends' : List ℕ} {v : Verdict}
-    (y : CycleAs ns roots names count (to - from) ends' v) where
-  abbrev all : List Definition
-  all = definitions_in ns es from to
+    -- while bodies are walked no method is tested
+    module _ {w : Walk} (r : Reads d.book.bytes.now d.book.contents roots None w) where
+      env-pre : WalkEnv w ds
+      env-pre = rw (r.rows-are, r.roots-are, r.ends-are) (record { binds = binds; func = λ e. absurd (true≢false e) })
 
-  abbrev n : Entered es ns names count from to roots
-  n = w.entered
+      module _ {k : ℕ} (b : d.from ≤ k) (h : k < d.to) {e : Entry} (is : e ≡ entry_at es k) (left : bodies_verdict ds (definitions_in ns es k d.to) ≡ bodies_verdict ds ds)
+          {v : Verdict} (u : Under w (λ pre ds. v ≡ type_verdict pre ds w.rows.now e.root)) where
+        body-says : v ≡ check_forest true false ds (tree_at ns (entry_at es k).root)
+        body-says =
+            (rw (r.rows-are, r.ends-are) at (u ds env-pre)) ∙ tree-verdict true ds (body-in b h is).whole
+            ∙ ap (λ (q : Entry). check_forest true false ds (tree_at ns q.root)) is
 
-  abbrev long : length (definitions_in ns es from to) ≡ to - from
-  long = defined-length ns (x n).entries
+        bodies-here : and_then v (bodies_verdict ds (definitions_in ns es (k + 1) d.to)) ≡ bodies_verdict ds ds
+        unfolding bodies_verdict
+        bodies-here = rw body-says (sym (ap (bodies_verdict ds) (definitions-cons ns es h))) ∙ left
 
-  lowest : each_name (λ n. circle_verdict all n (find_type all n)) 0 names ≡ v
-  lowest = sym (y.verdict all (binds n) long)
+      module _ {k : ℕ} (b : d.from ≤ k) (h : k < d.to) {e : Entry} (is : e ≡ entry_at es k) (left : bodies_verdict ds (definitions_in ns es k d.to) ≡ bodies_verdict ds ds) where
+        pub bodies-stop : {x : Refusal} → Under w (λ pre ds. Err x ≡ type_verdict pre ds w.rows.now e.root) → Err x ≡ bodies_verdict ds ds
+        bodies-stop u = bodies-here b h is left u
 
-  pub decs-circle : is_passed v ≡ false → EnteredAs es ns names count from to v roots ends'
-  unfolding decs_verdict
-  decs-circle f = refuse (sym (rw (once-passed n, w.walked, lowest) (and-stops v _ f))) f (y.left f)
+        pub bodies-on : Under w (λ pre ds. passes ≡ type_verdict pre ds w.rows.now e.root) → bodies_verdict ds (definitions_in ns es (k + 1) d.to) ≡ bodies_verdict ds ds
+        bodies-on u = bodies-here b h is left u
 
-  module _ (p : is_passed v ≡ true) where
-    ends-are : AliasEndsAs ns roots names count (to - from) ends' 65535
-    ends-are = y.ends p
+    pub bodies-end : {k : ℕ} → d.to ≤ k → bodies_verdict ds (definitions_in ns es k d.to) ≡ bodies_verdict ds ds → passes ≡ bodies_verdict ds ds
+    unfolding bodies_verdict
+    bodies-end h left = sym (ap (bodies_verdict ds) (definitions-none ns es h)) ∙ left
 
-    pub ends-nodes : EndNodes ends' count
-    ends-nodes = ends-are.nodes refl
-
-    env-checked : Checked ns roots ends' count all
-    env-checked =
-        record {
-          table = table n;
-          ended = ends-nodes;
-          env =
-              record {
-                binds = binds n;
-                func = λ e i u. ends-func (x n).nodes ends-are all (binds n) long i (omega (arith, u.held, (x n).exact));
-              };
-        }
-
-    pub env-ends : Env ns roots ends' false all
-    env-ends = env-checked.env
-
-    module _ {b : Bool} (f : BodiesFitAs es ns ends' from to b) where
-      fit-is : b ≡ bodies_fit all all
-      fit-is = f roots all (bodies-here n ends-nodes) env-ends
-
-      said : (t : Bool) → b ≡ t → decs_verdict names all ≡ unless t refusal.Refusal.NoFunction
-      unfolding decs_verdict
-      said t e = rw (once-passed n, w.walked, lowest) (and-on v _ p ∙ ap (λ (z : Bool). unless z refusal.Refusal.NoFunction) (sym fit-is ∙ e))
-
-      pub decs-unfit : b ≡ false → {after : List ℕ} → after ≡ zero_table → EnteredAs es ns names count from to (Refused refusal.Refusal.NoFunction) roots after
-      decs-unfit e z = refuse (sym (said false e)) refl z
-
-      pub decs-passed : b ≡ true → EnteredAs es ns names count from to Passed roots ends'
-      decs-passed e =
+    -- ---- and their ends in that of alias ends
+    module _ {ends' : List ℕ} (a : EndsFound d roots ends') where
+      checked : Checked ns roots ends' d.book.contents.nodes ds
+      checked =
           record {
-            verdict = sym (said true e);
-            checked = λ z. env-checked;
-            chains = λ z. ends-are.all refl all (binds n) long;
-            beyond = λ z. ends-are.beyond refl;
-            left = λ f. absurd (false≢true (sym f));
+            table = t.table;
+            ended = a.nodes;
+            env = record { binds = binds; func = λ e i u. ends-func nodes a ds binds many i (omega (arith, u.held, rows-exact admitted)) };
           }
 
--- ---- the table of roots, as it is and cleared
-module _ {es ns : List ℕ} {names count from to : ℕ} {v : Verdict} {roots ends' : List ℕ} (e : EnteredAs es ns names count from to v roots ends') where
-  pub decs-found : is_passed v ≡ true → DecsAs es ns names count from to v roots ends'
-  decs-found p = record { entered = e; left = λ f. absurd (false≢true (sym f ∙ p)) }
+      module _ {o : Bor (List ℕ)} (same : o.now ≡ ends') {w : Walk} (r : Reads d.book.bytes.now d.book.contents roots (Some o) w) where
+        env-ends : WalkEnv w ds
+        env-ends = rw (r.rows-are, r.roots-are, r.ends-are, same) checked.env
 
-  pub decs-cleared : is_passed v ≡ false → {after : List ℕ} → after ≡ blank_table → DecsAs es ns names count from to v after ends'
-  decs-cleared f z = record { entered = refuse e.verdict f (e.left f); left = λ g. z }
+        module _ {k : ℕ} (b : d.from ≤ k) (h : k < d.to) {e : Entry} (is : e ≡ entry_at es k) (left : bodies_fit ds (definitions_in ns es k d.to) ≡ bodies_fit ds ds)
+            {fit : Bool} {size : ℕ} (size-is : size ≡ (row_at ns e.root).size)
+            (u : IsSome w.ends → Under w (λ pre ds. fit ≡ methods_fit ds false (siblings w.rows.now e.root (e.root + size)))) where
+          body-fits : fit ≡ methods_fit ds false (tree_at ns (entry_at es k).root)
+          body-fits =
+              (rw r.rows-are at (u (rw r.ends-are refl) ds env-ends)) ∙ ap (λ (i : ℕ). methods_fit ds false (siblings ns e.root (e.root + i))) size-is
+              ∙ ap (λ (q : Entry). methods_fit ds false (tree_at ns q.root)) is
 
--- ---- 7
-module _ {ns roots : List ℕ} {names count definitions : ℕ} {ends' : List ℕ} {circle' : ℕ} (a : AliasEndsAs ns roots names count definitions ends' circle') where
-  pub cycle-found : (circle' ≡ 65535 → ⊥) → CycleAs ns roots names count definitions ends' (Refused (refusal.Refusal.Circle circle'))
-  cycle-found h =
-      record { verdict = λ ds b l. sym (a.lowest ds b l ∙ rw (ne_eqb circle' 65535 h) refl); ends = λ e. absurd (false≢true e); left = λ e. a.left h }
+          pub fits-stop : fit ≡ false → false ≡ bodies_fit ds ds
+          unfolding bodies_fit
+          fits-stop f = rw (← body-fits, f) at (ap (bodies_fit ds) (sym (definitions-cons ns es h)) ∙ left)
 
-  pub cycle-none : circle' ≡ 65535 → CycleAs ns roots names count definitions ends' Passed
-  cycle-none h =
-      record { verdict = λ ds b l. sym (a.lowest ds b l ∙ rw h refl); ends = λ e. subst (AliasEndsAs ns roots names count definitions ends') h a; left = λ e. absurd (false≢true (sym e)) }
+          pub fits-on : fit ≡ true → bodies_fit ds (definitions_in ns es (k + 1) d.to) ≡ bodies_fit ds ds
+          unfolding bodies_fit
+          fits-on f = rw (← body-fits, f) at (ap (bodies_fit ds) (sym (definitions-cons ns es h)) ∙ left)
+
+      pub fits-end : {k : ℕ} → d.to ≤ k → bodies_fit ds (definitions_in ns es k d.to) ≡ bodies_fit ds ds → true ≡ bodies_fit ds ds
+      unfolding bodies_fit
+      fits-end h left = sym (ap (bodies_fit ds) (definitions-none ns es h)) ∙ left
+
+    -- ---- the verdict
+    refuse : {x : Refusal} → Err x ≡ decs_verdict d.book.contents.names ds → {ends' : List ℕ} → ends' ≡ zero_table → EnteredOf d (Err x) roots ends'
+    refuse is z = record { verdict = is; checked = tt; chains = tt; beyond = tt; left = z }
+
+    pub decs-body : {x : Refusal} → Err x ≡ bodies_verdict ds ds → {ends' : List ℕ} → ends' ≡ zero_table → EnteredOf d (Err x) roots ends'
+    unfolding decs_verdict
+    decs-body q = refuse (sym (rw (once-passed, ← q) refl))
+
+    module _ (q : passes ≡ bodies_verdict ds ds) where
+      pub decs-circle : {x : Refusal} {ends' : List ℕ} → AliasEndsAs ns roots d.book.contents.names d.book.contents.nodes (d.to - d.from) ends' (Err x) → EnteredOf d (Err x) roots ends'
+      unfolding decs_verdict
+      decs-circle a = refuse (sym (rw (once-passed, ← q, ← a.lowest ds binds many) refl)) a.left
+
+      module _ {ends' : List ℕ} (a : EndsFound d roots ends') where
+        said : (b : Bool) → b ≡ bodies_fit ds ds → unless b NoFunction ≡ decs_verdict d.book.contents.names ds
+        unfolding decs_verdict
+        said b e = sym (rw (once-passed, ← q, ← a.lowest ds binds many, e) refl)
+
+        pub decs-unfit : false ≡ bodies_fit ds ds → {after : List ℕ} → after ≡ zero_table → EnteredOf d (Err NoFunction) roots after
+        decs-unfit e z = refuse (said false e) z
+
+        pub decs-passed : true ≡ bodies_fit ds ds → EnteredOf d passes roots ends'
+        decs-passed e = record { verdict = said true e; checked = checked a; chains = a.all ds binds many; beyond = a.beyond; left = tt }
+
+  -- ---- the table of roots where they are refused
+  pub decs-twice : {x : Refusal} {roots : List ℕ} → DefinesAs es d.book.contents.nodes d.from d.to roots (Err x) → {ends' : List ℕ} → ends' ≡ zero_table → DecsOf d (Err x) roots ends'
+  unfolding decs_verdict
+  decs-twice t z =
+      record {
+        entered = record { verdict = sym (rw (← defined-once ns entries t) refl); checked = tt; chains = tt; beyond = tt; left = z };
+        left = t.left;
+      }

@@ -21,11 +21,12 @@ use Rattle.format.proofs.Stored.{actor-some}
 use Rattle.format.proofs.Admitted.{definition-stored}
 use Rattle.format.proofs.Theorems.{found}
 use Rattle.book.specs.declared.kinds.Contents.{Contents}
-use Rattle.refusals.specs.declared.Refusal as refusal
-use Rattle.refusals.specs.declared.Verdict.{Verdict}
-use Rattle.refusals.specs.declared.Verdict.TheVariants.{Passed, Refused}
+use denote.Bor.{Bor}
+use Rattle.std.specs.Prelude.{Some, Result, Ok, Err, IfOk}
+use Rattle.std.specs.Result.{is_err}
+use Rattle.refusals.specs.declared.Refusal.{Refusal}
 use Rattle.book.specs.Reading.{EntryWithin, Admitted}
-use Rattle.refusals.specs.Verdict.{is_passed}
+use Rattle.refusals.specs.Verdict.{Verdict, passes}
 use Rattle.judgement.specs.Environment.{keep, find_type, is_missing, main_definitions, init_definitions, merge_definitions, kids_of}
 use Rattle.judgement.specs.Check.{decs_verdict, merge_verdict, init_verdict, check_forest, each_name, circle_verdict}
 use Rattle.judgement.specs.Actor.{init_tree, NoInit}
@@ -41,18 +42,19 @@ use Rattle.book.proofs.Blank.{blank-at}
 use Rattle.environment.proofs.Definitions.{defined-length}
 use Rattle.environment.proofs.merge.Tables.{merged-roots, merged-binds}
 use Rattle.environment.proofs.Links.{found-none, found-some, get_or-within}
-use Rattle.environment.specs.Trees.{Trees}
-use Rattle.typing.specs.Walk.{Env}
+use Rattle.typing.specs.Types.{Reads, WalkEnv}
+use Rattle.typing.proofs.Walk.{Said, many-stops, many-pass}
+use Rattle.syntax.specs.Verdicts.{verdict_of}
 use Rattle.syntax.specs.Files.{init_at, SplitAs}
 use Rattle.typing.specs.Decs.{DecsAs}
-use Rattle.typing.specs.declared.init.InitFound.{InitFound}
-use Rattle.typing.specs.Init.{lacked, both_definitions, InitFile, NoInitFile, own_definitions, OwnDecsAs, OwnPassed, MergeAs, Merged, Seen, init_none, ArgumentsFound, InitSeenAs, InitFoundAs}
+use Rattle.typing.specs.declared.init.InitArgs.{InitArgs}
+use Rattle.typing.specs.declared.types.Walk.{Walk}
+use Rattle.typing.specs.Init.{lacked, both_definitions, InitFile, NoInitFile, own_definitions, OwnDecsAs, OwnPassed, MergeAs, Merged, Seen, ArgumentsFound, InitPassedAs, InitSeenAs, InitFoundAs}
 use Rattle.typing.specs.declared.prog.Passed.{Passed as Handed}
 use Rattle.typing.specs.Passing.{PassedAs}
-use Rattle.refusals.proofs.Verdicts.{and-on, and-stops, passed-is}
-use Rattle.environment.proofs.Trees.{kids-trees, blank-nodes, node-trees, node-some}
+use Rattle.environment.proofs.Trees.{blank-nodes}
 use Rattle.syntax.proofs.Stored.{tree-kids}
-use Rattle.typing.proofs.defs.Entries.{definitions-none, definitions-cons}
+use Rattle.typing.proofs.decs.Laws.{definitions-none, definitions-cons}
 use Rattle.syntax.proofs.Book.{files-held, few-all, names-book, book-trees, all-trees, rows-exact, entries-of, init_of, entries-known, init-within, no-init, init-definitions-none, init-tree-is, init-root, main-definitions-are, init-definitions-are, file-root}
 use Rattle.book.proofs.Opened.{names-count, nodes-count, definitions-count, files-count}
 use Rattle.typing.proofs.prog.Laws.{definitions-passed}
@@ -62,9 +64,6 @@ pub record CountLeft (init es : List ℕ) (count main n d : ℕ) : Type 0 where
   pub passed : d ≤ main
   pub bounded : n ≤ count + d
   pub left : (ns : List ℕ) → n + length (lacked init (definitions_in ns es d main)) ≡ count + length (lacked init (definitions_in ns es 0 main))
-
-pub count-start : (init es : List ℕ) (count main : ℕ) → CountLeft init es count main count 0
-count-start init es count main = record { passed = omega arith; bounded = omega arith; left = λ ns. refl }
 
 lacked-some : (init : List ℕ) (x : Definition) (xs : List Definition) → get_or init x.name 65535 ≡ 65535 → length (lacked init (x ∷ xs)) ≡ suc (length (lacked init xs))
 unfolding lacked keep
@@ -78,7 +77,7 @@ module _ {init es : List ℕ} {count main n d : ℕ} (l : CountLeft init es coun
   pub count-end : main ≤ d → (ns : List ℕ) → n ≡ count + length (lacked init (definitions_in ns es 0 main))
   unfolding lacked keep
   count-end h ns =
-      let z : length (lacked init (definitions_in ns es d main)) ≡ 0 = rw (definitions-none ns es {d = d} {to = main} h) in
+      let z : length (lacked init (definitions_in ns es d main)) ≡ 0 = rw (definitions-none ns es {k = d} {to = main} h) in
       let e = l.left ns in
       omega (arith, z, e)
 
@@ -89,7 +88,7 @@ module _ {init es : List ℕ} {count main n d : ℕ} (l : CountLeft init es coun
           passed = omega arith;
           bounded = omega (arith, z, l.bounded);
           left = λ ns.
-              let s = ap (λ (x : List Definition). length (lacked init x)) (definitions-cons ns es {d = d} {to = main} h) ∙ lacked-some init (definition_at ns (entry_at es d)) (definitions_in ns es (d + 1) main) e in
+              let s = ap (λ (x : List Definition). length (lacked init x)) (definitions-cons ns es {k = d} {to = main} h) ∙ lacked-some init (definition_at ns (entry_at es d)) (definitions_in ns es (d + 1) main) e in
               let q = l.left ns in
               omega (arith, z, s, q);
         }
@@ -100,7 +99,7 @@ module _ {init es : List ℕ} {count main n d : ℕ} (l : CountLeft init es coun
           passed = omega arith;
           bounded = omega (arith, z, l.bounded);
           left = λ ns.
-              let s = ap (λ (x : List Definition). length (lacked init x)) (definitions-cons ns es {d = d} {to = main} h) ∙ lacked-none init (definition_at ns (entry_at es d)) (definitions_in ns es (d + 1) main) e in
+              let s = ap (λ (x : List Definition). length (lacked init x)) (definitions-cons ns es {k = d} {to = main} h) ∙ lacked-none init (definition_at ns (entry_at es d)) (definitions_in ns es (d + 1) main) e in
               let q = l.left ns in
               omega (arith, z, s, q);
         }
@@ -143,8 +142,9 @@ module _ {bs : List ℕ} {c : Contents} (a : Admitted bs c) where
   abbrev rows : List ℕ
   rows = nodes_part bs
 
-  pub own-as : {main : ℕ} {own ends' : List ℕ} {v : Verdict} → DecsAs (definitions_part bs) rows c.names c.nodes main c.definitions v own ends' → OwnDecsAs bs c main own v
-  own-as d = record { verdict = d.entered.verdict; table = λ e. (d.entered.checked e).table; binds = λ e. (d.entered.checked e).env.binds; left = d.left }
+  pub own-as : {main : ℕ} {own ends' : List ℕ} (v : Verdict) → DecsAs (definitions_part bs) rows c.names c.nodes main c.definitions v own ends' → OwnDecsAs bs c main own v
+  own-as (Ok tt) d = record { verdict = d.entered.verdict; table = d.entered.checked.table; binds = d.entered.checked.env.binds; left = tt }
+  own-as (Err r) d = record { verdict = d.entered.verdict; table = tt; binds = tt; left = d.left }
 
   hashed : {hs : List ℕ} → HashesOf hs (names_of (length (names_part bs)) (names_part bs)) → HashesOf hs a.book.names
   hashed {hs} o = record { long = o.long; agree = subst (HashesAgree hs) (names-book a) o.agree }
@@ -159,48 +159,27 @@ module _ {bs : List ℕ} {c : Contents} (a : Admitted bs c) where
       MergeAs a own roots v
   merge-as o said = record { verdict = λ ids ds. said a.book.names ids ds (hashed o).agree (sym (names-count a)) }
 
-  -- the arguments
-  module _ {both : List ℕ} (t : Roots both c.nodes) {root : ℕ} (h : root < c.nodes) where
-    module _ {count' : ℕ} {ends' : List ℕ} {circle' : ℕ} (x : AliasEndsAs rows both c.names c.nodes count' ends' circle')
-        {ds : List Definition} (s : Seen bs c both count' ds) where
-      no-circle : circle' ≡ 65535
-      no-circle = go (ℕ_discrete circle' 65535) (sym (x.lowest ds s.binds s.counted) ∙ s.ended)
-        where
-          go : Dec (circle' ≡ 65535) → cond (eqb circle' 65535) Passed (Refused (refusal.Refusal.Circle circle')) ≡ Passed → circle' ≡ 65535
-          go (yes e) q = e
-          go (no e) q = absurd (false≢true (ap is_passed (rw (ne_eqb circle' 65535 e) at q)))
+  -- the arguments, which are the children of node `root`
+  module _ {both : List ℕ} {count' : ℕ} {ends' : List ℕ} (x : AliasEndsAs rows both c.names c.nodes count' ends' passes) {ds : List Definition} (s : Seen bs c both count' ds)
+      {o : Bor (List ℕ)} (same : o.now ≡ ends') {w : Walk} (r : Reads bs c both (Some o) w) {root : ℕ} (h : root < c.nodes) {row : Row} (e : row ≡ row_at rows root) where
+    env-here : WalkEnv w ds
+    env-here =
+        rw (r.rows-are, r.roots-are, r.ends-are, same)
+        (record { binds = s.binds; func = λ e i u. ends-func (all-trees a).nodes x ds s.binds s.counted i (omega (arith, u.held, rows-exact a)) })
 
-      ends-all : AliasEndsAs rows both c.names c.nodes count' ends' 65535
-      ends-all = subst (AliasEndsAs rows both c.names c.nodes count' ends') no-circle x
+    kids-are : siblings rows (root + 1) (root + row.size) ≡ kids_of (tree_at rows root)
+    kids-are = ap (λ (q : Row). siblings rows (root + 1) (root + q.size)) e ∙ sym (tree-kids ((all-trees a).nodes.tree root h).whole)
 
-      pub seen-env : Env rows both ends' false ds
-      seen-env =
-          record {
-            binds = s.binds;
-            func = λ e i w. ends-func (all-trees a).nodes ends-all ds s.binds s.counted i (omega (arith, w.held, rows-exact a));
-          }
+    pub arguments-stop : {q : Refusal} → Said w false (root + 1) (root + row.size) (Err q) → ArgumentsFound bs count' root ds (Err q)
+    arguments-stop said =
+        record { verdict = (rw (r.rows-are, r.ends-are) at (sym (many-stops _ _ (sym (said ds env-here))))) ∙ ap (check_forest false false ds) kids-are; passed = tt }
 
-      pub arguments-in : {r : Row} → r ≡ row_at rows root → Trees rows both ends' (root + 1) (root + r.size)
-      arguments-in e = rw e (kids-trees (node-trees (all-trees a) t (ends-all.nodes refl) h) (node-some (all-trees a) t (ends-all.nodes refl) h))
-
-      module _ {r : Row} (e : r ≡ row_at rows root) {v : Verdict}
-          (said : (all : List Definition) → Env rows both ends' false all → v ≡ check_forest false false all (siblings rows (root + 1) (root + r.size))) where
-        verdict-is : v ≡ check_forest false false ds (kids_of (tree_at rows root))
-        verdict-is =
-            said ds seen-env
-            ∙ ap (check_forest false false ds) (ap (λ (q : Row). siblings rows (root + 1) (root + q.size)) e ∙ sym (tree-kids ((all-trees a).nodes.tree root h).whole))
-
-        pub arguments-refused : is_passed v ≡ false → {z : InitFound} → z ≡ init_none v → ArgumentsFound bs count' root ds z
-        arguments-refused f q =
-            rw q (record { verdict = verdict-is; passed = λ p. absurd (false≢true (sym f ∙ ap is_passed p)); refused = λ g. refl })
-
-        pub arguments-passed : is_passed v ≡ true → ArgumentsFound bs count' root ds (record { verdict = v; count = count'; from = root + 1; until = root + r.size })
-        arguments-passed f =
-            record {
-              verdict = verdict-is;
-              passed = λ p. rw (p, e);
-              refused = λ g. absurd (false≢true (sym g ∙ f));
-            }
+    pub arguments-end : {k : ℕ} → Said w false (root + 1) (root + row.size) (Ok k) → ArgumentsFound bs count' root ds (Ok (record { count = count'; from = root + 1; until = root + row.size }))
+    arguments-end said =
+        record {
+          verdict = (rw (r.rows-are, r.ends-are) at (sym (many-pass _ _ (sym (said ds env-here))).0)) ∙ ap (check_forest false false ds) kids-are;
+          passed = rw e refl;
+        }
 
 -- ---- The init file
 module _ {bs : List ℕ} {c : Contents} (a : Admitted bs c) where
@@ -217,15 +196,8 @@ module _ {bs : List ℕ} {c : Contents} (a : Admitted bs c) where
   init-same = sym (ap (init_at (files_part bs)) (files-count a))
 
   -- ---- A refusal, wherever it comes from
-  stop : (v : Verdict) → v ≡ init_verdict b → is_passed v ≡ false → {both : List ℕ} → both ≡ blank_table → {r : InitFound} → r ≡ init_none v → InitFoundAs a both r
-  stop v is f z e =
-      rw e
-      (record {
-        verdict = is;
-        passed = λ q. absurd (false≢true (sym f ∙ ap is_passed q));
-        refused = λ g. refl;
-        left = λ g. z;
-      })
+  stop : {x : Refusal} → Err x ≡ init_verdict b → {both : List ℕ} → both ≡ blank_table → InitFoundAs a both (Err x)
+  stop is z = record { seen = record { verdict = is; passed = tt }; left = z }
 
   -- ---- Without an init file
   module _ (h : NoInitFile a) where
@@ -256,28 +228,28 @@ module _ {bs : List ℕ} {c : Contents} (a : Admitted bs c) where
         ∙ sub-zero (length b.definitions) ∙ sym (definitions-count a)
 
     pub init-none : {roots ends' own both : List ℕ} {p : Handed} → PassedAs a roots ends' p → own ≡ blank_table → MergedAs own roots both →
-        InitFoundAs a both (record { verdict = Passed; count = c.definitions; from = 0; until = 0 })
+        InitFoundAs a both (Ok (record { count = c.definitions; from = 0; until = 0 }))
     unfolding kids_of find_type
     init-none {own = own} m z g =
         record {
-          verdict = sym (init-verdict b none-here);
-          refused = λ g. absurd (false≢true (sym g));
-          left = λ g. absurd (false≢true (sym g));
-          passed =
-              λ q.
-              record {
-                all = book-trees a;
-                table = merged-roots g (blank-nodes (count (trees b)) own z) m.checked.table;
-                binds =
-                    merged-binds g (nodes_part bs) ids ds
-                    (λ n. ap (λ (l : List Definition). find_type l n) own-none ∙ sym (found-none (nodes_part bs) _ (ap (λ (l : List ℕ). get_or l n 65535) z ∙ blank-at n)))
-                    m.checked.env.binds;
-                counted = ap length both-main ∙ main-length;
-                few = few-all a;
-                arguments = siblings-none (nodes_part bs) 0 0 (omega arith) ∙ sym (ap kids_of (no-init-tree b.files none-here));
-                whole = nothing (nodes_part bs) 0 0 refl (record { held = omega arith; few = (all-trees a).nodes.within.few });
-                within = omega arith;
-              };
+          seen = record {
+            verdict = sym (init-verdict b none-here);
+            passed =
+                record {
+                  all = book-trees a;
+                  table = merged-roots g (blank-nodes (count (trees b)) own z) m.checked.table;
+                  binds =
+                      merged-binds g (nodes_part bs) ids ds
+                      (λ n. ap (λ (l : List Definition). find_type l n) own-none ∙ sym (found-none (nodes_part bs) _ (ap (λ (l : List ℕ). get_or l n 65535) z ∙ blank-at n)))
+                      m.checked.env.binds;
+                  counted = ap length both-main ∙ main-length;
+                  few = few-all a;
+                  arguments = siblings-none (nodes_part bs) 0 0 (omega arith) ∙ sym (ap kids_of (no-init-tree b.files none-here));
+                  whole = nothing (nodes_part bs) 0 0 refl (record { held = omega arith; few = (all-trees a).nodes.within.few });
+                  within = omega arith;
+                };
+          };
+          left = tt;
         }
 
   module _ {init : ℕ} (file : InitFile a init) where
@@ -299,7 +271,7 @@ module _ {bs : List ℕ} {c : Contents} (a : Admitted bs c) where
     pub init-held : EntryWithin (files_part bs) (init + 1)
     init-held = record { held = omega (arith, (files-held a).held, init-inside); few = (files-held a).few }
 
-    pub split-file : {roots ends' : List ℕ} {p : Handed} → PassedAs a roots ends' p → SplitAs (definitions_part bs) c.definitions init p.main
+    split-file : {roots ends' : List ℕ} {p : Handed} → PassedAs a roots ends' p → SplitAs (definitions_part bs) c.definitions init p.main
     split-file {p = p} x = subst (λ (i : ℕ). SplitAs (definitions_part bs) c.definitions i p.main) (sym file.is) x.split
 
     inside : init_of bs b < length b.files
@@ -339,12 +311,24 @@ module _ {bs : List ℕ} {c : Contents} (a : Admitted bs c) where
         own-is : v ≡ decs_verdict (length b.names) ids
         own-is = rw (own-are, ← names-count a) d.verdict
 
-        pub init-own : is_passed v ≡ false → {both : List ℕ} → both ≡ blank_table → {r : InitFound} → r ≡ init_none v → InitFoundAs a both r
-        unfolding init_verdict
-        init-own f z e = stop v (sym (rw (← own-is) (and-stops v _ f))) f z e
+      init-own : {x : Refusal} {own : List ℕ} → OwnDecsAs bs c k own (Err x) → {both : List ℕ} → both ≡ blank_table → InitFoundAs a both (Err x)
+      unfolding init_verdict
+      init-own d z = stop (sym (rw (← own-is d) refl)) z
 
-        pub own-went : is_passed v ≡ true → OwnPassed a own init k
-        own-went f = record { file = file; split = s; own-as = subst (OwnDecsAs bs c k own) (passed-is v f) d }
+      own-went : {own : List ℕ} → OwnDecsAs bs c k own passes → OwnPassed a own init k
+      own-went d = record { file = file; split = s; own-as = d }
+
+-- ---- Its own definitions, as the code tells the init file
+module _ {bs : List ℕ} {c : Contents} (a : Admitted bs c) {init : ℕ} (is : init ≡ init_at (files_part bs) c.files) (some : init ≡ c.files → ⊥) {roots ends' : List ℕ} {p : Handed}
+    (m : PassedAs a roots ends' p) where
+  file : InitFile a init
+  file = record { is = is; some = some }
+
+  pub own-here : {own : List ℕ} → OwnDecsAs bs c p.main own passes → OwnPassed a own init p.main
+  own-here d = own-went a file (split-file a file m) d
+
+  pub own-refused : {x : Refusal} {own : List ℕ} → OwnDecsAs bs c p.main own (Err x) → {both : List ℕ} → both ≡ blank_table → InitFoundAs a both (Err x)
+  own-refused d z = init-own a file (split-file a file m) d z
 
 -- ---- Where its own definitions passed
 module _ {bs : List ℕ} {c : Contents} (a : Admitted bs c) {own : List ℕ} {init k : ℕ} (o : OwnPassed a own init k) {roots ends' : List ℕ} {p : Handed} (m : PassedAs a roots ends' p) where
@@ -352,27 +336,23 @@ module _ {bs : List ℕ} {c : Contents} (a : Admitted bs c) {own : List ℕ} {in
   both-ds = both_definitions a.book
 
   pub own-table : Roots own c.nodes
-  own-table = o.own-as.table refl
+  own-table = o.own-as.table
 
   pub main-table : Roots roots c.nodes
   main-table = rw (nodes-count a) m.checked.table
 
   own-binds : Binds (nodes_part bs) own (ids a)
-  own-binds = subst (λ (l : List Definition). Binds (nodes_part bs) own l) (sym (own-are a o.file o.split)) (o.own-as.binds refl)
+  own-binds = subst (λ (l : List Definition). Binds (nodes_part bs) own l) (sym (own-are a o.file o.split)) o.own-as.binds
 
-  own-passed : decs_verdict (length a.book.names) (ids a) ≡ Passed
+  own-passed : decs_verdict (length a.book.names) (ids a) ≡ passes
   own-passed = sym (own-is a o.file o.split o.own-as)
 
-  module _ {w : Verdict} (g : MergeAs a own roots w) where
-    merge-is : w ≡ merge_verdict a.book.names (ids a) (ds a)
-    merge-is = g.verdict (ids a) (ds a) own-binds m.checked.env.binds
+  merge-is : {w : Verdict} → MergeAs a own roots w → w ≡ merge_verdict a.book.names (ids a) (ds a)
+  merge-is g = g.verdict (ids a) (ds a) own-binds m.checked.env.binds
 
-    pub init-differs : is_passed w ≡ false → {both : List ℕ} → both ≡ blank_table → {r : InitFound} → r ≡ init_none w → InitFoundAs a both r
-    unfolding init_verdict
-    init-differs f z e = stop a w (sym (rw (own-passed, ← merge-is) (and-stops w _ f))) f z e
-
-    pub init-merged : is_passed w ≡ true → {both : List ℕ} → MergedAs own roots both → Merged a own roots both
-    init-merged f t = record { passed = subst (MergeAs a own roots) (passed-is w f) g; table = t }
+  pub init-differs : {x : Refusal} → MergeAs a own roots (Err x) → {both : List ℕ} → both ≡ blank_table → InitFoundAs a both (Err x)
+  unfolding init_verdict
+  init-differs g z = stop a (sym (rw (own-passed, ← merge-is g) refl)) z
 
   module _ {both : List ℕ} (g : Merged a own roots both) where
     module _ {n : ℕ} (l : (ns : List ℕ) → n ≡ (c.definitions - k) + length (lacked own (definitions_in ns (definitions_part bs) 0 k))) where
@@ -409,39 +389,39 @@ module _ {bs : List ℕ} {c : Contents} (a : Admitted bs c) {own : List ℕ} {in
                 (definitions-passed a.book m.passed);
           }
 
-      module _ {e : Entry} (at : e ≡ entry_at (files_part bs) init) {r : InitFound} (x : ArgumentsFound bs n e.root both-ds r) where
-        verdict-here : r.verdict ≡ init_verdict a.book
+      module _ {e : Entry} (at : e ≡ entry_at (files_part bs) init) (r : Result InitArgs Refusal) (x : ArgumentsFound bs n e.root both-ds r) where
+        verdict-here : verdict_of r ≡ init_verdict a.book
         unfolding init_verdict
         verdict-here =
             x.verdict ∙ ap (λ (t : Forest Node). check_forest false false both-ds (kids_of t)) (sym (tree-is a o.file at))
-            ∙ sym (rw (own-passed, ← merge-is g.passed) (and-on Passed _ refl))
+            ∙ sym (rw (own-passed, ← merge-is g.passed) refl)
 
         pub arguments-seen : InitSeenAs a both r
-        arguments-seen =
-            record {
-              verdict = verdict-here;
-              refused = x.refused;
-              passed =
-                  λ q.
-                  let here = (all-trees a).nodes.tree e.root (root-inside a o.file at) in
-                  rw (x.passed q)
-                  (record {
-                    all = book-trees a;
-                    table = rw (← nodes-count a) both-table;
-                    binds = both-binds;
-                    counted = count-is;
-                    few = count-few;
-                    arguments = sym (tree-kids here.whole) ∙ ap kids_of (sym (tree-is a o.file at));
-                    whole = kids-whole here.whole;
-                    within = omega (arith, here.ends, nodes-count a);
-                  });
-            }
+        arguments-seen = record { verdict = verdict-here; passed = go r x.passed }
+          where
+            go : (r : Result InitArgs Refusal) → IfOk r (λ args. args ≡ record { count = n; from = e.root + 1; until = e.root + (row_at (nodes_part bs) e.root).size }) →
+                IfOk r (InitPassedAs (nodes_part bs) a.book both)
+            go (Err y) q = tt
+            go (Ok args) q =
+                let here = (all-trees a).nodes.tree e.root (root-inside a o.file at) in
+                rw q
+                (record {
+                  all = book-trees a;
+                  table = rw (← nodes-count a) both-table;
+                  binds = both-binds;
+                  counted = count-is;
+                  few = count-few;
+                  arguments = sym (tree-kids here.whole) ∙ ap kids_of (sym (tree-is a o.file at));
+                  whole = kids-whole here.whole;
+                  within = omega (arith, here.ends, nodes-count a);
+                })
 
 -- ---- What is left in the table
-module _ {bs : List ℕ} {c : Contents} {a : Admitted bs c} {both : List ℕ} {r : InitFound} (x : InitSeenAs a both r) where
-  pub init-found : is_passed r.verdict ≡ true → InitFoundAs a both r
-  init-found f = record { verdict = x.verdict; passed = x.passed; refused = x.refused; left = λ g. absurd (false≢true (sym g ∙ f)) }
+module _ {bs : List ℕ} {c : Contents} {a : Admitted bs c} where
+  pub init-found : {both : List ℕ} (r : Result InitArgs Refusal) → InitSeenAs a both r → is_err r ≡ false → InitFoundAs a both r
+  init-found (Ok x) s f = record { seen = s; left = tt }
+  init-found (Err x) s f = absurd (false≢true (sym f))
 
-  pub init-cleared : is_passed r.verdict ≡ false → {after : List ℕ} → after ≡ blank_table → InitFoundAs a after r
-  init-cleared f z =
-      record { verdict = x.verdict; passed = λ q. absurd (false≢true (sym f ∙ ap is_passed q)); refused = x.refused; left = λ g. z }
+  pub init-cleared : {both after : List ℕ} (r : Result InitArgs Refusal) → InitSeenAs a both r → is_err r ≡ true → after ≡ blank_table → InitFoundAs a after r
+  init-cleared (Ok x) s f z = absurd (false≢true f)
+  init-cleared (Err x) s f z = record { seen = record { verdict = s.verdict; passed = tt }; left = z }

@@ -1,28 +1,27 @@
 -- What an admitted book gives that passed the check, for callers. Assumes nothing.
---     fits, few, entered, ..      what the book gives by its bytes, and the tables of it
---     names-are, rows-are, ..     its contents
+--     fits, few, tabled          what the book gives by its bytes, and the tables of it
+--     names-are, nodes-are       its contents
 --     no-actor, some-actor        17
 use mathlib.Core.Path.{◌≡◌, refl, sym, ap, ◌∙◌}
 use mathlib.Core.Bool.{Bool, true, false, not, ◌||◌, false≢true}
 use mathlib.Core.List.{List}
-use Prim.Native.Nat.{ℕ, ◌*◌, ◌≤◌}
+use Prim.Native.Nat.{ℕ, ◌≤◌}
 use native.Mathlib.Omega.{arith}
 use lib.Dec.{eqb, eqb→eq}
 use lib.ListN.{length}
 use Rattle.format.specs.Forest.{end, count}
 use Rattle.format.specs.Book.{trees}
 use Rattle.format.specs.Fits.{Fits}
-use Rattle.format.specs.Layout.{part, nodes_part, definitions_part}
-use Rattle.format.proofs.Admitted.{nodes-long}
+use Rattle.format.specs.Layout.{nodes_part}
 use Rattle.format.proofs.Theorems.{found}
 use Rattle.book.specs.declared.kinds.Contents.{Contents}
 use Rattle.book.specs.Reading.{Admitted}
-use Rattle.book.proofs.Opened.{names-count, nodes-count, nodes-here}
+use Rattle.book.proofs.Opened.{names-count, nodes-count}
 use Rattle.judgement.specs.Environment.{main_definitions}
 use Rattle.judgement.specs.Resolve.{resolve_actor}
-use Rattle.environment.specs.Tables.{Entries, Tabled}
+use Rattle.environment.specs.Tables.{Tabled}
 use Rattle.syntax.specs.Interfaces.{interface_tree}
-use Rattle.syntax.proofs.Book.{few-definitions, entries-known}
+use Rattle.syntax.proofs.Book.{few-definitions}
 use Rattle.syntax.proofs.interface.Laws.{tree-none, tree-merged, tree-written}
 use Rattle.typing.specs.declared.prog.Passed.{Passed}
 use Rattle.typing.specs.Passing.{PassedAs}
@@ -31,12 +30,6 @@ use Rattle.typing.specs.Passing.{PassedAs}
 module _ {bs : List ℕ} {c : Contents} {a : Admitted bs c} {roots ends' : List ℕ} {p : Passed} (x : PassedAs a roots ends' p) where
   pub fits : Fits a.book
   fits = ((found bs a.book).0 a.laid).0
-
-  pub exact : length (nodes_part bs) ≤ count (trees a.book) * 12
-  exact = omega (arith, nodes-long bs a.laid)
-
-  pub entered : Entries (definitions_part bs) (length a.book.names) (count (trees a.book)) 0 p.main
-  entered = entries-known bs a.laid 0 p.main (omega arith) x.within
 
   pub few : p.main ≤ 512
   few = omega (arith, x.within, few-definitions bs a.laid)
@@ -50,9 +43,6 @@ module _ {bs : List ℕ} {c : Contents} {a : Admitted bs c} {roots ends' : List 
 
   pub nodes-are : p.contents.nodes ≡ count (trees a.book)
   nodes-are = ap (λ (d : Contents). d.nodes) x.contents ∙ nodes-count a
-
-  pub rows-are : part p.contents.nodes_at p.contents.definitions_at bs ≡ nodes_part bs
-  rows-are = ap (λ (d : Contents). part d.nodes_at d.definitions_at bs) x.contents ∙ nodes-here a
 
   -- ---- Whether there is an actor, as the code tells it
   module _ {has : Bool} (is : has ≡ (p.interface.merged || not (eqb p.interface.root 65535))) where

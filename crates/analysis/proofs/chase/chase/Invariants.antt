@@ -1,11 +1,12 @@
 use Prim.Native.Nat.{◌+◌, ◌-◌}
-use Rattle.analysis.proofs.chase.Rows.{walking, RowsLeft}
+use Rattle.std.proofs.Common.{length}
+use Rattle.analysis.proofs.chase.Rows.{RowsLeft}
 use Rattle.analysis.proofs.chase.chase.Given as goal
 
-abbrev pub invariant-loop-end : goal.invariant-loop-end
-invariant-loop-end l =
-    RowsLeft l.rows l.roots l.from l.until (walking l.initial.seen l.initial.list l.initial.len) l.stack l.ends l.depth l.at l.end (walking l.seen l.list l.len)
+abbrev pub invariant-loop-row : goal.invariant-loop-row
+invariant-loop-row l =
+    RowsLeft l.rows l.roots l.from l.until l.fn.walk l.waiting.items l.at l.end (record { seen = l.seen; listed = l.listed })
 
-abbrev pub decreases-loop-end : goal.decreases-loop-end
-decreases-loop-end l =
-    512 - l.len + (512 - (l.len + l.depth))
+abbrev pub decreases-loop-row : goal.decreases-loop-row
+decreases-loop-row l =
+    512 - length l.listed.items + (512 - (length l.listed.items + length l.waiting.items))

@@ -1,22 +1,13 @@
 -- `chase_written` meets its contract. Assumes nothing.
 use mathlib.Core.Path.{ap}
-use native.Mathlib.Omega.{arith}
 use Rattle.format.specs.Encode.{Row}
 use Rattle.format.proofs.Stored.{actor-none}
-use Rattle.analysis.proofs.BookNodes.{here-within, here-small, here-readable}
+use Rattle.analysis.proofs.BookNodes.{here-readable}
 use Rattle.analysis.proofs.chase.Actor.{fresh-none, walked-same, written-is}
 use Rattle.analysis.proofs.chase.chase_written.Goals as goal
 
 pub returns-then-root-eq-NO_ROOT : goal.returns-then-root-eq-NO_ROOT
-returns-then-root-eq-NO_ROOT c = fresh-none c.requires.1 _ (actor-none _ _ c.if-root-eq-NO_ROOT.true) _ c.fresh.ensures
-
-pub at-t-requires : goal.at-t-requires
-at-t-requires c = here-within c.requires.0.rooted (c.requires.0.node c.if-root-eq-NO_ROOT.false)
-
-pub overflow_add-n : goal.overflow_add-n
-overflow_add-n c =
-    let s = c.requires.0 in
-    omega (arith, here-small s.rooted (s.node c.if-root-eq-NO_ROOT.false) (ap (λ (q : Row). q.size) c.at-t.ensures))
+returns-then-root-eq-NO_ROOT c = fresh-none c.requires.1 _ (actor-none _ _ c.if-root-eq-NO_ROOT.true) _ c.new.ensures
 
 pub chase_types-requires : goal.chase_types-requires
 chase_types-requires c =

@@ -1,26 +1,17 @@
--- `next_new` meets its contract: the nodes before are no new names. Assumes nothing.
-use mathlib.Core.Path.{sym, ◌∙◌}
-use native.Mathlib.Omega.{arith}
-use Rattle.analysis.proofs.chase.NewNames.{scan-start, scan-end, scan-here, scan-found, scan-on}
+-- `next_new` meets its contract. Assumes nothing.
+use Rattle.std.proofs.Common.{◌≡◌, ℕ, ◌<◌, ◌≤◌, true, false, List, Option, Some, None, MatchOption, rules, tests}
+use Rattle.std.proofs.lemmas.Iterator.{first_from_Range}
+use Rattle.analysis.specs.Walking.{is_new, NoneNew, NextNew}
 use Rattle.analysis.proofs.chase.next_new.Goals as goal
 
-pub loop-i-init : goal.loop-i-init
-loop-i-init c = scan-start c.requires.1
-
-pub is_new-requires : goal.is_new-requires
-is_new-requires c = scan-here c.loop-i.invariant c.loop-i-test.true c.requires.0
-
-pub returns-then-is_new : goal.returns-then-is_new
-returns-then-is_new c = scan-found c.loop-i.invariant c.loop-i-test.true (sym c.is_new.ensures ∙ c.if-is_new.true)
-
-pub overflow_add-i : goal.overflow_add-i
-overflow_add-i c = omega (arith, c.loop-i-test.true, c.ranges)
-
-pub loop-i-smaller : goal.loop-i-smaller
-loop-i-smaller c = omega (arith, c.loop-i-test.true)
-
-pub loop-i-preserved : goal.loop-i-preserved
-loop-i-preserved c = scan-on c.loop-i.invariant c.loop-i-test.true (sym c.is_new.ensures ∙ c.if-is_new.false)
+first_new : (ns seen : List ℕ) (from until : ℕ) (r : Option ℕ) →
+    MatchOption r (NoneNew ns seen from until) (λ i. (from ≤ i) × (i < until) × (is_new ns seen i ≡ true) × NoneNew ns seen from i) → NextNew ns seen from until r
+first_new ns seen from until (Some i) h = record { later = h.0; inside = h.1; skipped = h.3; new = h.2 }
+first_new ns seen from until None h = h
 
 pub returns : goal.returns
-returns c = scan-end c.loop-i.invariant c.loop-i-test.false
+returns c =
+    let ns = c.args.rows.now in
+    let seen = c.args.seen.now in
+    first_new ns seen c.args.from c.args.until c.find.result
+    (first_from_Range _ _ _ _ (λ i. is_new ns seen i ≡ true) (λ i. is_new ns seen i ≡ false) c.find.ensures.ran (λ x q k. search (rules, tests)) (λ x q k. search (rules, tests)))

@@ -1,32 +1,25 @@
--- `count_asked` meets its contract: the numbers from i on are still to be counted. Assumes nothing.
-use mathlib.Core.Path.{refl, sym}
+-- `count_asked` meets its contract. Assumes nothing.
+use mathlib.Core.List.{List}
+use mathlib.Core.Path.{sym, subst}
+use Prim.Native.Nat.{ℕ, ◌+◌}
 use native.Mathlib.Omega.{arith}
-use Rattle.analysis.proofs.project.Counts.{asked-start, counts-few, asked-on, asked-end}
+use Rattle.analysis.proofs.project.Counts.{CountsLeft, counts-start, counts-few, counts-name, counts-other, counts-end}
 use Rattle.analysis.proofs.project.count_asked.Goals as goal
+use Rattle.analysis.proofs.project.count_asked.Goals.{then-i-lt-NAMES, else-i-lt-NAMES}
 
-pub no_counts-left-requires : goal.no_counts-left-requires
-no_counts-left-requires c = tt
+pub loop-n-init : goal.loop-n-init
+loop-n-init c = counts-start _
 
-pub loop-i-init : goal.loop-i-init
-loop-i-init c = asked-start _ _ c.no_counts-left.ensures
+pub overflow_add-left : goal.overflow_add-left
+overflow_add-left c = omega (arith, counts-few c.loop-n.invariant c.loop-n-test.true _ c.if-i-lt-NAMES.true, c.well_formed)
 
-pub bounds-list-i : goal.bounds-list-i
-bounds-list-i c = c.loop-i-test.true
-
-pub slice_bounds-count_one-end : goal.slice_bounds-count_one-end
-slice_bounds-count_one-end c = sym c.loop-i.invariant.long
-
-pub count_one-requires : goal.count_one-requires
-count_one-requires c = (c.loop-i.invariant.long, counts-few c.loop-i.invariant c.loop-i-test.true _ refl (omega (arith, c.well_formed)))
-
-pub lower_far-far-requires : goal.lower_far-far-requires
-lower_far-far-requires c = tt
-
-pub loop-i-smaller : goal.loop-i-smaller
-loop-i-smaller c = omega (arith, c.loop-i-test.true)
-
-pub loop-i-preserved : goal.loop-i-preserved
-loop-i-preserved c = asked-on c.loop-i.invariant c.loop-i-test.true _ refl c.count_one.ensures c.lower_far-far.ensures
+pub loop-n-preserved : goal.loop-n-preserved
+loop-n-preserved c =
+    let l = c.loop-n in
+    elim c.if-i-lt-NAMES.branch [
+      | then-i-lt-NAMES w ↦ subst (λ (q : List ℕ). CountsLeft c.args.list.now q (l.n-index + 1)) (sym w.left-is) (counts-name l.invariant c.loop-n-test.true w.if-i-lt-NAMES.true)
+      | else-i-lt-NAMES w ↦ subst (λ (q : List ℕ). CountsLeft c.args.list.now q (l.n-index + 1)) (sym w.left-is) (counts-other l.invariant c.loop-n-test.true w.if-i-lt-NAMES.false)
+    ]
 
 pub returns : goal.returns
-returns c = (c.loop-i.invariant.long, asked-end c.loop-i.invariant c.loop-i-test.false (λ k. omega (arith, c.type_inv.list k)))
+returns c = counts-end c.loop-n.invariant c.loop-n-test.false

@@ -1,22 +1,22 @@
 -- `project` meets its contract. Assumes nothing.
-use mathlib.Core.Path.{refl}
-use native.Mathlib.Omega.{arith}
-use Rattle.analysis.proofs.project.Laws.{lowest-few, project-absent, project-short, project-given}
+use mathlib.Core.Path.{sym, ◌∙◌}
+use Rattle.analysis.proofs.project.Laws.{asked-by, project-absent, project-short, project-given}
 use Rattle.analysis.proofs.project.project.Goals as goal
 
-pub lowest_left-absent-requires : goal.lowest_left-absent-requires
-lowest_left-absent-requires c =
-    let first = c.project_methods-taken.ensures in
-    (first.kept, (_, (first.is _ _ c.count_asked-a.ensures.1).asking))
+pub project_methods-taken-requires : goal.project_methods-taken-requires
+project_methods-taken-requires c = (c.requires, asked-by _ _ c.count_asked-asked.ensures c.lowest_far-far.ensures)
 
-pub overflow_cast-result : goal.overflow_cast-result
-overflow_cast-result c = omega (arith, c.if-absent-ne-NONE.true, lowest-few _ _ c.count_asked-a.ensures.1 c.project_methods-taken.ensures c.lowest_left-absent.ensures)
+pub project_methods-requires : goal.project_methods-requires
+project_methods-requires c = (c.requires, asked-by _ _ c.count_asked-asked.ensures c.lowest_far-far.ensures)
 
-pub returns-then-absent-ne-NONE : goal.returns-then-absent-ne-NONE
-returns-then-absent-ne-NONE c = project-absent _ _ c.count_asked-a.ensures.1 c.project_methods-taken.ensures c.lowest_left-absent.ensures c.if-absent-ne-NONE.true
+pub returns-in-Some : goal.returns-in-Some
+returns-in-Some c =
+    project-absent _ _ _ _ c.count_asked-asked.ensures c.lowest_far-far.ensures c.project_methods-taken.ensures _ c.first_left.ensures _ (sym c.or.ensures ∙ c.in-Some.is)
 
-pub returns-then-places-taken : goal.returns-then-places-taken
-returns-then-places-taken c = project-short _ _ c.count_asked-a.ensures.1 c.project_methods-taken.ensures c.lowest_left-absent.ensures c.if-absent-ne-NONE.false c.if-places-taken.true
+pub returns-then-out-taken : goal.returns-then-out-taken
+returns-then-out-taken c =
+    project-short _ _ _ _ c.count_asked-asked.ensures c.lowest_far-far.ensures c.project_methods-taken.ensures _ c.first_left.ensures _ (sym c.or.ensures ∙ c.in_default.is) c.if-out-taken.true
 
 pub returns : goal.returns
-returns c = project-given _ _ c.count_asked-a.ensures.1 c.project_methods-taken.ensures c.lowest_left-absent.ensures c.if-absent-ne-NONE.false refl c.if-places-taken.false c.project_methods-written.ensures
+returns c =
+    project-given _ _ _ _ c.count_asked-asked.ensures c.lowest_far-far.ensures c.project_methods-taken.ensures _ c.first_left.ensures _ (sym c.or.ensures ∙ c.in_default.is) c.if-out-taken.false c.project_methods.ensures

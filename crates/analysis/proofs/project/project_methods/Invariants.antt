@@ -1,9 +1,11 @@
-use Prim.Native.Nat.{◌-◌}
+use mathlib.Core.Path.{◌≡◌}
+use Rattle.analysis.specs.Projecting.{way}
 use Rattle.analysis.proofs.project.Laws.{ServicesLeft, outset}
 use Rattle.analysis.proofs.project.project_methods.Given as goal
 
-abbrev pub invariant-loop-k : goal.invariant-loop-k
-invariant-loop-k l = ServicesLeft l.rows l.services l.count l.places (outset l.initial.left l.initial.out) l.k (record { at = l.w.at; taken = l.w.taken; left = l.left; out = l.out })
-
-abbrev pub decreases-loop-k : goal.decreases-loop-k
-decreases-loop-k l = l.count - l.k
+abbrev pub invariant-loop-s : goal.invariant-loop-s
+invariant-loop-s l = record {
+  names : l.w.left.ghost_name ≡ l.initial.w.left.ghost_name;
+  list : l.w.out.ghost_name ≡ l.initial.w.out.ghost_name;
+  left : ServicesLeft l.rows l.services (outset l.initial.w.left.now l.initial.w.out.now) l.s-index (way l.w);
+}

@@ -1,9 +1,13 @@
-use Prim.Native.Nat.{◌-◌}
+use mathlib.Core.Path.{◌≡◌}
+use Rattle.book.specs.Walks.{Over}
+use Rattle.analysis.specs.Projecting.{way}
 use Rattle.analysis.proofs.project.Laws.{MethodsLeft}
 use Rattle.analysis.proofs.project.take_methods.Given as goal
 
-abbrev pub invariant-loop-i : goal.invariant-loop-i
-invariant-loop-i l = MethodsLeft l.rows l.places l.from l.until (record { at = l.initial.at; taken = l.initial.taken; left = l.initial.left; out = l.initial.out }) l.i (record { at = l.at; taken = l.taken; left = l.left; out = l.out })
-
-abbrev pub decreases-loop-i : goal.decreases-loop-i
-decreases-loop-i l = l.until - l.i
+abbrev pub invariant-loop-t : goal.invariant-loop-t
+invariant-loop-t l = record {
+  names : l.w.left.ghost_name ≡ l.initial.w.left.ghost_name;
+  list : l.w.out.ghost_name ≡ l.initial.w.out.ghost_name;
+  over : Over l.rows l.until l.t-iterator;
+  left : MethodsLeft l.rows l.from l.until (way l.initial.w) l.t-iterator.at (way l.w);
+}

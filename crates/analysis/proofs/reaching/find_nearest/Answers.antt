@@ -1,14 +1,21 @@
 -- `reaching::find_nearest` meets its contract: the table of links is the table of first rows, before that is made. Assumes nothing.
-use mathlib.Core.Path.{ap, ◌∙◌}
+use mathlib.Core.Path.{refl, ap, ◌∙◌}
 use mathlib.Core.List.{List}
 use Prim.Native.Nat.{ℕ}
 use native.Mathlib.Omega.{arith}
-use lib.ListN.{length, get_or}
-use Rattle.analysis.proofs.reaching.Near.{places-length, places-at}
+use lib.ListN.{get_or}
+use Rattle.book.specs.Tables.{zero_table}
+use Rattle.analysis.specs.Reaching.{no_rows}
+use Rattle.analysis.proofs.reaching.Near.{places-at}
 use Rattle.analysis.proofs.reaching.find_nearest.Goals as goal
 
+pub owners-requires : goal.owners-requires
+unfolding no_rows
+owners-requires c = ((_, _, c.requires.0.1), refl)
+
 pub link-requires : goal.link-requires
-link-requires c = (record { names = _; known = c.requires.0.known }, c.no_links-head.ensures, ap length c.requires.2 ∙ places-length)
+unfolding zero_table
+link-requires c = (record { names = _; known = c.requires.0.1.known }, refl)
 
 pub returns : goal.returns
 returns c =
@@ -21,7 +28,7 @@ returns c =
         names = _;
         nodes = _;
         definitions = _;
-        book = p.0;
+        book = p.0.1;
         owned = c.owners.ensures;
         links = c.link.ensures.0;
       };

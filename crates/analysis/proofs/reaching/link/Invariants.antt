@@ -1,9 +1,5 @@
-use Prim.Native.Nat.{◌-◌}
 use Rattle.analysis.proofs.reaching.Links.{LinksLeft}
 use Rattle.analysis.proofs.reaching.link.Given as goal
 
 abbrev pub invariant-loop-j : goal.invariant-loop-j
 invariant-loop-j l = LinksLeft l.rows l.nodes l.initial.next l.head l.next l.j
-
-abbrev pub decreases-loop-j : goal.decreases-loop-j
-decreases-loop-j l = l.nodes - l.j

@@ -1,34 +1,17 @@
--- `read::name_at` meets its contract: the name that is left to find is the one sought. Assumes nothing.
-use mathlib.Core.Path.{◌∙◌}
-use native.Mathlib.Omega.{arith}
-use Rattle.format.specs.Layout.{part}
-use Rattle.book.proofs.Named.{sought-start, sought-here, sought-fits, sought-on, sought-found}
+-- `read::name_at` meets its contract. Assumes nothing.
+use Rattle.std.proofs.Common.{◌≡◌, ℕ, List, [], refl, ap, ◌∙◌, Bor, Option, None, Some}
+use Rattle.std.specs.Option.{option_map, unwrap_or}
+use Rattle.std.proofs.lemmas.Option.{unwrap_or-slice_get}
+use Rattle.std.proofs.lemmas.Iterator.Consumers.{nth_from_yields_List, YieldsList-from_first}
+use Rattle.book.specs.Walks.{names_left}
 use Rattle.book.proofs.read.name_at.Goals as goal
 
-pub loop-left-init : goal.loop-left-init
-loop-left-init c = sought-start c.requires
-
-pub overflow_add-at : goal.overflow_add-at
-overflow_add-at c = omega (arith, sought-here c.loop-left.invariant, c.ranges)
-
-pub bounds-names-at : goal.bounds-names-at
-bounds-names-at c = sought-here c.loop-left.invariant
-
-pub overflow_cast-at : goal.overflow_cast-at
-overflow_cast-at c = omega (arith, c.type_inv.names c.loop-left.at)
-
-pub overflow_add-at-in-loop-left : goal.overflow_add-at-in-loop-left
-overflow_add-at-in-loop-left c = omega (arith, sought-fits c.loop-left.invariant, c.ranges)
-
-pub loop-left-smaller : goal.loop-left-smaller
-loop-left-smaller c = omega (arith, c.loop-left-test.true)
-
-pub loop-left-preserved : goal.loop-left-preserved
-loop-left-preserved c = sought-on c.loop-left.invariant c.loop-left-test.true
-
-pub name_from-requires : goal.name_from-requires
-name_from-requires c = sought-fits c.loop-left.invariant
+-- what is read of an item, or of the one in its place
+read-or : (o : Option (Bor (List ℕ))) (d : Bor (List ℕ)) → (unwrap_or o d).now ≡ unwrap_or (option_map (λ x. x.now) o) d.now
+read-or None d = refl
+read-or (Some x) d = refl
 
 pub returns : goal.returns
-unfolding part
-returns c = c.name_from.ensures ∙ sought-found c.loop-left.invariant c.loop-left-test.false
+returns c =
+    let h = nth_from_yields_List c.nth.result c.nth.new.self c.args.number c.nth.ensures.ran (YieldsList-from_first (λ x. x.now) names_left _ refl) in
+    ap (λ x. x.now) c.unwrap_or.ensures ∙ read-or c.nth.result _ ∙ ap (λ o. unwrap_or o []) h ∙ unwrap_or-slice_get _ c.args.number []

@@ -1,35 +1,19 @@
 -- `rules::definition` meets its contract: the tests of an entry in the order of the code. Assumes nothing.
-use native.Mathlib.Omega.{arith}
-use Rattle.book.proofs.Entries.{definition-tests, definition-none, definition-init, definition-next, root-fits, root-rest}
+use mathlib.Core.Path.{sym, subst, ◌∙◌}
+use lib.Dec.{T}
+use Rattle.book.proofs.Entries.{definition-fine, definition-none, definition-init, definition-next}
 use Rattle.book.proofs.rules.definition.Goals as goal
 
-pub returns-then-names-e : goal.returns-then-names-e
-returns-then-names-e c = λ es fs x. let t = definition-tests _ _ _ _ _ es fs _ x in let z : ⊥ = omega (arith, t.name, c.if-names-e.true) in z
+pub returns-then-not-definition_fine-clause-finds : goal.returns-then-not-definition_fine-clause-finds
+returns-then-not-definition_fine-clause-finds c es fs x =
+    subst T (sym c.definition_fine.ensures ∙ c.if-not-definition_fine.true) (definition-fine _ _ _ _ _ es fs _ x)
 
-pub returns-then-files-e : goal.returns-then-files-e
-returns-then-files-e c = λ es fs x. let t = definition-tests _ _ _ _ _ es fs _ x in let z : ⊥ = omega (arith, t.owner, c.if-files-e.true) in z
+pub returns-in_err-root-clause-finds : goal.returns-in_err-root-clause-finds
+returns-in_err-root-clause-finds c = rw c.from_residual.ensures (definition-none _ _ _ _ c.args.trees c.in_err-root.ensures.steps.0)
 
-pub returns-then-e-file : goal.returns-then-e-file
-returns-then-e-file c = λ es fs x. let t = definition-tests _ _ _ _ _ es fs _ x in let z : ⊥ = omega (arith, t.rising, c.if-e-file.true) in z
+pub returns-then-root-clause-finds : goal.returns-then-root-clause-finds
+returns-then-root-clause-finds c = definition-init _ _ _ _ c.args.trees c.in_ok-root.ensures.steps c.if-root.true
 
-pub returns-then-e-next : goal.returns-then-e-next
-returns-then-e-next c = λ es fs x. let t = definition-tests _ _ _ _ _ es fs _ x in c.if-e-next.true t.root
-
-pub returns-then-e-ne0 : goal.returns-then-e-ne0
-returns-then-e-ne0 c = λ es fs x. let t = definition-tests _ _ _ _ _ es fs _ x in c.if-e-ne0.true t.reserved
-
-pub returns-then-nodes-next : goal.returns-then-nodes-next
-returns-then-nodes-next c = λ es fs x. definition-none _ _ _ _ _ es fs _ _ c.requires c.if-nodes-next.true x
-
-pub returns-then-node-eq-INIT : goal.returns-then-node-eq-INIT
-returns-then-node-eq-INIT c = λ es fs x. definition-init _ _ _ _ _ es fs _ _ c.requires c.if-nodes-next.false _ c.at-node.ensures c.if-node-eq-INIT.true x
-
-pub overflow_add-result : goal.overflow_add-result
-overflow_add-result c = omega (arith, root-fits c.requires c.if-nodes-next.false _ c.at-node.ensures, c.ranges)
-
-pub returns : goal.returns
-returns c = (
-  root-rest c.requires c.if-nodes-next.false _ c.at-node.ensures,
-  λ es fs. definition-next _ _ _ _ _ es fs _ _ c.requires c.if-nodes-next.false _ c.at-node.ensures
-      (record { name = c.if-names-e.false; owner = c.if-files-e.false; rising = c.if-e-file.false; root = c.if-e-next.false; reserved = c.if-e-ne0.false }) c.if-node-eq-INIT.false,
-)
+pub returns-clause-finds : goal.returns-clause-finds
+returns-clause-finds c =
+    definition-next _ _ _ _ c.args.trees c.in_ok-root.ensures.steps (sym c.definition_fine.ensures ∙ c.if-not-definition_fine.false) c.if-root.false

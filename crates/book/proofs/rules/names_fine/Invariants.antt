@@ -1,10 +1,9 @@
-use Prim.Native.Nat.{◌-◌}
 use lib.ListN.{length}
 use Rattle.book.proofs.Names.{NamesLeft}
 use Rattle.book.proofs.rules.names_fine.Given as goal
 
-abbrev pub invariant-loop-at : goal.invariant-loop-at
-invariant-loop-at l = NamesLeft l.count l.bytes l.at l.seen l.last l.last_end
+abbrev pub invariant-loop-size : goal.invariant-loop-size
+invariant-loop-size l = NamesLeft l.count l.bytes l.rest l.seen l.last
 
-abbrev pub decreases-loop-at : goal.decreases-loop-at
-decreases-loop-at l = length l.bytes - l.at
+abbrev pub decreases-loop-size : goal.decreases-loop-size
+decreases-loop-size l = length l.rest

@@ -1,50 +1,26 @@
--- `tables::name_hashes` meets its contract: the bytes that are left are the names that are left. Assumes nothing.
-use Prim.Native.Nat.{ℕ}
-use mathlib.Core.Path.{sym, subst}
-use mathlib.Core.List.{List}
-use native.Mathlib.Omega.{arith}
-use Rattle.book.proofs.Named.{sought-here, sought-fits}
-use Rattle.book.proofs.Blank.{TableLeft, Hashed, left-start, name-sought, hashes-on, hashes-end}
+-- `tables::name_hashes` meets its contract: the names that are walked have their numbers. Assumes nothing.
+use Rattle.std.proofs.Common.{arith, ap, ◌∙◌}
+use Rattle.labels.specs.Number.{label_number}
+use Rattle.book.specs.Tables.{zero_table}
+use Rattle.book.specs.Walks.{names_left}
+use Rattle.book.proofs.Blank.{filling-start, filling-here, filling-name, filling-on, hashes-end}
 use Rattle.book.proofs.tables.name_hashes.Goals as goal
 
-pub zeros-hashes-requires : goal.zeros-hashes-requires
-zeros-hashes-requires c = tt
-
 pub loop-n-init : goal.loop-n-init
-loop-n-init c = let names = c.args.names.now in subst (λ (l : List ℕ). TableLeft names c.args.count (Hashed names) l 0 0) (sym c.zeros-hashes.ensures) (left-start c.requires)
-
-pub overflow_add-from : goal.overflow_add-from
-overflow_add-from c = omega (arith, sought-here (name-sought c.requires c.loop-n.invariant c.loop-n-test.true), c.ranges)
-
-pub bounds-names-at : goal.bounds-names-at
-bounds-names-at c = sought-here (name-sought c.requires c.loop-n.invariant c.loop-n-test.true)
-
-pub overflow_cast-until : goal.overflow_cast-until
-overflow_cast-until c = omega (arith, c.type_inv.names c.loop-n.at)
-
-pub overflow_add-until : goal.overflow_add-until
-overflow_add-until c = omega (arith, sought-fits (name-sought c.requires c.loop-n.invariant c.loop-n-test.true), c.ranges)
-
-pub slice_bounds-idl_hash-end : goal.slice_bounds-idl_hash-end
-slice_bounds-idl_hash-end c = sought-fits (name-sought c.requires c.loop-n.invariant c.loop-n-test.true)
-
-pub idl_hash-requires : goal.idl_hash-requires
-idl_hash-requires c = tt
-
-pub offset_bounds-hashes-n : goal.offset_bounds-hashes-n
-offset_bounds-hashes-n c = omega (arith, c.loop-n-test.true, c.requires.few)
+unfolding zero_table
+loop-n-init c =
+    let e = c.into_iter-n-iterator.ensures.into_iter_gives in
+    let s = c.enumerate-n-items.ensures in
+    rw (e, s.count) (filling-start (omega (arith, c.requires.counted, c.requires.few)) (ap names_left s.source))
 
 pub bounds-hashes-n : goal.bounds-hashes-n
-bounds-hashes-n c = omega (arith, c.loop-n-test.true, c.requires.few)
-
-pub overflow_add-n : goal.overflow_add-n
-overflow_add-n c = omega (arith, c.loop-n-test.true, c.requires.few)
-
-pub loop-n-smaller : goal.loop-n-smaller
-loop-n-smaller c = omega (arith, c.loop-n-test.true)
+bounds-hashes-n c = let z = c.in-Some.ensures.steps in omega (arith, filling-here c.loop-n.invariant z.0, c.loop-n.invariant.few, z.1)
 
 pub loop-n-preserved : goal.loop-n-preserved
-loop-n-preserved c = hashes-on c.requires c.loop-n.invariant c.loop-n-test.true _ c.idl_hash.ensures
+loop-n-preserved c =
+    let z = c.in-Some.ensures.steps in
+    let i = c.loop-n.invariant in
+    rw (z.1, z.2) (filling-on i z.0 c.idl_hash.result (c.idl_hash.ensures ∙ ap label_number (filling-name i z.0)))
 
 pub returns : goal.returns
-returns c = hashes-end c.requires c.loop-n.invariant c.loop-n-test.false
+returns c = hashes-end c.loop-n.invariant c.in-None.ensures.steps.0.0

@@ -1,9 +1,5 @@
-use Prim.Native.Nat.{◌-◌}
 use Rattle.environment.proofs.merge.Tables.{MergedLeft}
 use Rattle.environment.proofs.merge.merged.Given as goal
 
 abbrev pub invariant-loop-n : goal.invariant-loop-n
 invariant-loop-n l = MergedLeft l.init l.main l.both l.n
-
-abbrev pub decreases-loop-n : goal.decreases-loop-n
-decreases-loop-n l = 1024 - l.n

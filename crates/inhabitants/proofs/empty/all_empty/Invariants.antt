@@ -1,8 +1,7 @@
-use Rattle.inhabitants.proofs.empty.Fields.{EmptyLeft}
+use mathlib.Core.Path.{◌≡◌}
+use lib.ListN.{drop}
+use Rattle.inhabitants.specs.Empty.{all_empty}
 use Rattle.inhabitants.proofs.empty.all_empty.Given as goal
 
-abbrev pub invariant-loop-d : goal.invariant-loop-d
-invariant-loop-d l = EmptyLeft l.rows l.stack l.depth l.initial.marked l.d l.marked
-
-abbrev pub decreases-loop-d : goal.decreases-loop-d
-decreases-loop-d l = l.d
+abbrev pub invariant-loop-w : goal.invariant-loop-w
+invariant-loop-w l = all_empty l.rows (drop l.w-index l.waiting) l.marks ≡ all_empty l.rows l.waiting l.initial.marks

@@ -1,9 +1,5 @@
-use Prim.Native.Nat.{◌-◌}
 use Rattle.inhabitants.proofs.empty.Visits.{KeysLeft}
 use Rattle.inhabitants.proofs.empty.replace_empty.Given as goal
 
 abbrev pub invariant-loop-n : goal.invariant-loop-n
 invariant-loop-n l = KeysLeft l.rows l.roots l.names l.marks l.n
-
-abbrev pub decreases-loop-n : goal.decreases-loop-n
-decreases-loop-n l = l.names - l.n

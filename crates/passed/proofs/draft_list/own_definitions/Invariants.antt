@@ -1,10 +1,7 @@
-use Prim.Native.Nat.{ℕ, ◌-◌, ◌≤◌, ◌<◌}
+use Prim.Native.Nat.{ℕ, ◌<◌}
 use mathlib.Core.Path.{◌≡◌}
 use Rattle.format.specs.Layout.{entry_at}
 use Rattle.passed.proofs.draft_list.own_definitions.Given as goal
 
 abbrev pub invariant-loop-d : goal.invariant-loop-d
-invariant-loop-d l = (l.d ≤ l.count) × ((k : ℕ) → k < l.d → (entry_at l.entries k).owner ≡ 0)
-
-abbrev pub decreases-loop-d : goal.decreases-loop-d
-decreases-loop-d l = l.count - l.d
+invariant-loop-d l = (k : ℕ) → k < l.d → (entry_at l.entries k).owner ≡ 0

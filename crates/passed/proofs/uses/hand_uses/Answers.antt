@@ -1,9 +1,15 @@
--- `hand_uses` meets its contract: counting changes nothing, so a refusal leaves the list as it was. Assumes nothing.
+-- `hand_uses` meets its contract: what is counted into no places leaves the lent list as it was. Assumes nothing.
 use Rattle.passed.proofs.uses.Laws.{hands-short, hands-given}
 use Rattle.passed.proofs.uses.hand_uses.Goals as goal
 
-pub returns-then-places-needed : goal.returns-then-places-needed
-returns-then-places-needed c = record { handed = λ x. hands-short (c.put_uses-needed.ensures.puts x) c.if-places-needed.true }
+pub put_uses-needed-requires : goal.put_uses-needed-requires
+put_uses-needed-requires c = rw c.as_slice-services.ensures.all c.requires
+
+pub returns-then-out-needed : goal.returns-then-out-needed
+returns-then-out-needed c = record { handed = λ x. hands-short ((rw c.as_slice-services.ensures.all at c.put_uses-needed.ensures).puts x) c.if-out-needed.true }
 
 pub returns : goal.returns
-returns c = record { handed = λ x. hands-given (c.put_uses-needed.ensures.puts x) c.if-places-needed.false (c.put_uses-written.ensures.puts x) }
+returns c =
+    record {
+      handed = λ x. hands-given ((rw c.as_slice-services.ensures.all at c.put_uses-needed.ensures).puts x) c.if-out-needed.false ((rw c.as_slice-services.ensures.all at c.put_uses.ensures).puts x);
+    }

@@ -1,9 +1,6 @@
-use Prim.Native.Nat.{◌-◌}
+use Rattle.book.specs.Walks.{Over}
 use Rattle.syntax.proofs.class.Laws.{LastLeft}
 use Rattle.syntax.proofs.class.last_child.Given as goal
 
-abbrev pub invariant-loop-next : goal.invariant-loop-next
-invariant-loop-next l = LastLeft l.rows l.from l.until l.last l.next
-
-abbrev pub decreases-loop-next : goal.decreases-loop-next
-decreases-loop-next l = l.until - l.next
+abbrev pub invariant-loop-n : goal.invariant-loop-n
+invariant-loop-n l = record { over : Over l.rows l.until l.n-iterator; left : LastLeft l.rows l.from l.until l.last l.n-iterator.at }

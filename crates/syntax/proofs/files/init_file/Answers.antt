@@ -2,11 +2,5 @@
 use Rattle.syntax.proofs.Book.{files-held, files-some}
 use Rattle.syntax.proofs.files.init_file.Goals as goal
 
-pub files-requires : goal.files-requires
-files-requires c = c.requires
-
 pub init_number-requires : goal.init_number-requires
 init_number-requires c = let a = c.requires in rw c.files.ensures (files-held a, files-some a)
-
-pub returns : goal.returns
-returns c = λ a. rw c.files.ensures at c.init_number.ensures

@@ -1,17 +1,16 @@
-use Prim.Native.Nat.{◌+◌, ◌-◌}
-use lib.ListN.{take}
+use Prim.Native.Nat.{◌+◌}
+use lib.ListN.{drop}
+use Rattle.book.specs.Walks.{Over}
 use Rattle.syntax.specs.Interfaces.{methods_in}
-use Rattle.syntax.proofs.hashes.Methods.{HashesLeft, ServiceLeft, rest_methods}
+use Rattle.syntax.proofs.hashes.Methods.{HashesLeft, ServiceLeft}
 use Rattle.syntax.proofs.hashes.hashes.Given as goal
 
-abbrev pub invariant-loop-i : goal.invariant-loop-i
-invariant-loop-i l = ServiceLeft l.rows l.table (methods_in l.rows (take l.count l.services)) (rest_methods l.rows l.services l.count (l.s + 1)) l.met l.last l.link l.k l.i l.until
-
-abbrev pub decreases-loop-i : goal.decreases-loop-i
-decreases-loop-i l = l.until - l.i
+abbrev pub invariant-loop-m : goal.invariant-loop-m
+invariant-loop-m l =
+    record {
+      over : Over l.rows l.until l.m-iterator;
+      left : ServiceLeft l.rows l.table (methods_in l.rows l.services) (methods_in l.rows (drop (l.s-index + 1) l.services)) l.met l.m-iterator.at l.until;
+    }
 
 abbrev pub invariant-loop-s : goal.invariant-loop-s
-invariant-loop-s l = HashesLeft l.table (methods_in l.rows (take l.count l.services)) (rest_methods l.rows l.services l.count l.s) l.met l.last l.link l.k
-
-abbrev pub decreases-loop-s : goal.decreases-loop-s
-decreases-loop-s l = l.count - l.s
+invariant-loop-s l = HashesLeft l.table (methods_in l.rows l.services) (methods_in l.rows (drop l.s-index l.services)) l.met

@@ -1,28 +1,22 @@
 -- `check_actor` meets its contract. Assumes nothing.
 use mathlib.Core.Path.{sym, ◌∙◌}
-use Rattle.typing.proofs.actor.Laws.{root-stored, no-actor, walk-stop, no-service, some-service}
+use mathlib.Core.Bool.{false≢true}
+use lib.Dec.{eqb→eq}
+use borrow.Author.Tests.{eq-eqb}
+use Rattle.typing.proofs.Handing.{handed-on}
+use Rattle.typing.proofs.actor.Laws.{no-actor, written-stop, no-service, some-service}
 use Rattle.typing.proofs.actor.check_actor.Goals as goal
 
-pub check_merged-requires : goal.check_merged-requires
-check_merged-requires c = let p = c.requires in (p.0, p.1, c.if-interface.true, p.2)
+pub returns-then-interface-2 : goal.returns-then-interface-2
+returns-then-interface-2 c = λ q ds e a. no-actor c.args.walk.now c.args.interface.now c.if-interface.false a c.if-interface-2.true
 
-pub returns-then-interface : goal.returns-then-interface
-returns-then-interface c = λ ds s e. c.check_merged.ensures ds s c.if-interface.true e
+pub returns-in_err-check_top : goal.returns-in_err-check_top
+returns-in_err-check_top c =
+    rw (handed-on c.from_residual.result c.from_residual.ensures)
+    (λ q ds e a. written-stop c.args.walk.now c.args.interface.now c.if-interface.false a c.if-interface-2.false q e c.in_err-check_top.ensures)
 
-pub returns-then-interface-eq-NO_ROOT : goal.returns-then-interface-eq-NO_ROOT
-returns-then-interface-eq-NO_ROOT c = λ ds s e. no-actor s c.if-interface.false c.if-interface-eq-NO_ROOT.true
-
-pub check_top-v-requires : goal.check_top-v-requires
-check_top-v-requires c =
-    let p = c.requires in
-    let s = root-stored p.1 c.if-interface-eq-NO_ROOT.false in
-    (s.0, s.1, (p.0, p.2))
-
-pub returns-then-not-passed : goal.returns-then-not-passed
-returns-then-not-passed c = λ ds s e. walk-stop s c.if-interface.false c.if-interface-eq-NO_ROOT.false (c.check_top-v.ensures ds e) (sym c.passed.ensures ∙ c.if-not-passed.true)
-
-pub returns-then-interface-eq0 : goal.returns-then-interface-eq0
-returns-then-interface-eq0 c = λ ds s e. no-service s c.if-interface.false c.if-interface-eq-NO_ROOT.false (c.check_top-v.ensures ds e) (sym c.passed.ensures ∙ c.if-not-passed.false) c.if-interface-eq0.true
+pub returns-then-is_empty : goal.returns-then-is_empty
+returns-then-is_empty c = λ q ds e a. no-service c.args.walk.now c.args.interface.now c.if-interface.false a c.if-interface-2.false q e c.in_ok-check_top.ensures (eqb→eq _ _ (rw (sym c.is_empty.ensures ∙ c.if-is_empty.true) tt))
 
 pub returns : goal.returns
-returns c = λ ds s e. some-service s c.if-interface.false c.if-interface-eq-NO_ROOT.false (c.check_top-v.ensures ds e) (sym c.passed.ensures ∙ c.if-not-passed.false) c.if-interface-eq0.false
+returns c = λ q ds e a. some-service c.args.walk.now c.args.interface.now c.if-interface.false a c.if-interface-2.false q e c.in_ok-check_top.ensures (λ z. false≢true (sym c.if-is_empty.false ∙ c.is_empty.ensures ∙ eq-eqb _ _ z))

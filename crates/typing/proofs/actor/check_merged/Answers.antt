@@ -1,16 +1,23 @@
--- `check_merged` meets its contract. Assumes nothing.
-use mathlib.Core.Path.{sym, ◌∙◌}
-use Rattle.typing.proofs.actor.Laws.{arguments-stored, services-stored, arguments-stop, arguments-on}
+-- `check_merged` meets its contract: the services that are left give the verdict. Assumes nothing.
+use mathlib.Core.Path.{refl}
+use Rattle.typing.proofs.Handing.{handed-on}
+use Rattle.typing.proofs.actor.Laws.{arguments-stop, merged-stop, merged-on, merged-end}
 use Rattle.typing.proofs.actor.check_merged.Goals as goal
 
-pub check_fields-v-requires : goal.check_fields-v-requires
-check_fields-v-requires c = let p = c.requires in (arguments-stored p.1 p.2, (p.0, p.3))
+pub returns-in_err-check_types : goal.returns-in_err-check_types
+returns-in_err-check_types c = rw (handed-on c.from_residual.result c.from_residual.ensures) (arguments-stop c.args.walk.now c.args.interface.now c.in_err-check_types.ensures)
 
-pub returns-then-not-passed : goal.returns-then-not-passed
-returns-then-not-passed c = λ ds s m e. arguments-stop s m (c.check_fields-v.ensures ds e) (sym c.passed.ensures ∙ c.if-not-passed.true)
+pub loop-service-init : goal.loop-service-init
+loop-service-init c = λ q ds e. refl
 
-pub check_services-requires : goal.check_services-requires
-check_services-requires c = let p = c.requires in (services-stored p.1 p.2, (p.0, p.3))
+pub returns-in_err-check_type : goal.returns-in_err-check_type
+returns-in_err-check_type c =
+    rw (handed-on c.from_residual-in_err-check_type.result c.from_residual-in_err-check_type.ensures)
+    (merged-stop c.args.walk.now c.args.interface.now c.in_ok-check_types.ensures c.as_slice-service-items.ensures.all c.loop-service-test.true c.loop-service.invariant c.requires.1 c.in_err-check_type.ensures)
+
+pub loop-service-preserved : goal.loop-service-preserved
+loop-service-preserved c =
+    merged-on c.args.walk.now c.args.interface.now c.in_ok-check_types.ensures c.as_slice-service-items.ensures.all c.loop-service-test.true c.loop-service.invariant c.requires.1 c.in_ok-check_type.ensures
 
 pub returns : goal.returns
-returns c = λ ds s m e. arguments-on s m (c.check_fields-v.ensures ds e) (sym c.passed.ensures ∙ c.if-not-passed.false) (c.check_services.ensures ds e)
+returns c = merged-end c.args.walk.now c.args.interface.now c.in_ok-check_types.ensures c.as_slice-service-items.ensures.all c.loop-service-test.false c.loop-service.invariant

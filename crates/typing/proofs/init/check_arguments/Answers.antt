@@ -1,38 +1,32 @@
 -- `check_arguments` meets its contract. Assumes nothing.
-use mathlib.Core.Path.{sym, ◌∙◌}
+use mathlib.Core.Path.{refl, ap}
 use native.Mathlib.Omega.{arith}
+use Rattle.format.specs.Encode.{Row}
 use Rattle.format.proofs.Rows.{node-within}
+use Rattle.book.proofs.Named.{book-of}
 use Rattle.syntax.proofs.Book.{all-trees}
-use Rattle.typing.proofs.init.Laws.{seen-env, arguments-in, arguments-refused, arguments-passed}
+use Rattle.typing.proofs.Handing.{handed-on}
+use Rattle.typing.proofs.init.Laws.{arguments-stop, arguments-end}
 use Rattle.typing.proofs.init.check_arguments.Goals as goal
 
 pub find_ends-requires : goal.find_ends-requires
-find_ends-requires c = let p = c.requires in rw c.nodes-rows.ensures ((all-trees p.0).nodes, p.1, c.no_ends-ends.ensures, (_, (p.3.1.binds, p.3.1.counted)), omega (arith, p.3.1.few))
+find_ends-requires c = let s = c.requires.seen.1 in rw c.nodes-rows.ensures ((all-trees (book-of _ _ c.args.book.laid)).nodes, c.requires.table, c.no_ends-ends.ensures, (_, (s.binds, s.counted)), omega (arith, s.few))
 
-pub at-n-requires : goal.at-n-requires
-at-n-requires c = let p = c.requires in rw c.nodes-rows.ensures (node-within ((all-trees p.0).nodes.tree _ p.2).whole)
+pub at-requires : goal.at-requires
+at-requires c = rw c.nodes-rows.ensures (node-within ((all-trees (book-of _ _ c.args.book.laid)).nodes.tree _ c.requires.inside).whole)
 
 pub overflow_add-until : goal.overflow_add-until
 overflow_add-until c =
-    let p = c.requires in
-    let t = arguments-in p.0 p.1 p.2 (rw c.nodes-rows.ensures at c.find_ends.ensures) p.3.1 (rw c.nodes-rows.ensures at c.at-n.ensures) in
-    omega (arith, t.inside, t.walk.nodes.few_nodes)
+    let a = all-trees (book-of _ _ c.args.book.laid) in
+    let w = a.nodes.tree _ c.requires.inside in
+    let s = rw c.nodes-rows.ensures at (ap (λ (q : Row). q.size) c.at.ensures) in
+    omega (arith, s, w.ends, a.nodes.few_nodes)
 
-pub check_fields-verdict-requires : goal.check_fields-verdict-requires
-check_fields-verdict-requires c =
-    let p = c.requires in
-    let x = rw c.nodes-rows.ensures at c.find_ends.ensures in
-    rw c.nodes-rows.ensures
-    (arguments-in p.0 p.1 p.2 x p.3.1 (rw c.nodes-rows.ensures at c.at-n.ensures), (_, seen-env p.0 p.1 p.2 x p.3.1))
-
-pub returns-then-not-passed : goal.returns-then-not-passed
-returns-then-not-passed c =
-    let p = c.requires in
-    λ ds s. arguments-refused p.0 p.1 p.2 (rw c.nodes-rows.ensures at c.find_ends.ensures) s (rw c.nodes-rows.ensures at c.at-n.ensures) (rw c.nodes-rows.ensures at c.check_fields-verdict.ensures)
-    (sym c.passed.ensures ∙ c.if-not-passed.true) c.refused.ensures
+pub returns-in_err-check_types : goal.returns-in_err-check_types
+returns-in_err-check_types c =
+    rw (handed-on c.from_residual-in_err-check_types.result c.from_residual-in_err-check_types.ensures)
+    (λ ds s. arguments-stop (book-of _ _ c.args.book.laid) (rw c.nodes-rows.ensures at c.in_ok-find_ends.ensures) s refl c.new.ensures c.requires.inside (rw c.nodes-rows.ensures at c.at.ensures) c.in_err-check_types.ensures)
 
 pub returns : goal.returns
 returns c =
-    let p = c.requires in
-    λ ds s. arguments-passed p.0 p.1 p.2 (rw c.nodes-rows.ensures at c.find_ends.ensures) s (rw c.nodes-rows.ensures at c.at-n.ensures) (rw c.nodes-rows.ensures at c.check_fields-verdict.ensures)
-    (sym c.passed.ensures ∙ c.if-not-passed.false)
+    λ ds s. arguments-end (book-of _ _ c.args.book.laid) (rw c.nodes-rows.ensures at c.in_ok-find_ends.ensures) s refl c.new.ensures c.requires.inside (rw c.nodes-rows.ensures at c.at.ensures) c.in_ok-check_types.ensures

@@ -1,18 +1,30 @@
 -- `check_prog` meets its contract. Assumes nothing.
-use mathlib.Core.Path.{sym, ◌∙◌}
-use Rattle.typing.proofs.prog.Laws.{imports-refused}
+use Rattle.syntax.proofs.Book.{entries-held}
+use Rattle.typing.proofs.Handing.{handed-on}
+use Rattle.typing.proofs.prog.Laws.{imports-refused, split-files, decs-refused, defined}
 use Rattle.typing.proofs.prog.check_prog.Goals as goal
 
-pub read_files-files-requires : goal.read_files-files-requires
-read_files-files-requires c = c.requires.0
+pub returns-in_err-files : goal.returns-in_err-files
+returns-in_err-files c =
+    rw (handed-on c.from_residual.result c.from_residual.ensures)
+    (λ a. imports-refused a (c.in_err-files.ensures a) c.requires.1 c.requires.2)
 
-pub returns-then-not-passed : goal.returns-then-not-passed
-returns-then-not-passed c =
-    let p = c.requires in
-    λ a. imports-refused a (c.read_files-files.ensures a) (sym c.passed.ensures ∙ c.if-not-passed.true) p.1 p.2 c.nothing.ensures
+pub main_definitions-main-requires : goal.main_definitions-main-requires
+main_definitions-main-requires c = rw c.definitions.ensures (entries-held c.requires.0)
 
-pub check_files-requires : goal.check_files-requires
-check_files-requires c = let p = c.requires in (p.0, record { files = c.read_files-files.ensures p.0; passed = sym c.passed.ensures ∙ c.if-not-passed.false }, p.1, p.2)
+pub returns-in_err-check : goal.returns-in_err-check
+returns-in_err-check c =
+    rw (handed-on c.from_residual-in_err-check.result c.from_residual-in_err-check.ensures)
+    (λ a.
+    decs-refused a (split-files a (c.in_ok-files.ensures a).files c.definitions.ensures c.main_definitions-main.ensures) (c.in_ok-files.ensures a).files
+    (rw (c.new-2.ensures.book, c.new-2.ensures.from, c.new-2.ensures.to, c.new.ensures.bytes, c.new.ensures.contents) at c.in_err-check.ensures))
 
-pub returns : goal.returns
-returns c = λ a. c.check_files.ensures a (record { files = c.read_files-files.ensures a; passed = sym c.passed.ensures ∙ c.if-not-passed.false })
+pub check_resolved-found-requires : goal.check_resolved-found-requires
+check_resolved-found-requires c =
+    let a = c.requires.0 in
+    let x = (c.in_ok-files.ensures a).files in (
+      a,
+      x,
+      defined a (split-files a x c.definitions.ensures c.main_definitions-main.ensures) x
+          (rw (c.new-2.ensures.book, c.new-2.ensures.from, c.new-2.ensures.to, c.new.ensures.bytes, c.new.ensures.contents) at c.in_ok-check.ensures),
+    )

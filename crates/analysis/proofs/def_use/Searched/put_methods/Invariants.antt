@@ -1,0 +1,13 @@
+use mathlib.Core.Path.{◌≡◌}
+use Prim.Native.Nat.{◌+◌}
+use Rattle.format.specs.Layout.{row_at}
+use Rattle.book.specs.Walks.{Over}
+use Rattle.analysis.proofs.def_use.Methods.{MethodsLeft}
+use Rattle.analysis.proofs.def_use.Searched.put_methods.Given as goal
+
+abbrev pub invariant-loop-i : goal.invariant-loop-i
+invariant-loop-i l = record {
+  same : l.uses.out.ghost_name ≡ l.initial.uses.out.ghost_name;
+  over : Over l.self.rows.now (l.service + (row_at l.self.rows.now l.service).size) l.i-iterator;
+  left : MethodsLeft l.self.rows.now l.self.ends.now l.self.near.now l.service (l.service + (row_at l.self.rows.now l.service).size) l.first l.initial.uses.count l.initial.uses.out.now l.uses.out.now l.i-iterator.at l.m l.uses.count;
+}

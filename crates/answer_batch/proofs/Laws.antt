@@ -1,0 +1,55 @@
+-- What functions inside the crates ask, of an admitted book and of one that passed. Assumes nothing.
+--     definition-within, body-inside     a definition's entry, and the root of its body
+--     main-within, body-ended, ..        of a passed book: its bodies and its actor, with the table of alias ends
+use mathlib.Core.Path.{◌≡◌, ap}
+use mathlib.Core.List.{List}
+use Prim.Native.Nat.{ℕ, ◌+◌, ◌≤◌, ◌<◌}
+use native.Mathlib.Omega.{arith}
+use Rattle.format.specs.Encode as stored
+use Rattle.format.specs.Layout.{entry_at, nodes_part, definitions_part}
+use Rattle.book.specs.declared.kinds.Contents.{Contents}
+use Rattle.book.specs.declared.read.Entry.{Entry}
+use Rattle.book.specs.Reading.{as_entry, EntryWithin, Admitted}
+use Rattle.book.proofs.Opened.{nodes-count, definitions-count}
+use Rattle.environment.specs.Tables.{Ended}
+use Rattle.environment.specs.Trees.{AllTrees}
+use Rattle.syntax.specs.declared.class.Top.{Top}
+use Rattle.syntax.specs.Classes.{TopAs}
+use Rattle.syntax.proofs.Book.{entries-held, entries-of}
+use Rattle.syntax.proofs.actor.AsWritten.{below-ended}
+use Rattle.typing.specs.declared.prog.Passed.{Passed}
+use Rattle.typing.specs.Passing.{PassedBook}
+
+-- ---- An admitted book
+module _ {bs : List ℕ} {c : Contents} (a : Admitted bs c) {d : ℕ} (h : d < c.definitions) where
+  pub definition-within : EntryWithin (definitions_part bs) (d + 1)
+  definition-within = let w = entries-held a in record { held = omega (arith, w.held); few = w.few }
+
+  pub body-inside : {e : Entry} → as_entry e ≡ entry_at (definitions_part bs) d → e.root < c.nodes
+  body-inside {e} is =
+      let r : e.root ≡ (entry_at (definitions_part bs) d).root = ap (λ (x : stored.Entry). x.root) is in
+      rw r ((entries-of a {from = 0} {to = c.definitions} (omega arith) (omega arith)).root d (omega arith) h)
+
+-- ---- A book that passed
+module _ {bs roots ends' : List ℕ} {p : Passed} (b : PassedBook bs roots ends' p) where
+  pub main-within : p.main ≤ p.contents.definitions
+  main-within = omega (arith, b.passed.within, definitions-count b.admitted)
+
+  pub body-ended : {d : ℕ} → d < p.main → {e : Entry} → as_entry e ≡ entry_at (definitions_part bs) d → Ended (nodes_part bs) ends' e.root
+  body-ended h is =
+      record {
+        names = _;
+        count = _;
+        nodes = b.passed.all.nodes;
+        table = b.passed.checked.ended;
+        inside = omega (arith, body-inside b.admitted (omega (arith, main-within)) is, nodes-count b.admitted);
+      }
+
+  -- the actor
+  pub actor-trees : (names nodes : ℕ) × AllTrees (nodes_part bs) names nodes × ((p.interface.root ≡ 65535 → ⊥) → p.interface.root < nodes)
+  actor-trees = (_, _, b.passed.all, b.passed.nodes.root)
+
+  pub actor-ended : (p.interface.root ≡ 65535 → ⊥) → {top : Top} →
+      ((names nodes : ℕ) → AllTrees (nodes_part bs) names nodes → ((p.interface.root ≡ 65535 → ⊥) → p.interface.root < nodes) → TopAs (nodes_part bs) nodes p.interface.root top) →
+      Ended (nodes_part bs) ends' top.below
+  actor-ended some t = below-ended b.passed.all b.passed.checked.ended (t _ _ b.passed.all b.passed.nodes.root) some (b.passed.nodes.root some)

@@ -1,0 +1,34 @@
+-- `CheckedBook::init_check` meets its contract: the check has passed, so what is found is the init check. Assumes nothing.
+use mathlib.Core.Path.{◌≡◌, refl, sym, ap, ◌∙◌}
+use Rattle.std.specs.Prelude.{Result}
+use Rattle.refusals.specs.declared.Refusal.{Refusal}
+use Rattle.book.specs.Reading.{Admitted}
+use Rattle.book.specs.declared.kinds.Contents.{Contents}
+use Rattle.book.specs.Tables.{blank_table}
+use Rattle.judgement.specs.Check.{init_check}
+use Rattle.syntax.specs.Verdicts.{verdict_of}
+use Rattle.typing.specs.declared.prog.Passed.{Passed}
+use Rattle.typing.specs.declared.init.InitArgs.{InitArgs}
+use Rattle.typing.specs.Passing.{PassedAs}
+use Rattle.typing.specs.Init.{InitFoundAs}
+use Rattle.typing.proofs.Handing.{handed-on}
+use mathlib.Core.List.{List}
+use Prim.Native.Nat.{ℕ}
+use Rattle.passed.proofs.CheckedBook.init_check.Goals as goal
+
+verdict-is : {bs : List ℕ} {c : Contents} {a : Admitted bs c} {roots ends' : List ℕ} {p : Passed} → PassedAs a roots ends' p →
+    {both : List ℕ} {r : Result InitArgs Refusal} → InitFoundAs a both r → verdict_of r ≡ init_check a.book
+unfolding init_check
+verdict-is x y = y.seen.verdict ∙ sym (rw x.passed)
+
+pub check_init_args-found-requires : goal.check_init_args-found-requires
+unfolding blank_table
+check_init_args-found-requires c = ((_, c.requires), refl)
+
+pub returns-in_err-found : goal.returns-in_err-found
+returns-in_err-found c =
+    rw (handed-on c.from_residual.result c.from_residual.ensures)
+    (λ b. sym (ap verdict_of c.in_err-found.was) ∙ verdict-is b.passed (c.check_init_args-found.ensures _ b))
+
+pub returns : goal.returns
+returns c = λ b. sym (ap verdict_of c.in_ok-found.was) ∙ verdict-is b.passed (c.check_init_args-found.ensures _ b)

@@ -1,0 +1,92 @@
+-- `CheckedBook::init_list` meets its contract. Assumes nothing.
+use mathlib.Core.Path.{◌≡◌, refl, sym, ap, subst, ◌∙◌}
+use mathlib.Core.List.{List}
+use Prim.Native.Nat.{ℕ, ◌≤◌}
+use native.Mathlib.Omega.{arith}
+use lib.ListN.{length}
+use Rattle.refusals.specs.declared.Refusal.{Refusal}
+use Rattle.std.specs.Prelude.{Result, Ok, Err}
+use Rattle.refusals.specs.Outcome.{refused}
+use Rattle.format.specs.Forest.{Forest}
+use Rattle.format.specs.Node.{Node}
+use Rattle.format.specs.Layout.{nodes_part, siblings}
+use Rattle.book.specs.declared.kinds.Contents.{Contents}
+use Rattle.book.specs.Reading.{Admitted}
+use Rattle.book.specs.Tables.{blank_table}
+use Rattle.judgement.specs.Check.{init_check}
+use Rattle.typing.specs.declared.prog.Passed.{Passed}
+use Rattle.typing.specs.declared.init.InitArgs.{InitArgs}
+use Rattle.typing.specs.Passing.{PassedAs}
+use Rattle.typing.specs.Init.{both_definitions, InitPassedAs, InitFoundAs}
+use Rattle.listing.specs.Chase.{chase_types, walked}
+use Rattle.listing.specs.InitList.{init_list}
+use Rattle.std.proofs.Common.{Result}
+use Rattle.refusals.specs.declared.Refusal.{Refusal}
+use Rattle.analysis.specs.declared.chase.Walk.{Walk}
+use Rattle.analysis.specs.Book.{Readable}
+use Rattle.analysis.specs.Walking.{Counted, WalkedAs}
+use Rattle.passed.specs.Answers.{walk_outcome}
+use Rattle.refusals.proofs.Outcomes.{after-passed, after-stops}
+use Rattle.syntax.specs.Verdicts.{verdict_of}
+use Rattle.typing.proofs.Handing.{handed-on}
+use Rattle.passed.proofs.Walks.{Walks, walk-says}
+use Rattle.passed.proofs.Walks as walks
+use Rattle.passed.proofs.Asking.{handed-refused, handed-as}
+use Rattle.passed.proofs.CheckedBook.init_list.Goals as goal
+
+-- ---- The init list of a book that passed, as the code has it
+module _ {bs : List ℕ} {c : Contents} {a : Admitted bs c} {roots ends' : List ℕ} {p : Passed} (x : PassedAs a roots ends' p) {both : List ℕ} where
+  -- the init check is what is found, since the check has passed
+  verdict-is : {r : Result InitArgs Refusal} → InitFoundAs a both r → verdict_of r ≡ init_check a.book
+  unfolding init_check
+  verdict-is y = y.seen.verdict ∙ sym (rw x.passed)
+
+  init-refused : {why : Refusal} → InitFoundAs a both (Err why) → init_list a.book ≡ refused why
+  unfolding init_list
+  init-refused y = after-stops (init_check a.book) _ (sym (verdict-is y))
+
+  module _ {r : InitArgs} (y : InitFoundAs a both (Ok r)) {rows : List ℕ} (here : rows ≡ nodes_part bs) where
+    q : InitPassedAs (nodes_part bs) a.book both r
+    q = y.seen.passed
+
+    few : length (both_definitions a.book) ≤ 512
+    few = omega (arith, q.counted, q.few)
+
+    arguments : Readable rows both r.from r.until × Counted rows both
+    arguments =
+        rw here
+        (record { rooted = record { names = _; count = _; all = q.all; bound = q.table }; whole = q.whole; inside = q.within }, walks.counted (both_definitions a.book) q.binds few)
+
+    module _ (w : Result Walk Refusal) (h : WalkedAs rows both (siblings rows r.from r.until) w) where
+      init-walks : Walks (nodes_part bs) both (both_definitions a.book) (siblings (nodes_part bs) r.from r.until) w
+      init-walks = record { binds = q.binds; few = few; comes = subst (λ (l : List ℕ). WalkedAs l both (siblings l r.from r.until) w) here h }
+
+      init-says : init_list a.book ≡ walk_outcome w
+      unfolding init_list
+      init-says =
+          walk-says init-walks
+          (after-passed (init_check a.book) _ (sym (verdict-is y))
+          ∙ ap (λ (t : Forest Node). walked (chase_types (both_definitions a.book) t)) (sym q.arguments))
+
+pub check_init_args-found-requires : goal.check_init_args-found-requires
+unfolding blank_table
+check_init_args-found-requires c = ((_, c.requires), refl)
+
+pub returns-in_err-args : goal.returns-in_err-args
+returns-in_err-args c =
+    rw (handed-on c.from_residual.result c.from_residual.ensures)
+    (λ b. handed-refused _ (init-refused b.passed (subst (InitFoundAs b.admitted _) c.in_err-args.was (c.check_init_args-found.ensures _ b))))
+
+pub chase_types-requires : goal.chase_types-requires
+chase_types-requires c =
+    let b = c.requires in arguments b.passed (subst (InitFoundAs b.admitted _) c.in_ok-args.was (c.check_init_args-found.ensures _ b)) c.nodes-rows.ensures
+
+pub returns-in_err-w : goal.returns-in_err-w
+returns-in_err-w c =
+    rw (handed-on c.from_residual-in_err-w.result c.from_residual-in_err-w.ensures)
+    (λ b. handed-refused _ (init-says b.passed (subst (InitFoundAs b.admitted _) c.in_ok-args.was (c.check_init_args-found.ensures _ b)) c.nodes-rows.ensures _ c.in_err-w.ensures))
+
+pub returns : goal.returns
+returns c =
+    λ b. handed-as (init-says b.passed (subst (InitFoundAs b.admitted _) c.in_ok-args.was (c.check_init_args-found.ensures _ b)) c.nodes-rows.ensures _ c.in_ok-w.ensures)
+    (rw c.as_slice.ensures.value at c.hand.ensures)

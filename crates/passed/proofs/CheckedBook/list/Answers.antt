@@ -1,0 +1,83 @@
+-- `CheckedBook::list` meets its contract. Assumes nothing.
+use mathlib.Core.Path.{◌≡◌, sym, ap, ◌∙◌, subst}
+use mathlib.Core.Bool.{Bool, true, false, not, ◌||◌}
+use mathlib.Core.List.{List}
+use Prim.Native.Nat.{ℕ}
+use lib.Dec.{eqb}
+use native.Mathlib.Omega.{arith}
+use Prim.Native.Nat.{◌≤◌}
+use lib.ListN.{length}
+use Rattle.refusals.specs.declared.Refusal.TheVariants.{NoActor}
+use Rattle.refusals.specs.Outcome.{refused}
+use Rattle.format.specs.Forest.{Forest}
+use Rattle.format.specs.Node.{Node}
+use Rattle.format.specs.Layout.{nodes_part}
+use Rattle.book.specs.declared.kinds.Contents.{Contents}
+use Rattle.book.specs.Reading.{Admitted}
+use Rattle.judgement.specs.Environment.{main_definitions}
+use Rattle.judgement.specs.Actor.{class_arguments}
+use Rattle.typing.specs.declared.prog.Passed.{Passed}
+use Rattle.syntax.specs.Interfaces.{interface_tree}
+use Rattle.typing.specs.Passing.{PassedAs}
+use Rattle.syntax.proofs.interface.Laws.{tree-merged, tree-arguments}
+use Rattle.typing.proofs.prog.Book.{tabled, few}
+use Rattle.listing.specs.Chase.{chase_types, walked}
+use Rattle.listing.specs.List.{list}
+use Rattle.std.proofs.Common.{Result}
+use Rattle.refusals.specs.declared.Refusal.{Refusal}
+use Rattle.analysis.specs.declared.chase.Walk.{Walk}
+use Rattle.analysis.specs.Walking.{Counted, WalkedAs, InterfaceIn}
+use Rattle.passed.specs.Answers.{walk_outcome}
+use Rattle.passed.proofs.Asking.{lacks-actor, has-actor, handed-refused, handed-as}
+use Rattle.typing.proofs.Handing.{handed-on}
+use Rattle.passed.proofs.Walks.{Walks, walk-says}
+use Rattle.passed.proofs.Walks as walks
+use Rattle.passed.proofs.CheckedBook.list.Goals as goal
+
+-- ---- The list of a book that passed, as the code has it
+module _ {bs : List ℕ} {c : Contents} {a : Admitted bs c} {roots ends' : List ℕ} {p : Passed} (x : PassedAs a roots ends' p) where
+  interface-in : InterfaceIn (nodes_part bs) roots p.interface
+  interface-in = record {
+    rooted = record { names = _; count = _; all = x.all; bound = x.checked.table };
+    nodes = x.nodes;
+    arguments = λ m.
+        let y = (x.offers (λ e. tree-merged (nodes_part bs) p.interface m (x.tree ∙ e))).arguments in
+        record { whole = y.whole; inside = y.inside; are = y.are ∙ ap class_arguments (sym x.tree) ∙ tree-arguments (nodes_part bs) p.interface m };
+  }
+
+  few-definitions : length (main_definitions a.book) ≤ 512
+  few-definitions = omega (arith, (tabled x).1, few x)
+
+  counted : Counted (nodes_part bs) roots
+  counted = walks.counted (main_definitions a.book) (tabled x).0 few-definitions
+
+  module _ {has : Bool} (is : has ≡ (p.interface.merged || not (eqb p.interface.root 65535))) where
+    list-lacks : has ≡ false → list a.book ≡ refused NoActor
+    unfolding list
+    list-lacks f = lacks-actor x is _ f
+
+    module _ {rows : List ℕ} (here : rows ≡ nodes_part bs) (w : Result Walk Refusal) (h : WalkedAs rows roots (interface_tree rows p.interface) w) where
+      list-walks : Walks (nodes_part bs) roots (main_definitions a.book) (interface_tree (nodes_part bs) p.interface) w
+      list-walks = record { binds = (tabled x).0; few = few-definitions; comes = subst (λ (l : List ℕ). WalkedAs l roots (interface_tree l p.interface) w) here h }
+
+      list-says : has ≡ true → list a.book ≡ walk_outcome w
+      unfolding list
+      list-says f =
+          walk-says list-walks
+          (has-actor x is _ f ∙ ap (λ (t : Forest Node). walked (chase_types (main_definitions a.book) t)) (sym x.tree))
+
+pub returns-then-not-has_actor : goal.returns-then-not-has_actor
+returns-then-not-has_actor c = λ b. handed-refused _ (list-lacks b.passed c.has_actor.ensures (c.if-not-has_actor.true))
+
+pub chase_actor-requires : goal.chase_actor-requires
+chase_actor-requires c = rw c.nodes-rows.ensures (interface-in c.requires.passed, counted c.requires.passed)
+
+pub returns-in_err-w : goal.returns-in_err-w
+returns-in_err-w c =
+    rw (handed-on c.from_residual.result c.from_residual.ensures)
+    (λ b. handed-refused _ (list-says b.passed c.has_actor.ensures c.nodes-rows.ensures _ c.in_err-w.ensures c.if-not-has_actor.false))
+
+pub returns : goal.returns
+returns c =
+    λ b. handed-as (list-says b.passed c.has_actor.ensures c.nodes-rows.ensures _ c.in_ok-w.ensures c.if-not-has_actor.false)
+    (rw c.as_slice.ensures.value at c.hand.ensures)

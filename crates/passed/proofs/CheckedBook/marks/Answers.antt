@@ -1,0 +1,87 @@
+-- `CheckedBook::marks` meets its contract. Assumes nothing.
+use mathlib.Core.Path.{◌≡◌, sym, ap, subst, ◌∙◌}
+use mathlib.Core.List.{List, []}
+use Prim.Native.Nat.{ℕ, ◌≤◌}
+use native.Mathlib.Omega.{arith}
+use Rattle.std.proofs.Common.{length, Result, Ok, Err}
+use Rattle.refusals.specs.declared.Refusal.{Refusal}
+use Rattle.refusals.specs.Outcome.{refused, given}
+use Rattle.format.specs.Layout.{nodes_part}
+use Rattle.book.specs.declared.kinds.Contents.{Contents}
+use Rattle.book.specs.Reading.{Admitted}
+use Rattle.book.specs.Tables.{flagged}
+use Rattle.judgement.specs.Environment.{main_definitions}
+use Rattle.judgement.specs.Check.{check}
+use Rattle.environment.specs.Tables.{Binds}
+use Rattle.typing.specs.declared.prog.Passed.{Passed}
+use Rattle.typing.specs.Passing.{PassedAs}
+use Rattle.typing.proofs.prog.Book.{tabled, names-are}
+use Rattle.listing.specs.Recursive.{infer_rec}
+use Rattle.listing.specs.Marks.{marked, marks_over}
+use Rattle.analysis.specs.declared.recursive.Marks.{Marks}
+use Rattle.analysis.specs.Book.{Rooted}
+use Rattle.analysis.specs.Marking.{Flagged, MarksHold, nothing_marked, Begun, InferredAs}
+use Rattle.analysis.proofs.recursive.Rows.{nothing-held}
+use Rattle.analysis.proofs.recursive.Answers.{marked-stopped, marked-long, marked-given}
+use Rattle.refusals.proofs.Outcomes.{after-passed}
+use Rattle.typing.proofs.Handing.{handed-on}
+use Rattle.passed.proofs.Asking.{handed-refused, handed-as}
+use Rattle.passed.proofs.CheckedBook.marks.Goals as goal
+
+-- ---- The marks of a book that passed, as the code has them
+module _ {bs : List ℕ} {c : Contents} {a : Admitted bs c} {roots ends' : List ℕ} {p : Passed} (x : PassedAs a roots ends' p) where
+  rooted : Rooted (nodes_part bs) roots
+  rooted = record { names = _; count = _; all = x.all; bound = x.checked.table }
+
+  names-few : p.contents.names ≤ 1024
+  names-few = omega (arith, names-are x, x.all.nodes.few_names)
+
+  module _ {rows : List ℕ} (here : rows ≡ nodes_part bs) {fresh : Marks} (none : fresh ≡ nothing_marked) where
+    begun : Begun rows roots fresh
+    begun = record {
+      definitions = main_definitions a.book;
+      binds = subst (λ (ns : List ℕ). Binds ns roots (main_definitions a.book)) (sym here) (tabled x).0;
+      seen-by = [];
+      marked-by = [];
+      holds = subst (Flagged [] []) (sym none) nothing-held;
+    }
+
+    marks-from : Rooted rows roots × Begun rows roots fresh
+    marks-from = (subst (λ (ns : List ℕ). Rooted ns roots) (sym here) rooted, begun)
+
+  module _ {rows : List ℕ} (here : rows ≡ nodes_part bs) {fresh : Marks} (none : fresh ≡ nothing_marked) (l : List ℕ) where
+    h : (r : Result Marks Refusal) → InferredAs rows roots l fresh r → MarksHold (infer_rec (main_definitions a.book) l) r
+    unfolding infer_rec begun
+    h r k = k.holds (begun here none)
+
+    marks-stop : (why : Refusal) → InferredAs rows roots l fresh (Err why) → marks_over a.book l ≡ refused why
+    unfolding marks_over
+    marks-stop why k = after-passed (check a.book) _ x.passed ∙ marked-stopped (length a.book.names) (infer_rec (main_definitions a.book) l) why (h (Err why) k)
+
+    module _ (m : Marks) (k : InferredAs rows roots l fresh (Ok m)) where
+      marks-ready : (length m.marked ≡ 1024) × (p.contents.names ≤ 1024)
+      marks-ready = (marked-long (infer_rec (main_definitions a.book) l) m (h (Ok m) k), names-few)
+
+      marks-given : {j : List ℕ} → j ≡ flagged m.marked 0 p.contents.names → marks_over a.book l ≡ given j
+      unfolding marks_over
+      marks-given e =
+          after-passed (check a.book) _ x.passed
+          ∙ ap (λ (n : ℕ). marked n (infer_rec (main_definitions a.book) l)) (sym (names-are x))
+          ∙ marked-given p.contents.names (infer_rec (main_definitions a.book) l) m (h (Ok m) k) names-few
+          ∙ ap given (sym e)
+
+pub infer_rec-requires : goal.infer_rec-requires
+infer_rec-requires c = marks-from c.requires.passed c.nodes-rows.ensures c.new.ensures
+
+pub returns-in_err-marks : goal.returns-in_err-marks
+returns-in_err-marks c =
+    rw (handed-on c.from_residual.result c.from_residual.ensures)
+    (λ b. handed-refused _ (marks-stop b.passed c.nodes-rows.ensures c.new.ensures _ _ c.in_err-marks.ensures))
+
+pub names_of-requires : goal.names_of-requires
+names_of-requires c = marks-ready c.requires.passed c.nodes-rows.ensures c.new.ensures _ _ c.in_ok-marks.ensures
+
+pub returns : goal.returns
+returns c =
+    λ b. handed-as (marks-given b.passed c.nodes-rows.ensures c.new.ensures _ _ c.in_ok-marks.ensures c.names_of.ensures)
+    (rw c.as_slice.ensures.value at c.hand.ensures)

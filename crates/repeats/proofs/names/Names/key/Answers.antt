@@ -1,0 +1,17 @@
+-- `key` meets its contract: a name's number for a field that has a name, else the label as it is stored. Assumes nothing.
+use mathlib.Core.Path.{◌∙◌}
+use Rattle.book.specs.Reading.{as_row}
+use Rattle.repeats.proofs.Searched.{standing}
+use Rattle.repeats.proofs.Keys.{method-key, field-key, name-key}
+use Rattle.repeats.proofs.names.Names.key.Goals as goal
+use Rattle.repeats.proofs.names.Names.key.Goals.{else-fields-via-then-fields+else-node, else-fields-via-else-fields}
+
+pub returns-then-node-clause-key : goal.returns-then-node-clause-key
+returns-then-node-clause-key c = c.hash.ensures.hash ∙ name-key c.args.self.now.book.bytes.now (as_row c.args.node) (standing c.args.self.now.book).laid c.if-fields.true c.if-node.true
+
+pub returns-else-fields-clause-key : goal.returns-else-fields-clause-key
+returns-else-fields-clause-key c =
+    elim c.else-fields.branch [
+      | else-fields-via-then-fields+else-node w ↦ field-key c.requires _ w.if-fields.true w.if-node.false
+      | else-fields-via-else-fields w ↦ method-key c.requires _ w.if-fields.false
+    ]

@@ -1,0 +1,66 @@
+-- `Resolver::chase_service` meets its contract. Assumes nothing.
+use mathlib.Core.Path.{◌≡◌}
+use mathlib.Core.List.{List}
+use Prim.Native.Nat.{ℕ}
+use native.Mathlib.Omega.{arith}
+use denote.Bor.{Bor}
+use Rattle.book.proofs.Named.{book-of}
+use Rattle.environment.specs.declared.Alias.{Alias}
+use Rattle.environment.proofs.Links.{AliasAs}
+use Rattle.syntax.proofs.Book.{all-trees}
+use Rattle.syntax.proofs.actor.OneService.{chased, chase-unbound, chase-circle, chase-inside, chase-ends}
+use Rattle.syntax.proofs.actor.Resolver.chase_service.Goals as goal
+
+-- what is said of a scope is said of what it is made of
+in-scope : {rows rows' roots roots' : Bor (List ℕ)} {ns : List ℕ} {nodes nodes' left node : ℕ} {a : Alias} → rows ≡ rows' → rows'.now ≡ ns → roots ≡ roots' → nodes ≡ nodes' →
+    AliasAs rows.now roots.now nodes left node a → AliasAs ns roots'.now nodes' left node a
+in-scope e f g h x = rw (← f, ← e, ← g, ← h) x
+
+pub new-scope-requires : goal.new-scope-requires
+new-scope-requires c =
+    let s = c.args.self.now in
+    rw c.nodes.ensures ((all-trees (book-of _ _ s.book.laid)).nodes, s.table)
+
+pub alias_end-chain-requires : goal.alias_end-chain-requires
+alias_end-chain-requires c = rw c.new-scope.ensures.nodes c.requires
+
+pub service_at-found-requires : goal.service_at-found-requires
+service_at-found-requires c =
+    let s = c.args.self.now in
+    let e = c.alias_end-chain.ensures in
+    let here : AliasAs c.new-scope.result.rows.now c.new-scope.result.roots.now c.new-scope.result.nodes s.main c.args.node c.alias_end-chain.result =
+    record { within = e.within; is = e.is; crossed-is = e.crossed; few = e.few } in
+    let found = in-scope c.new-scope.ensures.rows c.nodes.ensures c.new-scope.ensures.roots c.new-scope.ensures.nodes here in
+    let t = (all-trees (book-of _ _ s.book.laid)).nodes in
+    let i = chase-inside t c.args.other found c.in-Ends.is in
+    rw (c.new-scope.ensures.rows, c.nodes.ensures) (record { held = omega (arith, i, t.within.held); few = t.within.few }, omega (arith, i, t.few_nodes))
+
+pub returns-in-Unbound : goal.returns-in-Unbound
+returns-in-Unbound c =
+    let s = c.args.self.now in
+    let e = c.alias_end-chain.ensures in
+    let here : AliasAs c.new-scope.result.rows.now c.new-scope.result.roots.now c.new-scope.result.nodes s.main c.args.node c.alias_end-chain.result =
+    record { within = e.within; is = e.is; crossed-is = e.crossed; few = e.few } in
+    let found = in-scope c.new-scope.ensures.rows c.nodes.ensures c.new-scope.ensures.roots c.new-scope.ensures.nodes here in
+    let t = (all-trees (book-of _ _ s.book.laid)).nodes in
+    chased t c.args.other found (chase-unbound t c.args.other found c.in-Unbound.is)
+
+pub returns-in-Circle : goal.returns-in-Circle
+returns-in-Circle c =
+    let s = c.args.self.now in
+    let e = c.alias_end-chain.ensures in
+    let here : AliasAs c.new-scope.result.rows.now c.new-scope.result.roots.now c.new-scope.result.nodes s.main c.args.node c.alias_end-chain.result =
+    record { within = e.within; is = e.is; crossed-is = e.crossed; few = e.few } in
+    let found = in-scope c.new-scope.ensures.rows c.nodes.ensures c.new-scope.ensures.roots c.new-scope.ensures.nodes here in
+    let t = (all-trees (book-of _ _ s.book.laid)).nodes in
+    chased t c.args.other found (chase-circle t c.args.other found c.in-Circle.is)
+
+pub returns-in-Ends : goal.returns-in-Ends
+returns-in-Ends c =
+    let s = c.args.self.now in
+    let e = c.alias_end-chain.ensures in
+    let here : AliasAs c.new-scope.result.rows.now c.new-scope.result.roots.now c.new-scope.result.nodes s.main c.args.node c.alias_end-chain.result =
+    record { within = e.within; is = e.is; crossed-is = e.crossed; few = e.few } in
+    let found = in-scope c.new-scope.ensures.rows c.nodes.ensures c.new-scope.ensures.roots c.new-scope.ensures.nodes here in
+    let t = (all-trees (book-of _ _ s.book.laid)).nodes in
+    rw (c.service_at-found.ensures, c.new-scope.ensures.rows, c.nodes.ensures) (chased t c.args.other found (chase-ends t c.args.other found c.in-Ends.is))

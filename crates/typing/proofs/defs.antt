@@ -1,3 +1,0 @@
--- Laws of the bodies of definitions.
-pub mod Entries
-mod Fits

@@ -1,0 +1,7 @@
+-- A walk over the nodes of an admitted book. Assumes nothing.
+use Rattle.book.proofs.Named.{book-of}
+use Rattle.syntax.proofs.Book.{all-trees}
+use Rattle.typing.proofs.types.Walk.new.Goals as goal
+
+pub invariant_of-result-clause-trees : goal.invariant_of-result-clause-trees
+invariant_of-result-clause-trees c = rw c.nodes.ensures (all-trees (book-of _ _ c.args.book.laid))

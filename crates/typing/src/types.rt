@@ -1,0 +1,154 @@
+// The walk over types, in the bodies of definitions and in an actor. A walk reads the nodes of a book beside tables by name number.
+ghost use Rattle.std.specs.Prelude.{◌≡◌, ◌<◌, ◌||◌, ◌&&◌, not, false, IfSome, IsSome, get_or};
+ghost use Rattle.std.specs.Option.{is_none};
+ghost use Rattle.format.specs.Forest.{breadth};
+ghost use Rattle.format.specs.Layout.{siblings};
+ghost use Rattle.judgement.specs.Check.{check_forest, methods_fit};
+ghost use Rattle.environment.specs.Tables.{Roots, EndNodes, end_is};
+ghost use Rattle.environment.specs.Trees.{AllTrees};
+ghost use Rattle.typing.specs.Props.{props};
+ghost use Rattle.typing.specs.Walk.{bound_verdict, value_verdict, type_verdict};
+
+use book::admitted::AdmittedBook;
+use book::kinds::{Kind, Mode};
+use book::read::{Entry, Node};
+use book::walks::Siblings;
+use refusals::{Answer, Refusal, Verdict};
+
+// A function's modes: at most one, and oneway without results.
+fn check_modes(value: u32, kids: usize) -> Verdict
+    ensures { result ≡ value_verdict value kids }
+{
+    let modes = value / Node::HALF;
+    let first = modes % Mode::BASE;
+    if first == Mode::None as u32 {
+        return Ok(());
+    }
+    if modes / Mode::BASE % Mode::BASE != Mode::None as u32 {
+        return Err(Refusal::Modes);
+    }
+    if first == Mode::Oneway as u32 && ((value % Node::HALF) as usize) < kids {
+        return Err(Refusal::Oneway);
+    }
+    Ok(())
+}
+
+// What a walk reads: the nodes of a book, how many they and the names are, the table of roots and that of alias ends. While the bodies of
+// definitions are walked there is none of alias ends yet, and no method is tested for being a function. Two lifetimes, which an
+// `environment::Scope` as a field does not have: tables are lent for less long than the book, and with one no proof is generated.
+#[derive(Clone, Copy)]
+pub(crate) struct Walk<'b, 't> {
+    pub(crate) rows: &'b [u8],
+    pub(crate) names: usize,
+    pub(crate) nodes: usize,
+    pub(crate) roots: &'t [u16],
+    pub(crate) ends: Option<&'t [u32]>,
+    ghost trees: { AllTrees rows.now names nodes } by { Prim.hlevel props },
+    ghost bound: { Roots roots.now nodes } by { Prim.hlevel props },
+    ghost ended: { IfSome ends (λ e. EndNodes e.now nodes) } by { Prim.hlevel props },
+}
+
+impl<'b, 't> Walk<'b, 't> {
+    ghost use Rattle.typing.specs.Types.{ends_of, Reads, Under, TreesIn, so_many};
+
+    // Over a book, beside tables of its definitions.
+    pub(crate) fn new(
+        book: AdmittedBook<'b>,
+        roots: &'t [u16],
+        ends: Option<&'t [u32]>,
+    ) -> Walk<'b, 't>
+        requires bound { Roots roots.now book.contents.nodes }
+        requires ended { IfSome ends (λ e. EndNodes e.now book.contents.nodes) }
+        ensures { Reads book.entry.bytes.now book.entry.contents roots.entry.now ends.entry result }
+    {
+        Walk {
+            rows: book.nodes(),
+            names: book.contents.names,
+            nodes: book.contents.nodes,
+            roots,
+            ends,
+        }
+    }
+
+    // A name has to have a definition.
+    #[tactic(auto, unfolding(crate::specs::Walk::bound_verdict))]
+    fn check_var(&self, v: u32) -> Verdict
+        requires { v < self.now.names }
+        ensures { result ≡ bound_verdict v (get_or self.now.roots.now v 65535) }
+    {
+        if self.roots[v as usize] == Entry::NO_ROOT {
+            return Err(Refusal::Unbound(v as u16));
+        }
+        Ok(())
+    }
+
+    // Whether a method may stand.
+    fn method_fits(&self, n: usize) -> bool
+        requires { n < self.now.nodes }
+        ensures { result ≡ (is_none self.now.ends || end_is 23 self.now.rows.now (ends_of self.now.ends) n) }
+    {
+        match self.ends {
+            None => true,
+            Some(ends) => environment::as_func(self.rows, ends, n).found,
+        }
+    }
+
+    // The type at node n. Inlined, so that a level of nested types takes one frame of the stack.
+    #[cycle(types)]
+    #[inline(always)]
+    pub(crate) fn check_type(&self, n: usize) -> Verdict
+        requires { n < self.now.nodes }
+        ensures { Under self.now (λ pre ds. result ≡ type_verdict pre ds self.now.rows.now n) }
+    {
+        let t = Node::at(self.rows, n);
+        if t.kind < Kind::Var as u8 {
+            return Ok(());
+        }
+        if t.kind == Kind::Var as u8 {
+            return self.check_var(t.value);
+        }
+        if t.kind == Kind::Class as u8 {
+            return Err(Refusal::Class);
+        }
+        let kids = self.check_types(t.kind == Kind::Service as u8, n + 1, n + t.size)?;
+        if t.kind == Kind::Func as u8 {
+            return check_modes(t.value, kids);
+        }
+        Ok(())
+    }
+
+    // The types from node `from` up to node `until`: how many there are. They may be a service's `methods`, each of which is tested right after its
+    // own type, so that the first refusal is told: one function as in the definition, `check_forest`.
+    #[cycle(types)]
+    pub(crate) fn check_types(&self, methods: bool, from: usize, until: usize) -> Answer
+        requires { TreesIn self.now methods from until }
+        ensures { Under self.now (λ pre ds.
+            result ≡ so_many (check_forest pre (not pre && methods) ds (siblings self.now.rows.now from until)) (breadth (siblings self.now.rows.now from until))) }
+    {
+        let mut kids: usize = 0;
+        for (n, t) in Siblings::new(self.rows, from, until) {
+            self.check_type(n)?;
+            if methods && !self.method_fits(n) {
+                return Err(Refusal::MethodNoFunction(t.label as u16));
+            }
+            kids += 1;
+        }
+        Ok(kids)
+    }
+
+    // Whether each method of each service in the trees from node `from` up to node `until`, which may be `methods`, is a function.
+    pub(crate) fn services_fit(&self, methods: bool, from: usize, until: usize) -> bool
+        requires { TreesIn self.now false from until }
+        ensures { IsSome self.now.ends → Under self.now (λ pre ds. result ≡ methods_fit ds methods (siblings self.now.rows.now from until)) }
+    {
+        for (n, t) in Siblings::new(self.rows, from, until) {
+            if methods && !self.method_fits(n) {
+                return false;
+            }
+            if !self.services_fit(t.kind == Kind::Service as u8, n + 1, n + t.size) {
+                return false;
+            }
+        }
+        true
+    }
+}
