@@ -133,17 +133,38 @@ DERIVED = "Clone::clone|Default::default|PartialEq::eq|PartialOrd::partial_cmp|O
 ADDED = re.compile(rf"::(fn::.*|\S*\+\S*::\w+|\w*({DERIVED}|Iterator::size_hint|Drop::drop)|main\+\w+)$")
 
 
+# An `impl`, to the brace that closes it on its line or below its first word; the type that has its methods; types and functions.
+IMPL = re.compile(r"^( *)impl\b([^{]*)\{(?:[^\n]*\}$|.*?^\1\})", re.MULTILINE | re.DOTALL)
+OF_TYPE = re.compile(r"(\w+)\s*(<.*>)?\s*$", re.DOTALL)
+TYPE, FN = re.compile(r"\b(?:struct|enum) (\w+)"), re.compile(r"\bfn (\w+)")
+
+
+def functions_in(texts):
+    """The functions of the sources, each by module and name: a method's module is that of its type, wherever in the crate the `impl` is."""
+    homes, found = collections.defaultdict(set), collections.Counter()
+    for module, text in texts.items():
+        for name in TYPE.findall(text):
+            homes[name].add(module)
+    for module, text in texts.items():
+        for block in IMPL.finditer(text):
+            name = OF_TYPE.search(block[2].split(" for ")[-1])[1]
+            home = {module} if module in homes[name] or not homes[name] else homes[name]
+            expect(len(home) == 1, f"{module} has methods of {name}, of which there are several: {', '.join(sorted(home))}")
+            found.update((min(home), one) for one in FN.findall(block[0]))
+        found.update((module, one) for one in FN.findall(IMPL.sub("", text)))
+    return found
+
+
 def check_whole(root, crate, functions):
     """The graph has the functions of the sources: in each module as many of each name, methods of all types together."""
-    sources, there, modules = collections.Counter(), collections.Counter(), set()
+    texts, there = {}, collections.Counter()
     for path, parts in source_files(root, crate):
-        module = "::".join(parts)
-        modules.add(module)
         with open(path, encoding="utf-8") as file:
-            sources.update((module, name) for name in re.findall(r"\bfn (\w+)", re.sub("//.*", "", file.read())))
+            texts["::".join(parts)] = re.sub("//.*", "", file.read())
+    sources = functions_in(texts)
     for function in functions:
         module, _, name = function.rpartition("::")
-        one = module if module in modules else module.rpartition("::")[0], name
+        one = module if module in texts else module.rpartition("::")[0], name
         if one in sources or not ADDED.search(function):
             there[one] += 1
     for one in sorted(sources | there):
