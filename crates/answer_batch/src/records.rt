@@ -9,9 +9,6 @@ use std::io::Read;
 // As many bytes as a source's name has at most: one byte tells its length.
 const ROOM_FOR_SOURCE: usize = 255;
 
-// One byte more than a book may have: a longer one is refused and never cut.
-const ROOM_FOR_BOOK: usize = 65537;
-
 // Just so many bytes of standard input at the front of a buffer, if they come and it has room for them.
 fn read_exactly<'a>(rt: &HostRuntime, buffer: &'a mut [u8], size: usize) -> Option<&'a [u8]> {
     let part = buffer.get_mut(..size)?;
@@ -36,7 +33,7 @@ fn replayed_rest(rt: &HostRuntime, source_size: usize, tally: &mut Tally) -> Opt
         definitions: read_number(rt)?,
     };
     let size = read_number(rt)?;
-    let mut book_room = [0; ROOM_FOR_BOOK];
+    let mut book_room = [0; Limits::ROOM];
     let book = read_exactly(rt, &mut book_room, size as usize)?;
     let mut asking = Asking {
         lines: Lines { rt },

@@ -34,6 +34,9 @@ impl Limits {
 
     pub const FILES: usize = 16;
 
+    // Room for an input: one byte more, so that a longer one is refused and never cut.
+    pub const ROOM: usize = Limits::BYTES + 1;
+
     // The limits of a model that takes every book.
     pub fn full() -> Limits
         ensures { result ≡ full }

@@ -111,9 +111,6 @@ fn print(book: &[u8], out: &mut [u8]) -> usize
     text.end
 }
 
-// One byte more than a book may have: a longer input is refused and never cut.
-const ROOM_FOR_BOOK: usize = 65537;
-
 // More bytes than are ever printed.
 const ROOM_FOR_PRINT: usize = 409600;
 
@@ -122,7 +119,7 @@ fn main(rt: HostRuntime) {
         rt: &rt,
         name: b"list",
     };
-    let mut input = [0; ROOM_FOR_BOOK];
+    let mut input = [0; Limits::ROOM];
     let Some(size) = list.read(&mut input) else {
         return;
     };
