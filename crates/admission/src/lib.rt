@@ -5,6 +5,7 @@ ghost use Rattle.std.specs.Prelude.{◌≡◌};
 ghost use Rattle.format.specs.Admission.{◌under◌, admitted};
 ghost use Rattle.admission.specs.Admitting.{admission_of};
 
+use book::admitted::AdmittedBook;
 use book::kinds::Contents;
 use format::Limits;
 use refusals::Refusal;
@@ -25,5 +26,5 @@ pub fn admit(book: &[u8], limits: Limits) -> Result<Contents, Refusal>
     if !size.within(limits) {
         return Err(Refusal::OverLimit);
     }
-    repeats::check_labels(book, c).map(|()| c)
+    repeats::check_labels(AdmittedBook::new(book, c)).map(|()| c)
 }

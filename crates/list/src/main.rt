@@ -2,8 +2,6 @@
 // or its refusal. What is printed is proved; a read or a write that fails is told on standard error.
 #![tactic(auto)]
 
-mod names;
-
 ghost use Rattle.std.specs.Prelude.{◌≤◌, ◌<◌, ◌≡◌, length, take};
 ghost use Rattle.refusals.specs.Outcome.{given};
 ghost use Rattle.format.specs.Within.{full};
@@ -13,9 +11,10 @@ ghost use Rattle.passed.specs.Stages.{BookPassed};
 ghost use Rattle.print.specs.Laid.{Lays, LaysWithin};
 ghost use Rattle.list.specs.Printed.{heading, mark_of, line, lines, marked_text, printed};
 
+use book::admitted::AdmittedBook;
 use book::kinds::Contents;
+use book::tables::NameIndex;
 use format::Limits;
-use names::Names;
 use passed::Tables;
 use print::Text;
 use stdio::Program;
@@ -52,11 +51,11 @@ fn line(position: usize, mark: u8, name: &[u8], text: &mut Text)
 }
 
 // The lines of all listed names.
-fn lines(names: &Names, listed: &[u16], marked: &[u16], text: &mut Text)
-    ensures { Lays (lines names.now.book.now marked.now 1 listed.now) text.old text.new }
+fn lines(names: &NameIndex, listed: &[u16], marked: &[u16], text: &mut Text)
+    ensures { Lays (lines names.now.book.bytes.now marked.now 1 listed.now) text.old text.new }
 {
     for (i, name) in listed.iter().enumerate() {
-        line(i + 1, mark_of(*name, marked), names.get(*name), text);
+        line(i + 1, mark_of(*name, marked), names.name(*name as usize), text);
     }
 }
 
@@ -66,7 +65,7 @@ fn table(book: &[u8], c: Contents, listed: &[u16], marked: &[u16], text: &mut Te
     ensures { Lays (marked_text book.now listed.now (given marked.now)) text.old text.new }
 {
     heading(listed.len(), marked.len(), text);
-    lines(&Names::of(book, c), listed, marked, text);
+    lines(&NameIndex::of(AdmittedBook::new(book, c)), listed, marked, text);
 }
 
 // What is printed of a book that passed.

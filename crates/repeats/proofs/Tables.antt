@@ -6,7 +6,7 @@ use mathlib.Core.Path.{◌≡◌, sym, ap, subst, ◌∙◌}
 use mathlib.Core.Bool.{Bool, true, false, cond, ◌&&◌}
 use mathlib.Core.List.{List}
 use Rattle.std.specs.Prelude.{Option, Some, None}
-use Prim.Native.Nat.{ℕ}
+use Prim.Native.Nat.{ℕ, ◌≤◌}
 use native.Mathlib.Omega.{arith}
 use lib.ListN.{length, replicate}
 use Rattle.format.specs.Forest.{count}
@@ -17,7 +17,7 @@ use Rattle.format.specs.Layout.{nodes_part, same, read, broken, whole, layout}
 use Rattle.format.proofs.References.{everywhere}
 use Rattle.book.specs.declared.kinds.Contents.{Contents}
 use Rattle.book.specs.Reading.{Admitted}
-use Rattle.book.specs.Tables.{PlacesOf}
+use Rattle.book.proofs.Named.{names-few}
 use Rattle.book.proofs.Opened.{names-count, nodes-count}
 use Rattle.repeats.specs.Steps.{Stands, Hashed}
 
@@ -40,8 +40,8 @@ module _ {bs : List ℕ} {c : Contents} (a : Admitted bs c) where
   pub admitted-nodes : c.nodes ≡ count (trees (read bs))
   admitted-nodes = nodes-count a ∙ ap (λ (b : Book). count (trees b)) (sym is)
 
-  pub admitted-placed : {places : List ℕ} → PlacesOf bs c.names places → PlacesOf bs (length (read bs).names) places
-  admitted-placed {places} p = subst (λ (n : ℕ). PlacesOf bs n places) (names-count a ∙ ap (λ (b : Book). length b.names) (sym is)) p
+  pub admitted-few : length (read bs).names ≤ 1024
+  admitted-few = subst (λ (b : Book). length b.names ≤ 1024) (sym is) (omega (arith, names-count a, names-few a))
 
 -- ---- Label numbers
 pub hashed-none : (bs : List ℕ) → Hashed bs (replicate 1024 None)

@@ -8,7 +8,7 @@ ghost use Rattle.format.specs.Book.{Book};
 ghost use Rattle.format.specs.Layout.{read, whole, layout};
 ghost use Rattle.format.specs.Whole.{Within};
 ghost use Rattle.format.specs.Repeats.{labels_verdict};
-ghost use Rattle.book.specs.Reading.{Admitted, as_row};
+ghost use Rattle.book.specs.Reading.{as_row};
 ghost use Rattle.repeats.specs.Found.{FoundAs};
 ghost use Rattle.repeats.specs.Keys.{is_parent};
 ghost use Rattle.repeats.specs.Steps.{Skipped};
@@ -20,9 +20,9 @@ use crate::names::Names;
 use crate::search::Search;
 use arrayvec::ArrayVec;
 use book::admitted::AdmittedBook;
-use book::kinds::{Contents, Kind};
+use book::kinds::Kind;
 use book::read::Node;
-use book::tables;
+use book::tables::NameIndex;
 use format::Limits;
 use labels::LabelKind;
 use refusals::{Refusal, Verdict};
@@ -58,8 +58,7 @@ fn first_repeat(book: AdmittedBook) -> Option<usize>
     let first = first_parent(book.nodes(), book.contents.nodes)?;
     let mut search = Search {
         names: Names {
-            book,
-            places: tables::name_places(book.bytes, book.contents),
+            index: NameIndex::of(book),
             hashes: [None; Limits::NAMES],
         },
         keys: ArrayVec::new(),
@@ -68,11 +67,9 @@ fn first_repeat(book: AdmittedBook) -> Option<usize>
 }
 
 // 18: the book's first repeat, by the name of its label if that is spelled.
-pub fn check_labels(book: &[u8], c: Contents) -> Verdict
-    requires { Admitted book.now c }
-    ensures { (b : Book) → layout book.now ≡ whole b → result ≡ labels_verdict b }
+pub fn check_labels(book: AdmittedBook) -> Verdict
+    ensures { (b : Book) → layout book.entry.bytes.now ≡ whole b → result ≡ labels_verdict b }
 {
-    let book = AdmittedBook::new(book, c);
     let Some(repeat) = first_repeat(book) else {
         return Ok(());
     };

@@ -1,49 +1,44 @@
-// A book's names by number: where each begins, and the label numbers of those that were asked for.
+// A book's names by number, and the label numbers of those that were asked for.
 ghost use Rattle.std.specs.Prelude.{◌≡◌, ◌<◌, length};
 ghost use Rattle.labels.specs.Number.{label_number};
 ghost use Rattle.format.specs.Layout.{node_of, read, name_in};
 ghost use Rattle.format.specs.Whole.{RowFits};
 ghost use Rattle.book.specs.Reading.{as_row};
-ghost use Rattle.book.specs.Tables.{PlacesOf};
 ghost use Rattle.repeats.specs.Keys.{key_of};
 ghost use Rattle.repeats.specs.Steps.{Hashed};
 
-use book::admitted::AdmittedBook;
-use book::read;
 use book::read::Node;
-use book::tables::ByName;
+use book::tables::NameIndex;
 use format::Limits;
 use labels::LabelKind;
 
 #[derive(Drop)]
 pub struct Names<'a> {
-    pub book: AdmittedBook<'a>,
-    pub places: ByName,
+    pub index: NameIndex<'a>,
     pub hashes: [Option<u32>; Limits::NAMES],
-    ghost placed: { PlacesOf book.bytes.now (length (read book.bytes.now).names) places },
-    ghost hashed: { Hashed book.bytes.now hashes },
+    ghost hashed: { Hashed index.book.bytes.now hashes },
 }
 
 impl Names<'_> {
     // The label number of name n, hashed when it is first asked for.
     fn hash(&mut self, n: usize) -> u32
-        requires { n < length (read self.old.book.bytes.now).names }
-        ensures same_book { self.new.book.bytes.now ≡ self.old.book.bytes.now }
-        ensures hash { result ≡ label_number (name_in self.old.book.bytes.now n) }
+        requires { n < 1024 }
+        ensures same_book { self.new.index.book.bytes.now ≡ self.old.index.book.bytes.now }
+        ensures hash { result ≡ label_number (name_in self.old.index.book.bytes.now n) }
     {
         if let Some(hash) = self.hashes[n] {
             return hash;
         }
-        let hash = labels::idl_hash(read::name_from(self.book.bytes, self.places[n] as usize));
+        let hash = labels::idl_hash(self.index.name(n));
         self.hashes[n] = Some(hash);
         hash
     }
 
     // What a child is compared by: a field by its label's number, a method by its name.
     pub fn key(&mut self, node: Node, fields: bool) -> u32
-        requires { RowFits (length (read self.old.book.bytes.now).names) (as_row node) }
-        ensures same_book { self.new.book.bytes.now ≡ self.old.book.bytes.now }
-        ensures key { result ≡ key_of fields (read self.old.book.bytes.now).names (node_of (as_row node)).label }
+        requires { RowFits (length (read self.old.index.book.bytes.now).names) (as_row node) }
+        ensures same_book { self.new.index.book.bytes.now ≡ self.old.index.book.bytes.now }
+        ensures key { result ≡ key_of fields (read self.old.index.book.bytes.now).names (node_of (as_row node)).label }
     {
         if fields && node.label_kind == LabelKind::Named as u8 {
             self.hash(node.label as usize)

@@ -38,13 +38,13 @@ fn child(rows: &[u8], from: usize, d: usize) -> usize
 impl Search<'_> {
     // Gathers the keys of the children from node `from` up to node `end`.
     fn gather(&mut self, from: usize, end: usize, fields: bool)
-        requires { let bs = self.old.names.book.bytes.now in Between bs (nodes_part bs) from end }
-        ensures same_book { self.new.names.book.bytes.now ≡ self.old.names.book.bytes.now }
-        ensures keys { let bs = self.old.names.book.bytes.now in
+        requires { let bs = self.old.names.index.book.bytes.now in Between bs (nodes_part bs) from end }
+        ensures same_book { self.new.names.index.book.bytes.now ≡ self.old.names.index.book.bytes.now }
+        ensures keys { let bs = self.old.names.index.book.bytes.now in
             self.new.keys.items ≡ keys_of (key_of fields (read bs).names) (siblings (nodes_part bs) from end) }
     {
         self.keys.clear();
-        for (_, node) in Siblings::new(self.names.book.nodes(), from, end) {
+        for (_, node) in Siblings::new(self.names.index.book.nodes(), from, end) {
             let key = self.names.key(node, fields);
             self.keys.push(key);
         }
@@ -52,13 +52,13 @@ impl Search<'_> {
 
     // The first child of node i whose key an earlier one has.
     fn repeat_below(&mut self, i: usize) -> Option<usize>
-        requires inside { i < count (trees (read self.old.names.book.bytes.now)) }
-        requires parent { is_parent (row_at (nodes_part self.old.names.book.bytes.now) i) ≡ true }
-        ensures same_book { self.new.names.book.bytes.now ≡ self.old.names.book.bytes.now }
-        ensures found { let b = read self.old.names.book.bytes.now in
+        requires inside { i < count (trees (read self.old.names.index.book.bytes.now)) }
+        requires parent { is_parent (row_at (nodes_part self.old.names.index.book.bytes.now) i) ≡ true }
+        ensures same_book { self.new.names.index.book.bytes.now ≡ self.old.names.index.book.bytes.now }
+        ensures found { let b = read self.old.names.index.book.bytes.now in
             MatchOption result (NoneBelow b i) (λ r. FirstBelow b i r) }
     {
-        let rows = self.names.book.nodes();
+        let rows = self.names.index.book.nodes();
         let node = Node::at(rows, i);
         let fields = node.kind != Kind::Service as u8;
         self.gather(i + 1, i + node.size, fields);
@@ -68,11 +68,11 @@ impl Search<'_> {
 
     // The first repeat. A repeat stands after its parent, so what is at or after the lowest so far need not be looked at.
     pub fn run(&mut self, first: usize) -> Option<usize>
-        requires { Skipped (nodes_part self.old.names.book.bytes.now) first }
-        ensures { FoundAs (read self.old.names.book.bytes.now) result }
+        requires { Skipped (nodes_part self.old.names.index.book.bytes.now) first }
+        ensures { FoundAs (read self.old.names.index.book.bytes.now) result }
     {
-        let rows = self.names.book.nodes();
-        let nodes = self.names.book.contents.nodes;
+        let rows = self.names.index.book.nodes();
+        let nodes = self.names.index.book.contents.nodes;
         let mut lowest = nodes;
         for i in first..nodes {
             if lowest <= i {

@@ -23,7 +23,7 @@ use Rattle.format.specs.Forest.{end, count}
 use Rattle.format.specs.Book.{Definition, Role, Main, TypeImport, ServiceImport, InitArgs, File, Book, trees}
 use Rattle.format.specs.Encode.{Entry}
 use Rattle.format.specs.Fits.{is_init, is_init_role, is_main, forest_fits, definition_fits, files_rise, file_fits, imports_fit, roles_fit}
-use Rattle.format.specs.Layout.{entry_at, run, names_of, names_part, nodes_part, definitions_part, files_part, siblings, role_of, whole, layout}
+use Rattle.format.specs.Layout.{entry_at, run, nodes_part, definitions_part, files_part, siblings, role_of, read, whole, layout}
 use Rattle.format.specs.Whole.{tree_at, definition_at, actor_at, file_at}
 use Rattle.format.proofs.Logic.{is-true, is-false, says}
 use Rattle.format.proofs.Lists.{All, run-append, made-passes}
@@ -341,10 +341,11 @@ module _ {bs : List ℕ} {c : Contents} (a : Admitted bs c) where
   pub few-all : c.definitions ≤ 512
   few-all = omega (arith, few-definitions bs a.laid, definitions-count a)
 
-  pub names-book : names_of (length (names_part bs)) (names_part bs) ≡ a.book.names
+  pub names-book : (read bs).names ≡ a.book.names
+  unfolding read
   names-book = names-read bs a.laid
 
-  pub hashes-book : {hs : List ℕ} → HashesOf hs (names_of (length (names_part bs)) (names_part bs)) → HashesAgree hs a.book.names
+  pub hashes-book : {hs : List ℕ} → HashesOf hs (read bs).names → HashesAgree hs a.book.names
   hashes-book {hs} o = subst (HashesAgree hs) names-book o.agree
 
   pub book-trees : AllTrees (nodes_part bs) (length a.book.names) (count (trees a.book))

@@ -165,8 +165,7 @@ fn check_hashes(book: AdmittedBook, services: &[u16]) -> Verdict
     ensures { (a : Admitted book.entry.bytes.now book.entry.contents) →
         result ≡ hashes_verdict a.book.names [] (methods_in (nodes_part book.entry.bytes.now) services.now) }
 {
-    let c = book.contents;
-    let table = book::tables::name_hashes(book.names(), c.names);
+    let table = book::tables::name_hashes(book);
     crate::hashes::hashes(book.nodes(), &table, services)
 }
 

@@ -43,7 +43,7 @@ fn merge(book: AdmittedBook, own: &[u16], roots: &[u16]) -> Verdict
     ensures { (a : Admitted book.entry.bytes.now book.entry.contents) → MergeAs a own.now roots.now result }
 {
     let names = book.contents.names;
-    let hashes = book::tables::name_hashes(book.names(), names);
+    let hashes = book::tables::name_hashes(book);
     environment::merge::merge(book.nodes(), &hashes, own, roots, names)
 }
 

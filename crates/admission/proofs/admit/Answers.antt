@@ -30,10 +30,10 @@ overflow_cast-size-3 c = let f = few (book-of _ _ (sym c.in-Some.is ∙ c.layout
 pub returns-then-not-within : goal.returns-then-not-within
 returns-then-not-within c = over (book-of _ _ (sym c.in-Some.is ∙ c.layout.ensures)) _ (sym (c.if-not-within.true) ∙ c.within.ensures)
 
-pub check_labels-requires : goal.check_labels-requires
-check_labels-requires c = book-of _ _ (sym c.in-Some.is ∙ c.layout.ensures)
+pub new-requires : goal.new-requires
+new-requires c = book-of _ _ (sym c.in-Some.is ∙ c.layout.ensures)
 
 pub returns : goal.returns
 returns c =
     let m : c.map.result ≡ result_map_both (λ _. c.in-Some.c) (λ e. e) c.check_labels.result = search rules in
-    labelled (book-of _ _ (sym c.in-Some.is ∙ c.layout.ensures)) _ (sym (c.if-not-within.false) ∙ c.within.ensures) c.check_labels.ensures m
+    labelled (book-of _ _ (sym c.in-Some.is ∙ c.layout.ensures)) _ (sym (c.if-not-within.false) ∙ c.within.ensures) (rw c.new.ensures.bytes at c.check_labels.ensures) m

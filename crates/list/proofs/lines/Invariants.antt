@@ -4,4 +4,4 @@ use Rattle.list.specs.Printed.{lines}
 use Rattle.list.proofs.lines.Given as goal
 
 abbrev pub invariant-loop-i : goal.invariant-loop-i
-invariant-loop-i l = Lays (lines l.names.book.now l.marked 1 (take l.i l.listed)) l.initial.text l.text
+invariant-loop-i l = Lays (lines l.names.book.bytes.now l.marked 1 (take l.i l.listed)) l.initial.text l.text

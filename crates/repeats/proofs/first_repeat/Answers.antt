@@ -1,7 +1,6 @@
 -- `first_repeat` meets its contract: where no node has two children, none has a label twice; else the search finds the first. Assumes nothing.
 use native.Mathlib.Omega.{arith}
-use Rattle.book.proofs.Named.{book-of}
-use Rattle.repeats.proofs.Tables.{admitted-placed, hashed-none}
+use Rattle.repeats.proofs.Tables.{hashed-none}
 use Rattle.repeats.proofs.Searched.{standing, nodes-are, all-within, searched-start, searched-nothing}
 use Rattle.repeats.proofs.first_repeat.Goals as goal
 
@@ -15,10 +14,8 @@ returns-in_err-first c =
     let start = searched-start (standing b) n (rw c.nodes.ensures at c.in_err-first.ensures) in
     rw c.from_residual.ensures (searched-nothing start (omega arith) (omega arith))
 
-pub name_places-requires : goal.name_places-requires
-name_places-requires c = let b = c.args.book in book-of b.bytes.now b.contents b.laid
-
 pub invariant_of-search : goal.invariant_of-search
-invariant_of-search c =
-    let b = c.args.book in
-    record { placed = admitted-placed (book-of b.bytes.now b.contents b.laid) c.name_places.ensures; hashed = hashed-none _ }
+invariant_of-search c = record { hashed = hashed-none _ }
+
+pub returns : goal.returns
+returns c = rw c.of.ensures at c.run.ensures

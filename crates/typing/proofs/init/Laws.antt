@@ -13,7 +13,7 @@ use Rattle.format.specs.Forest.{Forest, count}
 use Rattle.format.specs.Node.{Node}
 use Rattle.format.specs.Book.{Definition, Book, trees}
 use Rattle.format.specs.Encode.{Row, Entry}
-use Rattle.format.specs.Layout.{row_at, entry_at, names_of, names_part, nodes_part, definitions_part, files_part, siblings}
+use Rattle.format.specs.Layout.{row_at, entry_at, nodes_part, definitions_part, files_part, siblings, read}
 use Rattle.format.specs.Whole.{tree_at, definition_at}
 use Rattle.format.proofs.Lists.{all-of}
 use Rattle.format.proofs.Rows.{nothing, siblings-none, kids-whole}
@@ -146,15 +146,15 @@ module _ {bs : List ℕ} {c : Contents} (a : Admitted bs c) where
   own-as (Ok tt) d = record { verdict = d.entered.verdict; table = d.entered.checked.table; binds = d.entered.checked.env.binds; left = tt }
   own-as (Err r) d = record { verdict = d.entered.verdict; table = tt; binds = tt; left = d.left }
 
-  hashed : {hs : List ℕ} → HashesOf hs (names_of (length (names_part bs)) (names_part bs)) → HashesOf hs a.book.names
+  hashed : {hs : List ℕ} → HashesOf hs (read bs).names → HashesOf hs a.book.names
   hashed {hs} o = record { long = o.long; agree = subst (HashesAgree hs) (names-book a) o.agree }
 
   pub mergeable : {own roots hs : List ℕ} → Roots own c.nodes → Roots roots c.nodes →
-      HashesOf hs (names_of (length (names_part bs)) (names_part bs)) → Mergeable rows hs own roots c.names
+      HashesOf hs (read bs).names → Mergeable rows hs own roots c.names
   mergeable y z o =
       record { count = c.nodes; nodes = (all-trees a).nodes; hashed = record { spelt = a.book.names; are = hashed o }; counted = sym (names-count a); first = y; second = z }
 
-  pub merge-as : {own roots hs : List ℕ} {v : Verdict} → HashesOf hs (names_of (length (names_part bs)) (names_part bs)) →
+  pub merge-as : {own roots hs : List ℕ} {v : Verdict} → HashesOf hs (read bs).names →
       ((ns : List (List ℕ)) (ids ds : List Definition) → HashesAgree hs ns → length ns ≡ c.names → Binds rows own ids → Binds rows roots ds → v ≡ merge_verdict ns ids ds) →
       MergeAs a own roots v
   merge-as o said = record { verdict = λ ids ds. said a.book.names ids ds (hashed o).agree (sym (names-count a)) }

@@ -1,19 +1,15 @@
 -- `actor::check_hashes` meets its contract. Assumes nothing.
 use Rattle.book.proofs.Named.{book-of}
-use Rattle.book.proofs.Placed.{names-in}
 use Rattle.syntax.proofs.Book.{hashes-book, all-trees}
 use Rattle.syntax.proofs.hashes.Methods.{services-in}
 use Rattle.syntax.proofs.actor.check_hashes.Goals as goal
-
-pub name_hashes-table-requires : goal.name_hashes-table-requires
-name_hashes-table-requires c = rw c.names.ensures (names-in (book-of _ _ c.args.book.laid))
 
 pub hashes-requires : goal.hashes-requires
 hashes-requires c =
     let a = book-of _ _ c.args.book.laid in
     rw c.nodes.ensures
-    (services-in (all-trees a) c.requires, c.name_hashes-table.ensures.long, (a.book.names, hashes-book a (rw c.names.ensures at c.name_hashes-table.ensures)))
+    (services-in (all-trees a) c.requires, c.name_hashes-table.ensures.long, (a.book.names, hashes-book a c.name_hashes-table.ensures))
 
 pub returns : goal.returns
 returns c =
-    λ a. (rw c.nodes.ensures at c.hashes.ensures) a.book.names (hashes-book a (rw c.names.ensures at c.name_hashes-table.ensures))
+    λ a. (rw c.nodes.ensures at c.hashes.ensures) a.book.names (hashes-book a c.name_hashes-table.ensures)

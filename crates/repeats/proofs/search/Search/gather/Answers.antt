@@ -9,7 +9,7 @@ pub key-key-requires : goal.key-key-requires
 key-key-requires c =
     let i = c.loop-node.invariant in
     let x = c.in-Some.ensures.steps in
-    rw (i.2, row i.0 x) (left-fits i.1 (here i.0 x) (standing c.args.self.now.names.book))
+    rw (i.2, row i.0 x) (left-fits i.1 (here i.0 x) (standing c.args.self.now.names.index.book))
 
 pub loop-node-preserved : goal.loop-node-preserved
 loop-node-preserved c =

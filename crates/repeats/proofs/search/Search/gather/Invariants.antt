@@ -6,7 +6,7 @@ use Rattle.repeats.proofs.search.Search.gather.Given as goal
 
 abbrev pub invariant-loop-node : goal.invariant-loop-node
 invariant-loop-node l =
-    let bs = l.fn.self.names.book.bytes.now in
+    let bs = l.fn.self.names.index.book.bytes.now in
     Over (nodes_part bs) l.end l.node-iterator
     × Left bs (nodes_part bs) l.self.keys.items l.fields l.from l.end l.node-iterator.at
-    × (l.self.names.book.bytes.now ≡ bs)
+    × (l.self.names.index.book.bytes.now ≡ bs)

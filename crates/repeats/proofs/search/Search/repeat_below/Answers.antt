@@ -6,44 +6,44 @@ use Rattle.repeats.proofs.Searched.{standing, nodes-few, row-within, below, keys
 use Rattle.repeats.proofs.search.Search.repeat_below.Goals as goal
 
 pub at-node-requires : goal.at-node-requires
-at-node-requires c = rw c.nodes-rows.ensures (row-within (standing c.args.self.now.names.book) c.args.i c.requires.inside)
+at-node-requires c = rw c.nodes-rows.ensures (row-within (standing c.args.self.now.names.index.book) c.args.i c.requires.inside)
 
 pub overflow_add-i : goal.overflow_add-i
-overflow_add-i c = omega (arith, nodes-few (standing c.args.self.now.names.book), c.requires.inside)
+overflow_add-i c = omega (arith, nodes-few (standing c.args.self.now.names.index.book), c.requires.inside)
 
 pub overflow_add-i-2 : goal.overflow_add-i-2
 overflow_add-i-2 c =
-    let b = c.args.self.now.names.book in
+    let b = c.args.self.now.names.index.book in
     let row = rw c.nodes-rows.ensures at c.at-node.ensures in
     let w = below (standing b) c.args.i c.requires.inside (as_row c.at-node.result) row in
     omega (arith, w.whole.within.held, w.whole.within.few)
 
 pub gather-requires : goal.gather-requires
 gather-requires c =
-    let b = c.args.self.now.names.book in
+    let b = c.args.self.now.names.index.book in
     let row = rw c.nodes-rows.ensures at c.at-node.ensures in
     below (standing b) c.args.i c.requires.inside (as_row c.at-node.result) row
 
 pub returns-in_err-d-clause-found : goal.returns-in_err-d-clause-found
 returns-in_err-d-clause-found c =
-    let b = c.args.self.now.names.book in
+    let b = c.args.self.now.names.index.book in
     let row = rw c.nodes-rows.ensures at c.at-node.ensures in
     let are = keys-of b.bytes.now _ c.args.i (as_row c.at-node.result) row (c.as_slice.ensures.value ∙ c.gather.ensures.keys) in
     rw c.from_residual.ensures (below-none (standing b) c.requires.inside are c.in_err-d.ensures)
 
 pub overflow_add-i-3 : goal.overflow_add-i-3
-overflow_add-i-3 c = omega (arith, nodes-few (standing c.args.self.now.names.book), c.requires.inside)
+overflow_add-i-3 c = omega (arith, nodes-few (standing c.args.self.now.names.index.book), c.requires.inside)
 
 pub child-requires : goal.child-requires
 child-requires c =
-    let b = c.args.self.now.names.book in
+    let b = c.args.self.now.names.index.book in
     let row = rw c.nodes-rows.ensures at c.at-node.ensures in
     let are = keys-of b.bytes.now _ c.args.i (as_row c.at-node.result) row (c.as_slice.ensures.value ∙ c.gather.ensures.keys) in
     rw c.nodes-rows.ensures (child-reached (standing b) c.requires.inside are c.in_ok-d.ensures)
 
 pub returns-clause-found : goal.returns-clause-found
 returns-clause-found c =
-    let b = c.args.self.now.names.book in
+    let b = c.args.self.now.names.index.book in
     let row = rw c.nodes-rows.ensures at c.at-node.ensures in
     let are = keys-of b.bytes.now _ c.args.i (as_row c.at-node.result) row (c.as_slice.ensures.value ∙ c.gather.ensures.keys) in
     below-first (standing b) c.requires.inside are c.in_ok-d.ensures c.requires.parent (rw c.nodes-rows.ensures at c.child.ensures)

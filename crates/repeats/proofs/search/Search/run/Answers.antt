@@ -8,17 +8,17 @@ use Rattle.repeats.proofs.search.Search.run.Goals as goal
 use Rattle.repeats.proofs.search.Search.run.Goals.{then-is_parent, else-is_parent, else-loop-i-test, then-loop-i-test+then-lowest-i}
 
 pub loop-i-init : goal.loop-i-init
-loop-i-init c = let b = c.args.self.now.names.book in (searched-start (standing b) (nodes-are b) c.requires, refl)
+loop-i-init c = let b = c.args.self.now.names.index.book in (searched-start (standing b) (nodes-are b) c.requires, refl)
 
 pub at-requires : goal.at-requires
 at-requires c =
-    let b = c.args.self.now.names.book in
+    let b = c.args.self.now.names.index.book in
     let n = nodes-are b in
     rw c.nodes-rows.ensures (row-within (standing b) c.loop-i.i (omega arith))
 
 pub loop-i-preserved : goal.loop-i-preserved
 loop-i-preserved c =
-    let b = c.args.self.now.names.book in
+    let b = c.args.self.now.names.index.book in
     let i = c.loop-i.invariant in
     elim c.if-is_parent.branch [
       | then-is_parent w ↦
@@ -31,7 +31,7 @@ loop-i-preserved c =
     ]
 
 pub returns-then-lowest-nodes : goal.returns-then-lowest-nodes
-returns-then-lowest-nodes c = let n = nodes-are c.args.self.now.names.book in searched-found c.loop-i.invariant.0 (omega arith) (omega arith)
+returns-then-lowest-nodes c = let n = nodes-are c.args.self.now.names.index.book in searched-found c.loop-i.invariant.0 (omega arith) (omega arith)
 
 pub returns-else-lowest-nodes : goal.returns-else-lowest-nodes
-returns-else-lowest-nodes c = let n = nodes-are c.args.self.now.names.book in searched-nothing c.loop-i.invariant.0 (omega arith) (omega arith)
+returns-else-lowest-nodes c = let n = nodes-are c.args.self.now.names.index.book in searched-nothing c.loop-i.invariant.0 (omega arith) (omega arith)
