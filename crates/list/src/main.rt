@@ -55,7 +55,8 @@ fn lines(names: &NameIndex, listed: &[u16], marked: &[u16], text: &mut Text)
     ensures { Lays (lines names.now.book.bytes.now marked.now 1 listed.now) text.old text.new }
 {
     for (i, name) in listed.iter().enumerate() {
-        line(i + 1, mark_of(*name, marked), names.name(*name as usize), text);
+        let bytes = names.name(*name as usize);
+        line(i + 1, mark_of(*name, marked), bytes, text);
     }
 }
 
@@ -65,7 +66,8 @@ fn table(book: &[u8], c: Contents, listed: &[u16], marked: &[u16], text: &mut Te
     ensures { Lays (marked_text book.now listed.now (given marked.now)) text.old text.new }
 {
     heading(listed.len(), marked.len(), text);
-    lines(&NameIndex::of(AdmittedBook::new(book, c)), listed, marked, text);
+    let names = NameIndex::of(AdmittedBook::new(book, c));
+    lines(&names, listed, marked, text);
 }
 
 // What is printed of a book that passed.

@@ -6,4 +6,4 @@ pub loop-i-init : goal.loop-i-init
 loop-i-init c = lines-start _ _ _
 
 pub loop-i-preserved : goal.loop-i-preserved
-loop-i-preserved c = lines-on _ _ _ _ c.loop-i-test.true c.loop-i.invariant c.mark_of.ensures (rw c.name.ensures at c.line.ensures)
+loop-i-preserved c = lines-on _ _ _ _ c.loop-i-test.true c.loop-i.invariant c.mark_of.ensures (rw c.name-bytes.ensures at c.line.ensures)
