@@ -1,11 +1,16 @@
 -- A class as the code cuts it. Definitions; assumes nothing.
-use Rattle.std.specs.Prelude.{◌≡◌, List, ℕ, ◌+◌, ◌≤◌, ◌<◌}
-use Rattle.format.specs.Forest.{Forest}
+use Rattle.std.specs.Prelude.{◌≡◌, List, Option, Some, None, ℕ, ◌+◌, ◌≤◌, ◌<◌}
+use Rattle.format.specs.Forest.{Forest, end}
 use Rattle.format.specs.Node.{Node}
 use Rattle.format.specs.Layout.{row_at, siblings}
-use Rattle.format.specs.Whole.{Whole, tree_at, actor_at}
+use Rattle.format.specs.Whole.{Whole, tree_at}
 use Rattle.judgement.specs.Actor.{last_tree, all_but_last, class_arguments, below_class}
 use Rattle.syntax.specs.declared.class.Top.{Top}
+
+-- The tree at a node, or none.
+unfoldable pub tree_of : List ℕ → Option ℕ → Forest Node
+tree_of ns None = end
+tree_of ns (Some n) = tree_at ns n
 
 -- The last of the trees from node `from` up to node `until`, and those before it.
 pub record LastAs (ns : List ℕ) (from until last : ℕ) : Type 0 where
@@ -29,7 +34,7 @@ pub record ArgumentsAs (ns : List ℕ) (count : ℕ) (t : Forest Node) (from unt
   pub inside : until ≤ count
   pub are : siblings ns from until ≡ class_arguments t
 
--- Both, of an actor of this root.
+-- Both, of an actor whose root is this node.
 pub record TopAs (ns : List ℕ) (count root : ℕ) (r : Top) : Type 0 where
-  pub arguments : ArgumentsAs ns count (actor_at ns root) r.from r.until
-  pub below : (root ≡ 65535 → ⊥) → BelowAs ns root r.below
+  pub arguments : ArgumentsAs ns count (tree_at ns root) r.from r.until
+  pub below : BelowAs ns root r.below

@@ -1,9 +1,9 @@
 -- The files of a book, as the code reads them. Definitions; assumes nothing.
---     files_in, FileTable        the table of files
---     init_at, SplitAs           the init file, and the definitions before its own
+--     files_in, actor_root, FileTable     the table of files
+----     init_at, SplitAs           the init file, and the definitions before its own
 --     Listed                     the numbers of the service imports
 --     ImportsAs, FilesAs         what is found of them
-use Rattle.std.specs.Prelude.{◌≡◌, cond, List, map, ℕ, ◌-◌, ◌≤◌, ◌<◌, eqb, length, All, Result, IfOk}
+use Rattle.std.specs.Prelude.{◌≡◌, cond, List, Option, Some, None, map, ℕ, ◌-◌, ◌≤◌, ◌<◌, eqb, length, All, Result, IfOk}
 use Rattle.format.specs.Book.{File}
 use Rattle.format.specs.Layout.{run, entry_at, files_part}
 use Rattle.format.specs.Whole.{WholeAt, file_at}
@@ -21,6 +21,10 @@ use Rattle.syntax.specs.Verdicts.{verdict_of}
 -- The files that entries say.
 abbrev pub files_in : List ℕ → List ℕ → ℕ → List File
 files_in ns fs count = map (file_at ns) (run (entry_at fs) 0 count)
+
+-- The node of a stored root; none where it is 65,535.
+unfoldable pub actor_root : ℕ → Option ℕ
+actor_root root = cond (eqb root 65535) None (Some root)
 
 -- The root of each file is a node, with a tree; or 65,535.
 pub record FileRoots (ns fs : List ℕ) (count : ℕ) : Type 0 where
@@ -66,12 +70,12 @@ pub record ImportsAs (fs : List ℕ) (count : ℕ) (r : Result (List ℕ) Refusa
 -- ---- All of it
 
 -- Where nothing is refused.
-pub record FilesPassed {bs : List ℕ} {c : Contents} (a : Admitted bs c) (r : Files) : Type 0 where
-  pub passed : imports_verdict (service_imports a.book.files) ≡ passes
-  pub root : r.root ≡ (entry_at (files_part bs) 0).root
+pub record FilesPassed (bs : List ℕ) (c : Contents) (r : Files) : Type 0 where
+  pub passed : (a : Admitted bs c) → imports_verdict (service_imports a.book.files) ≡ passes
+  pub root : r.root ≡ actor_root (entry_at (files_part bs) 0).root
   pub init : r.init ≡ init_at (files_part bs) c.files
   pub listed : Listed (files_part bs) c.files r.imports
 
-pub record FilesAs {bs : List ℕ} {c : Contents} (a : Admitted bs c) (r : Result Files Refusal) : Type 0 where
-  pub verdict : verdict_of r ≡ imports_verdict (service_imports a.book.files)
-  pub files : IfOk r (FilesPassed a)
+pub record FilesAs (bs : List ℕ) (c : Contents) (r : Result Files Refusal) : Type 0 where
+  pub verdict : (a : Admitted bs c) → verdict_of r ≡ imports_verdict (service_imports a.book.files)
+  pub files : IfOk r (FilesPassed bs c)

@@ -1,11 +1,10 @@
 -- What resolving the actor of a book asks and says. Definitions; assumes nothing.
 use Rattle.std.specs.Prelude.{◌≡◌, true, cond, List, Option, ℕ, ◌≤◌, eqb, length, All, Result, Ok, Err, IfOk}
-use Rattle.std.specs.Option.{option_to_list}
 use Rattle.format.specs.Forest.{Forest, beside}
 use Rattle.format.specs.Node.{Node}
 use Rattle.format.specs.Book.{Definition, File}
 use Rattle.format.specs.Layout.{row_at, nodes_part}
-use Rattle.format.specs.Whole.{tree_at, actor_at}
+use Rattle.format.specs.Whole.{tree_at}
 use Rattle.refusals.specs.declared.Refusal.{Refusal}
 use Rattle.refusals.specs.Verdict.{Verdict, passes, and_then}
 use Rattle.book.specs.declared.kinds.Contents.{Contents}
@@ -16,8 +15,10 @@ use Rattle.judgement.specs.Resolve.{methods_of, imported_methods, merged_actor, 
 use Rattle.judgement.specs.Check.{main_verdict, imported_verdict, resolve_verdict}
 use Rattle.environment.specs.Tables.{Tabled}
 use Rattle.syntax.specs.declared.actor.Service.{Service}
+use Rattle.syntax.specs.declared.interface.Actor as actor
 use Rattle.syntax.specs.declared.interface.Interface.{Interface}
 use Rattle.syntax.specs.Verdicts.{verdict_of}
+use Rattle.syntax.specs.Classes.{tree_of, ArgumentsAs}
 use Rattle.syntax.specs.Interfaces.{IsService, methods_in, ActorAs}
 
 -- ---- One service
@@ -40,36 +41,43 @@ pub record ServiceAs (ns roots : List ℕ) (count definitions : ℕ) (said : Lis
   pub length-is : (ds : List Definition) → Tabled ns roots definitions ds → s.crossed ≡ long ds
   pub few : s.crossed ≤ definitions
 
--- That of the main actor, which has this root or 65,535, and none where there is no main actor.
-pub record MainService (ns roots : List ℕ) (count definitions root : ℕ) (s : Option ℕ) : Type 0 where
-  pub passed : (ds : List Definition) → Tabled ns roots definitions ds → main_verdict ds (actor_at ns root) ≡ passes
-  pub service : All (IsService ns count) (option_to_list s)
+-- That of the main actor, which has this root, and none where there is no main actor.
+pub record MainService (ns roots : List ℕ) (count definitions : ℕ) (root : Option ℕ) (services : List ℕ) : Type 0 where
+  pub passed : (ds : List Definition) → Tabled ns roots definitions ds → main_verdict ds (tree_of ns root) ≡ passes
+  pub one : length services ≤ 1
+  pub service : All (IsService ns count) services
   pub methods : (ds : List Definition) → Tabled ns roots definitions ds →
-      methods_in ns (option_to_list s) ≡ methods_of ds (below_class (actor_at ns root))
+      methods_in ns services ≡ methods_of ds (below_class (tree_of ns root))
 
-pub record MainAs (ns roots : List ℕ) (count definitions root : ℕ) (s : Result (Option ℕ) Refusal) : Type 0 where
-  pub verdict : (ds : List Definition) → Tabled ns roots definitions ds → verdict_of s ≡ main_verdict ds (actor_at ns root)
-  pub main : IfOk s (MainService ns roots count definitions root)
+-- The main actor alone as a merged one.
+pub record MainAlone (ns roots : List ℕ) (count definitions : ℕ) (root : Option ℕ) (i : Interface) : Type 0 where
+  pub merged : i.actor ≡ actor.Actor.Merged root
+  pub arguments : ArgumentsAs ns count (tree_of ns root) i.from i.until
+  pub serves : MainService ns roots count definitions root i.services
+
+pub record MainAs (ns roots : List ℕ) (count definitions : ℕ) (root : Option ℕ) (r : Result Interface Refusal) : Type 0 where
+  pub verdict : (ds : List Definition) → Tabled ns roots definitions ds → verdict_of r ≡ main_verdict ds (tree_of ns root)
+  pub main : IfOk r (MainAlone ns roots count definitions root)
 
 -- ---- Main's service and those of imports
 
 -- The nodes are services, and their methods those of main and of the imports.
-pub record Gathered (ns roots : List ℕ) (count definitions root : ℕ) (imports : List File) (nodes : List ℕ) : Type 0 where
+pub record Gathered (ns roots : List ℕ) (count definitions : ℕ) (root : Option ℕ) (imports : List File) (nodes : List ℕ) : Type 0 where
   pub few : length nodes ≤ 16
   pub service : All (IsService ns count) nodes
   pub methods : (ds : List Definition) → Tabled ns roots definitions ds →
-      methods_in ns nodes ≡ beside (methods_of ds (below_class (actor_at ns root))) (imported_methods ds imports)
+      methods_in ns nodes ≡ beside (methods_of ds (below_class (tree_of ns root))) (imported_methods ds imports)
 
-pub record ServicesAs (ns roots : List ℕ) (count definitions root : ℕ) (imports : List File) (r : Result (List ℕ) Refusal) : Type 0 where
+pub record ServicesAs (ns roots : List ℕ) (count definitions : ℕ) (root : Option ℕ) (imports : List File) (r : Result (List ℕ) Refusal) : Type 0 where
   pub verdict : (ds : List Definition) → Tabled ns roots definitions ds →
-      verdict_of r ≡ and_then (main_verdict ds (actor_at ns root)) (imported_verdict ds imports)
+      verdict_of r ≡ and_then (main_verdict ds (tree_of ns root)) (imported_verdict ds imports)
   pub gathered : IfOk r (Gathered ns roots count definitions root imports)
 
 -- ---- The actor
 
 -- With service imports: main and each import have a verdict, and their services make the actor.
 pub record Merged {bs : List ℕ} {c : Contents} (a : Admitted bs c) (roots : List ℕ) (main : ℕ) (i : Interface) : Type 0 where
-  pub merged : i.merged ≡ true
+  pub merged : (main : Option ℕ) × (i.actor ≡ actor.Actor.Merged main)
   pub actor : (ds : List Definition) → Tabled (nodes_part bs) roots main ds →
       ActorAs (nodes_part bs) c.nodes ds (merged_actor ds (main_actor a.book) (service_imports a.book.files)) i
 

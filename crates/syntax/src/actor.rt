@@ -1,10 +1,10 @@
 // The actor that a book means: `resolve_actor` of syntax/mod.rs, on main and the service imports. It runs after the definitions have passed,
 // so that the table of alias ends is there.
-ghost use Rattle.std.specs.Prelude.{◌≡◌, List, [], ℕ, ◌+◌, ◌<◌, All};
+ghost use Rattle.std.specs.Prelude.{◌≡◌, List, [], Option, ℕ, ◌+◌, ◌<◌, All, IfSome};
 ghost use Rattle.std.proofs.Props.{props};
 ghost use Rattle.format.specs.Book.{Definition};
 ghost use Rattle.format.specs.Layout.{nodes_part, files_part};
-ghost use Rattle.format.specs.Whole.{Within, tree_at, actor_at};
+ghost use Rattle.format.specs.Whole.{Within, tree_at};
 ghost use Rattle.book.specs.Reading.{Admitted};
 ghost use Rattle.judgement.specs.Aliases.{alias_end, alias_length};
 ghost use Rattle.judgement.specs.Resolve.{methods_of};
@@ -12,16 +12,15 @@ ghost use Rattle.judgement.specs.Check.{service_verdict, hashes_verdict};
 ghost use Rattle.environment.specs.Tables.{Roots, EndNodes, Chains, Tabled};
 ghost use Rattle.environment.specs.Trees.{AllTrees};
 ghost use Rattle.syntax.specs.Files.{Listed, listed_files, FilesPassed};
-ghost use Rattle.syntax.specs.Classes.{BelowAs, TopAs};
+ghost use Rattle.syntax.specs.Classes.{tree_of};
 ghost use Rattle.syntax.specs.Interfaces.{IsService, methods_in, ActorAs};
 ghost use Rattle.syntax.specs.Resolving.{service_at, ServiceAs, MainAs, MainService, ServicesAs, MergedActorAs, ResolvedAs};
 
 use crate::by_file::ByFile;
-use crate::class::Top;
 use crate::files::Files;
-use crate::interface::Interface;
+use crate::interface::{Actor, Interface};
 use book::admitted::AdmittedBook;
-use book::kinds::{Contents, Kind};
+use book::kinds::Kind;
 use book::read::{Entry, Node};
 use environment::End;
 use environment::scope::Scope;
@@ -81,28 +80,39 @@ impl Resolver<'_, '_> {
         }
     }
 
-    // The service of the main actor, where there is one: what stands below its top.
-    fn main_service(&self, root: u16, below: usize) -> Result<Option<u16>, Refusal>
-        requires { (root ≡ 65535 → ⊥) → (root < self.now.book.contents.nodes) × BelowAs (nodes_part self.now.book.bytes.now) root below }
+    // Main's actor alone as a merged one, of this root: its class's arguments, and the service below its top; neither where there is none.
+    fn main_alone(&self, root: Option<usize>) -> Result<Interface, Refusal>
+        requires { IfSome root (λ n. n < self.now.book.contents.nodes) }
         ensures { MainAs (nodes_part self.now.book.bytes.now) self.now.roots.now self.now.book.contents.nodes self.now.main root result }
     {
-        if root == Entry::NO_ROOT {
-            return Ok(None);
-        }
-        let service = self.chase_service(below, Refusal::NoService).found?;
-        Ok(Some(service))
+        let Some(n) = root else {
+            return Ok(Interface {
+                actor: Actor::Merged(None),
+                from: 0,
+                until: 0,
+                services: ByFile::new(),
+            });
+        };
+        let top = crate::class::top_of(self.book.nodes(), n);
+        let service = self.chase_service(top.below, Refusal::NoService).found?;
+        Ok(Interface {
+            actor: Actor::Merged(Some(n)),
+            from: top.from,
+            until: top.until,
+            services: ByFile::from(Some(service)),
+        })
     }
 
     // The service of each import in file order (3, 13), behind main's.
-    fn import_services(&self, imports: ByFile, first: Option<u16>) -> Result<ByFile, Refusal>
+    fn import_services(&self, imports: ByFile, main: ByFile) -> Result<ByFile, Refusal>
         requires { Listed (files_part self.now.book.bytes.now) self.now.book.contents.files imports ×
-            ((root : ℕ) × MainService (nodes_part self.now.book.bytes.now) self.now.roots.now self.now.book.contents.nodes self.now.main root first) }
-        ensures { (root : ℕ) → MainService (nodes_part self.now.book.bytes.now) self.now.roots.now self.now.book.contents.nodes self.now.main root first →
+            ((root : Option ℕ) × MainService (nodes_part self.now.book.bytes.now) self.now.roots.now self.now.book.contents.nodes self.now.main root main) }
+        ensures { (root : Option ℕ) → MainService (nodes_part self.now.book.bytes.now) self.now.roots.now self.now.book.contents.nodes self.now.main root main →
             ServicesAs (nodes_part self.now.book.bytes.now) self.now.roots.now self.now.book.contents.nodes self.now.main root
             (listed_files (nodes_part self.now.book.bytes.now) (files_part self.now.book.bytes.now) imports) result }
     {
         let table = self.book.files();
-        let mut services = ByFile::from(first);
+        let mut services = main;
         let numbers = imports.as_slice();
         for f in numbers {
             let e = Entry::at(table, *f as usize);
@@ -114,36 +124,29 @@ impl Resolver<'_, '_> {
     }
 
     // With service imports: main is resolved first (3, 10), then the imports.
-    fn merge(&self, files: Files, top: Top) -> Result<Interface, Refusal>
-        requires { (a : Admitted self.now.book.bytes.now self.now.book.contents) × FilesPassed a files ×
-            TopAs (nodes_part self.now.book.bytes.now) self.now.book.contents.nodes files.root top }
-        ensures { (a : Admitted self.now.book.bytes.now self.now.book.contents) → FilesPassed a files →
-            TopAs (nodes_part self.now.book.bytes.now) self.now.book.contents.nodes files.root top → MergedActorAs a self.now.roots.now self.now.main result }
+    fn merge(&self, files: Files) -> Result<Interface, Refusal>
+        requires { FilesPassed self.now.book.bytes.now self.now.book.contents files }
+        ensures { (a : Admitted self.now.book.bytes.now self.now.book.contents) → MergedActorAs a self.now.roots.now self.now.main result }
     {
-        let first = self.main_service(files.root, top.below)?;
-        let services = self.import_services(files.imports, first)?;
-        Ok(Interface {
-            merged: true,
-            root: files.root,
-            from: top.from,
-            until: top.until,
-            services,
-        })
+        let main = self.main_alone(files.root)?;
+        let services = self.import_services(files.imports, main.services)?;
+        Ok(Interface { services, ..main })
     }
 }
 
 // ---- The resolved actor
 
 // Without service imports the actor is main's as written: the service at the end of the chain from what stands below its top.
-fn written(rows: &[u8], ends: &[u32], root: u16, top: Top) -> Interface
-    requires { (names nodes : ℕ) × AllTrees rows.now names nodes × EndNodes ends.now nodes × ((root ≡ 65535 → ⊥) → root < nodes) × TopAs rows.now nodes root top ×
+fn written(rows: &[u8], ends: &[u32], root: Option<usize>) -> Interface
+    requires { (names nodes : ℕ) × AllTrees rows.now names nodes × EndNodes ends.now nodes × IfSome root (λ n. n < nodes) ×
         ((ds : List Definition) × Chains rows.now ends.now names ds) }
-    ensures { (names nodes : ℕ) (ds : List Definition) → AllTrees rows.now names nodes → EndNodes ends.now nodes → ((root ≡ 65535 → ⊥) → root < nodes) →
-        TopAs rows.now nodes root top → Chains rows.now ends.now names ds → ActorAs rows.now nodes ds (actor_at rows.now root) result }
+    ensures { (names nodes : ℕ) (ds : List Definition) → AllTrees rows.now names nodes → EndNodes ends.now nodes → IfSome root (λ n. n < nodes) →
+        Chains rows.now ends.now names ds → ActorAs rows.now nodes ds (tree_of rows.now root) result }
 {
-    if root == Entry::NO_ROOT {
+    let Some(n) = root else {
         return Interface::none();
-    }
+    };
+    let top = crate::class::top_of(rows, n);
     let service = environment::as_service(rows, ends, top.below);
     let services = if service.found {
         ByFile::from(service.node)
@@ -151,8 +154,7 @@ fn written(rows: &[u8], ends: &[u32], root: u16, top: Top) -> Interface
         ByFile::new()
     };
     Interface {
-        merged: false,
-        root,
+        actor: Actor::Written(n),
         from: top.from,
         until: top.until,
         services,
@@ -171,29 +173,24 @@ fn check_hashes(book: AdmittedBook, services: &[u16]) -> Verdict
 
 // The actor of a book whose `main` definitions passed, with their tables.
 pub fn resolve_actor(
-    book: &[u8],
-    c: Contents,
+    book: AdmittedBook,
     files: Files,
     main: usize,
     roots: &[u16],
     ends: &[u32],
 ) -> Result<Interface, Refusal>
-    requires { (a : Admitted book.now c) × FilesPassed a files × Roots roots.now c.nodes × EndNodes ends.now c.nodes ×
-        ((ds : List Definition) × Tabled (nodes_part book.now) roots.now main ds × Chains (nodes_part book.now) ends.now c.names ds) }
-    ensures { (a : Admitted book.now c) (ds : List Definition) → FilesPassed a files → EndNodes ends.now c.nodes →
-        Tabled (nodes_part book.now) roots.now main ds → Chains (nodes_part book.now) ends.now c.names ds → ResolvedAs a ds result }
+    requires found { FilesPassed book.bytes.now book.contents files }
+    requires table { Roots roots.now book.contents.nodes }
+    requires ended { EndNodes ends.now book.contents.nodes }
+    requires passed { (ds : List Definition) × Tabled (nodes_part book.bytes.now) roots.now main ds × Chains (nodes_part book.bytes.now) ends.now book.contents.names ds }
+    ensures { (a : Admitted book.entry.bytes.now book.entry.contents) (ds : List Definition) → Tabled (nodes_part book.entry.bytes.now) roots.now main ds →
+        Chains (nodes_part book.entry.bytes.now) ends.now book.entry.contents.names ds → ResolvedAs a ds result }
 {
-    let book = AdmittedBook {
-        bytes: book,
-        contents: c,
-    };
-    let rows = book.nodes();
-    let top = crate::class::top_of(rows, files.root);
     if files.imports.is_empty() {
-        return Ok(written(rows, ends, files.root, top));
+        return Ok(written(book.nodes(), ends, files.root));
     }
     let resolver = Resolver { book, roots, main };
-    let merged = resolver.merge(files, top)?;
+    let merged = resolver.merge(files)?;
     check_hashes(book, merged.services.as_slice())?;
     Ok(merged)
 }

@@ -1,11 +1,11 @@
 // A class's arguments and what stands below its top, cut here alone.
-ghost use Rattle.std.specs.Prelude.{◌≡◌, ℕ, ◌<◌};
+ghost use Rattle.std.specs.Prelude.{ℕ, ◌+◌, ◌<◌};
 ghost use Rattle.format.specs.Whole.{Whole};
 ghost use Rattle.environment.specs.Trees.{AllTrees};
 ghost use Rattle.syntax.specs.Classes.{LastAs, TopAs};
 
 use book::kinds::Kind;
-use book::read::{Entry, Node};
+use book::read::Node;
 use book::walks::Siblings;
 
 // The arguments of an actor that is a class are the trees from `from` up to `until`; what stands below a class's top is its last child, and
@@ -29,30 +29,22 @@ fn last_child(rows: &[u8], from: usize, until: usize) -> usize
     last
 }
 
-// The top of an actor of this root, or NO_ROOT.
-pub fn top_of(rows: &[u8], root: u16) -> Top
-    requires { (names nodes : ℕ) × AllTrees rows.now names nodes × ((root ≡ 65535 → ⊥) → root < nodes) }
-    ensures { (names nodes : ℕ) → AllTrees rows.now names nodes → ((root ≡ 65535 → ⊥) → root < nodes) → TopAs rows.now nodes root result }
+// The top of an actor whose root is this node.
+pub fn top_of(rows: &[u8], root: usize) -> Top
+    requires { (names nodes : ℕ) × AllTrees rows.now names nodes × (root < nodes) }
+    ensures { (names nodes : ℕ) → AllTrees rows.now names nodes → root < nodes → TopAs rows.now nodes root result }
 {
-    if root == Entry::NO_ROOT {
-        return Top {
-            from: 0,
-            until: 0,
-            below: 0,
-        };
-    }
-    let n = root as usize;
-    let t = Node::at(rows, n);
+    let t = Node::at(rows, root);
     if t.kind != Kind::Class as u8 {
         return Top {
             from: 0,
             until: 0,
-            below: n,
+            below: root,
         };
     }
-    let last = last_child(rows, n + 1, n + t.size);
+    let last = last_child(rows, root + 1, root + t.size);
     Top {
-        from: n + 1,
+        from: root + 1,
         until: last,
         below: last,
     }

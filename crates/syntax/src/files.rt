@@ -1,21 +1,34 @@
 // The files of a book, walked once: which are service imports (12), and which has the init arguments.
 ghost use Rattle.std.specs.Prelude.{◌≡◌, List, ℕ, ◌≤◌};
 ghost use Rattle.format.specs.Layout.{files_part};
-ghost use Rattle.book.specs.Reading.{Admitted, EntryWithin};
-ghost use Rattle.syntax.specs.Files.{FileRoots, FileTable, init_at, SplitAs, ImportsAs, FilesAs};
+ghost use Rattle.book.specs.Reading.{EntryWithin};
+ghost use Rattle.syntax.specs.Files.{actor_root, FileRoots, FileTable, init_at, SplitAs, ImportsAs, FilesAs};
 
 use crate::by_file::ByFile;
-use book::kinds::{Contents, Role};
+use book::admitted::AdmittedBook;
+use book::kinds::Role;
 use book::read::Entry;
 use refusals::Refusal;
 
-// What is found of the files: main's root as its entry has it, NO_ROOT for none; the numbers of the service imports in order; and how many
+// What is found of the files: the root of main's actor, where it has one; the numbers of the service imports in order; and how many
 // files come before the init file, which is the last: all where there is none, so that what comes before it needs no case.
 #[derive(Clone, Copy)]
 pub struct Files {
-    pub root: u16,
+    pub root: Option<usize>,
     pub imports: ByFile,
     pub init: usize,
+}
+
+// The root of a file's actor, where it has one.
+#[tactic(auto, unfolding(crate::specs::Files::actor_root))]
+pub fn actor_root(file: Entry) -> Option<usize>
+    ensures { result ≡ actor_root file.root }
+{
+    if file.root == Entry::NO_ROOT {
+        None
+    } else {
+        Some(file.root as usize)
+    }
 }
 
 // The service imports. 12: one has no actor.
@@ -27,7 +40,7 @@ fn list_imports(files: &[u8], count: usize) -> Result<ByFile, Refusal>
     for f in 1..count {
         let e = Entry::at(files, f);
         if e.owner == Role::ServiceImport as u16 {
-            if e.root == Entry::NO_ROOT {
+            if actor_root(e).is_none() {
                 return Err(Refusal::ImportWithoutActor(e.name));
             }
             imports.push(f as u16);
@@ -52,24 +65,23 @@ fn init_number(files: &[u8], count: usize) -> usize
 }
 
 // The number of the init file of a book.
-pub fn init_file(book: &[u8], c: Contents) -> usize
-    requires { Admitted book.now c }
-    ensures { (a : Admitted book.now c) → result ≡ init_at (files_part book.now) c.files }
+pub fn init_file(book: AdmittedBook) -> usize
+    ensures { result ≡ init_at (files_part book.entry.bytes.now) book.entry.contents.files }
 {
-    init_number(c.files(book), c.files)
+    init_number(book.files(), book.contents.files)
 }
 
 // What is found of the files of a book; 12.
-pub fn read_files(book: &[u8], c: Contents) -> Result<Files, Refusal>
-    requires { Admitted book.now c }
-    ensures { (a : Admitted book.now c) → FilesAs a result }
+pub fn read_files(book: AdmittedBook) -> Result<Files, Refusal>
+    ensures { FilesAs book.entry.bytes.now book.entry.contents result }
 {
-    let files = c.files(book);
+    let files = book.files();
+    let count = book.contents.files;
     let main = Entry::at(files, 0);
-    let imports = list_imports(files, c.files)?;
-    let init = init_number(files, c.files);
+    let imports = list_imports(files, count)?;
+    let init = init_number(files, count);
     Ok(Files {
-        root: main.root,
+        root: actor_root(main),
         imports,
         init,
     })

@@ -8,16 +8,15 @@ use native.Mathlib.Omega.{arith}
 use borrow.Author.Tests.{ne_eqb}
 use lib.Dec.{eqb}
 use lib.ListN.{length}
-use Rattle.std.specs.Prelude.{Option, Some, All}
+use Rattle.std.specs.Prelude.{Option, Some, None, All}
 use Rattle.std.specs.Option.{option_to_list}
 use Rattle.std.proofs.lemmas.List.Elements.{All-nil, All-cons}
 use Rattle.format.specs.Forest.{Forest, end}
 use Rattle.format.specs.Node.{Node}
 use Rattle.format.specs.Book.{Definition}
 use Rattle.format.specs.Layout.{row_at}
-use Rattle.format.specs.Whole.{WholeAt, tree_at, actor_at}
+use Rattle.format.specs.Whole.{WholeAt, tree_at}
 use Rattle.format.proofs.Trees.{beside-end}
-use Rattle.format.proofs.Stored.{actor-none, actor-some}
 use Rattle.judgement.specs.Environment.{head, is_serv_kind, kids_of}
 use Rattle.judgement.specs.Aliases.{End, unbound, circle, ends, alias_end, alias_length, root_passes, as_service, methods_at}
 use Rattle.judgement.specs.Actor.{is_class, below_class}
@@ -27,9 +26,10 @@ use Rattle.environment.specs.Trees.{AllTrees}
 use Rattle.environment.proofs.FuncEnds.{stays, ends-service}
 use Rattle.environment.proofs.ChainEnds.{end-at, end-inside, end-whole}
 use Rattle.syntax.specs.declared.class.Top.{Top}
+use Rattle.syntax.specs.declared.interface.Actor.TheVariants.{Absent, Written}
 use Rattle.syntax.specs.declared.interface.Interface.{Interface}
-use Rattle.syntax.specs.Classes.{TopAs}
-use Rattle.syntax.specs.Interfaces.{IsService, methods_in, interface_tree, no_interface, ActorAs}
+use Rattle.syntax.specs.Classes.{tree_of, TopAs}
+use Rattle.syntax.specs.Interfaces.{IsService, methods_in, main_of, actor_tree, no_interface, ActorAs}
 use Rattle.syntax.proofs.class.Laws.{none-arguments}
 use Rattle.syntax.proofs.Stored.{tree-service, tree-methods}
 
@@ -38,19 +38,21 @@ none-serves : (ds : List Definition) (t : Forest Node) → t ≡ end → as_serv
 unfolding as_service root_passes below_class is_class head
 none-serves ds t e = rw e (ap (root_passes is_serv_kind) (stays ds end refl))
 
-pub written-none : {ns : List ℕ} {names count root : ℕ} → AllTrees ns names count → root ≡ 65535 → {r : Interface} → r ≡ no_interface → (ds : List Definition) →
-    ActorAs ns count ds (actor_at ns root) r
-unfolding interface_tree
-written-none {ns} {count = count} {root = root} a e i ds =
-    let none = actor-none ns root e in
+pub written-none : {ns : List ℕ} {names count : ℕ} → AllTrees ns names count → {r : Interface} → r ≡ no_interface → (ds : List Definition) →
+    ActorAs ns count ds (tree_of ns None) r
+unfolding actor_tree main_of tree_of
+written-none {ns} {count = count} a i ds =
     rw i
     (record {
-      tree = actor-none ns 65535 refl ∙ sym none;
-      nodes = record { few = omega arith; root = λ h. absurd (h refl); service = All-nil (IsService ns count) };
-      arguments = none-arguments a e;
-      methods = λ s. absurd (false≢true (sym (none-serves ds _ none) ∙ s));
-      served = λ m h. absurd (h refl);
+      tree = refl;
+      nodes = record { few = omega arith; main = tt; service = All-nil (IsService ns count) };
+      arguments = none-arguments a;
+      methods = λ s. absurd (false≢true (sym (none-serves ds _ refl) ∙ s));
+      served = λ root m. absurd (absent m);
     })
+  where
+    absent : {root : ℕ} → Absent ≡ Written root → ⊥
+    absent e = cc
 
 -- ---- The type at which a chain ends
 record Served (ns : List ℕ) (count : ℕ) (ds : List Definition) (below : ℕ) (services : List ℕ) : Type 0 where
@@ -104,32 +106,27 @@ module _ {ns ends' : List ℕ} {below : ℕ} (s : Ended ns ends' below) {o : Opt
   served c = by-end (alias_end ds (tree_at ns below)) refl (subst (λ (k : Option ℕ). EndAt ns k (alias_end ds (tree_at ns below))) (sym is) (end-at s ds c))
 
 -- ---- An actor
-module _ {ns ends' : List ℕ} {names count root : ℕ} (a : AllTrees ns names count) (z : EndNodes ends' count) {top : Top} (t : TopAs ns count root top)
-    (some : root ≡ 65535 → ⊥) (h : root < count) where
+module _ {ns ends' : List ℕ} {names count root : ℕ} (a : AllTrees ns names count) (z : EndNodes ends' count) {top : Top} (t : TopAs ns count root top) (h : root < count) where
   pub below-ended : Ended ns ends' top.below
   below-ended =
-      let b = t.below some in
-      record { names = names; count = count; nodes = a.nodes; table = z; inside = omega (arith, b.inside, (a.nodes.tree root h).ends) }
-
-  below-is : tree_at ns top.below ≡ below_class (actor_at ns root)
-  below-is = (t.below some).is ∙ ap below_class (sym (actor-some ns root some))
+      record { names = names; count = count; nodes = a.nodes; table = z; inside = omega (arith, t.below.inside, (a.nodes.tree root h).ends) }
 
   -- below a class too: a lookup of what stands below an actor's top has crossed the names of its chain
   pub below-length : {kind : ℕ} {r : Lookup} → LookupAs kind ns ends' top.below r → (ds : List Definition) → Chains ns ends' names ds →
-      r.crossed ≡ alias_length ds (below_class (actor_at ns root))
+      r.crossed ≡ alias_length ds (below_class (tree_at ns root))
   unfolding below-ended
-  below-length l ds c = l.reached.length-is below-ended ds c ∙ ap (alias_length ds) below-is
+  below-length l ds c = l.reached.length-is below-ended ds c ∙ ap (alias_length ds) t.below.is
 
   module _ {o : Option ℕ} (is : o ≡ end_node ns ends' top.below) where
     pub written-as : {services : List ℕ} → services ≡ cond (end_is 24 ns ends' top.below) (option_to_list o) [] → (ds : List Definition) → Chains ns ends' names ds →
-        ActorAs ns count ds (actor_at ns root) (record { merged = false; root = root; from = top.from; until = top.until; services = services })
-    unfolding interface_tree below-ended
+        ActorAs ns count ds (tree_of ns (Some root)) (record { actor = Written root; from = top.from; until = top.until; services = services })
+    unfolding actor_tree main_of tree_of below-ended
     written-as q ds c =
         let s = served below-ended is ds (q ∙ ap (λ (b : Bool). cond b (option_to_list o) []) (ends-service below-ended ds c)) c in
         record {
           tree = refl;
-          nodes = record { few = s.few; root = λ m. h; service = s.service };
+          nodes = record { few = s.few; main = h; service = s.service };
           arguments = t.arguments;
-          methods = λ y. s.methods (ap (as_service ds) below-is ∙ y) ∙ ap (λ (u : Forest Node). methods_at (alias_end ds u)) below-is;
-          served = λ m v. s.counted ∙ ap (λ (u : Forest Node). cond (as_service ds u) 1 0) below-is;
+          methods = λ y. s.methods (ap (as_service ds) t.below.is ∙ y) ∙ ap (λ (u : Forest Node). methods_at (alias_end ds u)) t.below.is;
+          served = λ n m. s.counted ∙ ap (λ (u : Forest Node). cond (as_service ds u) 1 0) t.below.is;
         }

@@ -6,13 +6,13 @@ use mathlib.Core.Path.{◌≡◌, refl, sym, ap, ap₂, subst, ◌∙◌}
 use mathlib.Core.Bool.{true, false, true≢false}
 use mathlib.Core.List.{List, [], ◌∷◌, ◌++◌}
 use Prim.Native.Nat.{ℕ, suc, ◌+◌, ◌≤◌, ◌<◌}
+use native.Mathlib.Decide.{ℕ_discrete}
 use native.Mathlib.Omega.{arith}
 use borrow.Author.Tests.{ne_eqb}
 use lib.Dec.{eqb}
 use lib.ListN.{length, get_or, drop, drop_of_length-le, length-append}
 use lib.Seq.{drop-cons}
-use Rattle.std.specs.Prelude.{Option, Some, None, All, Result, Ok, Err}
-use Rattle.std.specs.Option.{option_to_list}
+use Rattle.std.specs.Prelude.{Option, Some, None, All, Result, Ok, Err, cond, IfSome}
 use Rattle.std.proofs.lemmas.List.Elements.{All-push}
 use Rattle.format.specs.Forest.{Forest, beside}
 use Rattle.format.specs.Node.{Node}
@@ -33,18 +33,18 @@ use Rattle.judgement.specs.Actor.{service_imports, main_actor, below_class, merg
 use Rattle.judgement.specs.Resolve.{methods_of, imported_methods, merged_actor, resolve_with}
 use Rattle.judgement.specs.Check.{service_verdict, main_verdict, imported_verdict, hashes_verdict, resolve_verdict}
 use Rattle.environment.specs.Tables.{Tabled}
-use Rattle.syntax.specs.declared.class.Top.{Top}
 use Rattle.syntax.specs.declared.files.Files.{Files}
+use Rattle.syntax.specs.declared.interface.Actor.TheVariants.{Written, Merged}
 use Rattle.syntax.specs.declared.interface.Interface.{Interface}
 use Rattle.syntax.specs.Verdicts.{verdict_of}
-use Rattle.syntax.specs.Files.{Listed, listed_files, FilesPassed}
-use Rattle.syntax.specs.Classes.{TopAs}
-use Rattle.syntax.specs.Interfaces.{IsService, methods_in, interface_tree, ActorAs}
-use Rattle.syntax.specs.Resolving.{ServesAs, MainAs, MainService, Gathered, ServicesAs, MergedActorAs, ResolvedAs}
+use Rattle.syntax.specs.Files.{actor_root, Listed, listed_files, FilesPassed}
+use Rattle.syntax.specs.Classes.{tree_of}
+use Rattle.syntax.specs.Interfaces.{IsService, methods_in, main_of, actor_tree, ActorAs}
+use Rattle.syntax.specs.Resolving.{ServesAs, MainAs, MainAlone, MainService, Gathered, ServicesAs, MergedActorAs, ResolvedAs}
 use Rattle.refusals.proofs.Verdicts.{and_assoc}
 use Rattle.judgement.proofs.Meaning.{merged-below}
 use Rattle.syntax.proofs.Book.{main-actor-is, file-table, files-in}
-use Rattle.syntax.proofs.interface.Laws.{merged-arguments, merged-methods}
+use Rattle.syntax.proofs.interface.Laws.{merged-arguments, merged-methods, tree-root}
 
 methods-append : (ns a b : List ℕ) → methods_in ns (a ++ b) ≡ beside (methods_in ns a) (methods_in ns b)
 unfolding methods_in beside
@@ -56,16 +56,26 @@ methods-push : (ns a : List ℕ) (n : ℕ) → methods_in ns (a ++ n ∷ []) ≡
 unfolding methods_in
 methods-push ns a n = methods-append ns a (n ∷ []) ∙ ap (beside (methods_in ns a)) (beside-end (kids_of (tree_at ns n)))
 
+-- a stored root
+root-in : {count : ℕ} (root : ℕ) → ((root ≡ 65535 → ⊥) → root < count) → IfSome (actor_root root) (λ n. n < count)
+unfolding actor_root
+root-in {count} root h = go (ℕ_discrete root 65535)
+  where
+    go : Dec (root ≡ 65535) → IfSome (cond (eqb root 65535) None (Some root)) (λ n. n < count)
+    go (yes e) = rw e tt
+    go (no n) = rw (ne_eqb root 65535 n) (h n)
+
 -- ---- The files of a book, by what is found of them
-module _ {bs : List ℕ} {c : Contents} (a : Admitted bs c) {r : Files} (x : FilesPassed a r) where
+module _ {bs : List ℕ} {c : Contents} (a : Admitted bs c) {r : Files} (x : FilesPassed bs c r) where
   pub files-imports : service_imports a.book.files ≡ listed_files (nodes_part bs) (files_part bs) r.imports
   files-imports = ap service_imports (files-in a) ∙ x.listed.are (nodes_part bs)
 
-  pub files-main : actor_at (nodes_part bs) r.root ≡ main_actor a.book
-  files-main = ap (actor_at (nodes_part bs)) x.root ∙ sym (main-actor-is bs a.laid)
+  pub files-main : tree_of (nodes_part bs) r.root ≡ main_actor a.book
+  files-main =
+      ap (tree_of (nodes_part bs)) x.root ∙ tree-root (nodes_part bs) (entry_at (files_part bs) 0).root ∙ sym (main-actor-is bs a.laid)
 
-  pub root-inside : (r.root ≡ 65535 → ⊥) → r.root < c.nodes
-  root-inside = rw x.root ((file-table a).root 0 (omega (arith, (file-table a).some)))
+  pub root-inside : IfSome r.root (λ n. n < c.nodes)
+  root-inside = rw x.root (root-in _ ((file-table a).root 0 (omega (arith, (file-table a).some))))
 
 -- the file of an import
 module _ {bs : List ℕ} {c : Contents} (a : Admitted bs c) {numbers : List ℕ} (x : Listed (files_part bs) c.files numbers) {f : ℕ} (h : f < length numbers) (d : ℕ) where
@@ -79,29 +89,25 @@ module _ {bs : List ℕ} {c : Contents} (a : Admitted bs c) {numbers : List ℕ}
   import-inside e = rw e ((file-table a).root _ (x.inside f d h) (x.rooted f d h))
 
 -- ---- The loop over the imports
-pub record ServicesLeft (ns roots fs numbers : List ℕ) (nodes definitions root : ℕ) (services : List ℕ) (f : ℕ) : Type 0 where
+pub record ServicesLeft (ns roots fs numbers : List ℕ) (nodes definitions : ℕ) (root : Option ℕ) (services : List ℕ) (f : ℕ) : Type 0 where
   pub few : length services ≤ suc f
   pub service : All (IsService ns nodes) services
   pub verdict : (ds : List Definition) → Tabled ns roots definitions ds →
-      imported_verdict ds (listed_files ns fs (drop f numbers)) ≡ and_then (main_verdict ds (actor_at ns root)) (imported_verdict ds (listed_files ns fs numbers))
+      imported_verdict ds (listed_files ns fs (drop f numbers)) ≡ and_then (main_verdict ds (tree_of ns root)) (imported_verdict ds (listed_files ns fs numbers))
   pub methods : (ds : List Definition) → Tabled ns roots definitions ds →
       beside (methods_in ns services) (imported_methods ds (listed_files ns fs (drop f numbers)))
-      ≡ beside (methods_of ds (below_class (actor_at ns root))) (imported_methods ds (listed_files ns fs numbers))
+      ≡ beside (methods_of ds (below_class (tree_of ns root))) (imported_methods ds (listed_files ns fs numbers))
 
-module _ {ns roots fs numbers : List ℕ} {nodes definitions root : ℕ} where
+module _ {ns roots fs numbers : List ℕ} {nodes definitions : ℕ} {root : Option ℕ} where
   -- main
-  pub services-start : {m : Option ℕ} → MainService ns roots nodes definitions root m → ServicesLeft ns roots fs numbers nodes definitions root (option_to_list m) 0
+  pub services-start : {m : List ℕ} → MainService ns roots nodes definitions root m → ServicesLeft ns roots fs numbers nodes definitions root m 0
   services-start {m} s =
       record {
-        few = few m;
+        few = omega (arith, s.one);
         service = s.service;
         verdict = λ ds t. sym (ap (λ (v : Verdict). and_then v (imported_verdict ds (listed_files ns fs numbers))) (s.passed ds t));
         methods = λ ds t. ap (λ (q : Forest Node). beside q (imported_methods ds (listed_files ns fs numbers))) (s.methods ds t);
       }
-    where
-      few : (m : Option ℕ) → length (option_to_list m) ≤ 1
-      few None = omega arith
-      few (Some n) = omega arith
 
   -- each import
   module _ {services : List ℕ} {f : ℕ} (l : ServicesLeft ns roots fs numbers nodes definitions root services f) where
@@ -119,7 +125,7 @@ module _ {ns roots fs numbers : List ℕ} {nodes definitions root : ℕ} where
       tree-is = sym (actor-some ns e.root (λ z. rooted (ap (λ (y : Entry). y.root) (sym is) ∙ z)))
 
       import-first : (ds : List Definition) → Tabled ns roots definitions ds →
-          and_then (verdict_of m) (imported_verdict ds rest) ≡ and_then (main_verdict ds (actor_at ns root)) (imported_verdict ds (listed_files ns fs numbers))
+          and_then (verdict_of m) (imported_verdict ds rest) ≡ and_then (main_verdict ds (tree_of ns root)) (imported_verdict ds (listed_files ns fs numbers))
       unfolding imported_verdict
       import-first ds t =
           ap (λ (v : Verdict). and_then v (imported_verdict ds rest)) (s.verdict ds t ∙ ap (λ (u : Forest Node). service_verdict (refusal.Refusal.ImportNoService e.name) (alias_end ds u)) tree-is)
@@ -166,23 +172,27 @@ module _ {ns roots fs numbers : List ℕ} {nodes definitions root : ℕ} where
         }
 
 -- ---- The actor that services make
-gathered-actor : {ns roots : List ℕ} {count definitions root : ℕ} {is : List File} {nodes : List ℕ} → Gathered ns roots count definitions root is nodes →
-    ((root ≡ 65535 → ⊥) → root < count) → {top : Top} → TopAs ns count root top → (ds : List Definition) → Tabled ns roots definitions ds →
-    ActorAs ns count ds (merged_actor ds (actor_at ns root) is) (record { merged = true; root = root; from = top.from; until = top.until; services = nodes })
-unfolding interface_tree merged_actor
-gathered-actor {ns} {count = count} {root = root} {nodes = nodes} g inside {top} x ds t =
-    let main = actor_at ns root in
+gathered-actor : {ns roots : List ℕ} {count definitions : ℕ} {root : Option ℕ} {is : List File} {i : Interface} → MainAlone ns roots count definitions root i →
+    {nodes : List ℕ} → Gathered ns roots count definitions root is nodes → IfSome root (λ n. n < count) → (ds : List Definition) → Tabled ns roots definitions ds →
+    ActorAs ns count ds (merged_actor ds (tree_of ns root) is) (record { actor = i.actor; from = i.from; until = i.until; services = nodes })
+unfolding actor_tree main_of merged_actor
+gathered-actor {ns} {count = count} {root = root} {i = i} m {nodes} g inside ds t =
+    let main = tree_of ns root in
     let methods = methods_in ns nodes in
-    subst
-    (λ (u : Forest Node). ActorAs ns count ds u (record { merged = true; root = root; from = top.from; until = top.until; services = nodes }))
+    rw m.merged
+    (subst
+    (λ (u : Forest Node). ActorAs ns count ds u (record { actor = Merged root; from = i.from; until = i.until; services = nodes }))
     (ap (merged_of main) (g.methods ds t))
     (record {
       tree = refl;
-      nodes = record { few = g.few; root = inside; service = g.service };
-      arguments = record { whole = x.arguments.whole; inside = x.arguments.inside; are = x.arguments.are ∙ sym (merged-arguments main methods) };
+      nodes = record { few = g.few; main = inside; service = g.service };
+      arguments = record { whole = m.arguments.whole; inside = m.arguments.inside; are = m.arguments.are ∙ sym (merged-arguments main methods) };
       methods = λ s. merged-methods main methods ds;
-      served = λ m. absurd (true≢false m);
-    })
+      served = λ n e. absurd (not-written e);
+    }))
+  where
+    not-written : {m : Option ℕ} {n : ℕ} → Merged m ≡ Written n → ⊥
+    not-written e = cc
 
 -- ---- The actor of a book
 module _ {bs : List ℕ} {c : Contents} (a : Admitted bs c) where
@@ -200,9 +210,9 @@ some-listed : (l : List ℕ) → eqb (length l) 0 ≡ false → (n : ℕ) × (m 
 some-listed [] e = absurd (true≢false e)
 some-listed (n ∷ l) e = (n, l, refl)
 
-module _ {bs : List ℕ} {c : Contents} (a : Admitted bs c) {r : Files} (x : FilesPassed a r) where
+module _ {bs : List ℕ} {c : Contents} (a : Admitted bs c) {r : Files} (x : FilesPassed bs c r) where
   -- a verdict on what is found of the files is one on the files
-  verdict-as : (ds : List Definition) {v : Verdict} → v ≡ and_then (main_verdict ds (actor_at (ns a) r.root)) (imported_verdict ds (listed_files (ns a) (files_part bs) r.imports)) →
+  verdict-as : (ds : List Definition) {v : Verdict} → v ≡ and_then (main_verdict ds (tree_of (ns a) r.root)) (imported_verdict ds (listed_files (ns a) (files_part bs) r.imports)) →
       v ≡ and_then (main_verdict ds (main_actor a.book)) (imported_verdict ds (imports a))
   verdict-as ds q = q ∙ ap₂ (λ (u : Forest Node) (l : List File). and_then (main_verdict ds u) (imported_verdict ds l)) (files-main a x) (sym (files-imports a x))
 
@@ -217,23 +227,23 @@ module _ {bs : List ℕ} {c : Contents} (a : Admitted bs c) {r : Files} (x : Fil
       ServicesAs (ns a) roots c.nodes main r.root (listed_files (ns a) (files_part bs) r.imports) (Err why) → MergedActorAs a roots main (Err why)
   imports-refused s = record { verdict = λ ds t. verdict-as ds (s.verdict ds t); interface = tt }
 
-  pub merge-as : {roots : List ℕ} {main : ℕ} {top : Top} → TopAs (ns a) c.nodes r.root top → {services : List ℕ} →
+  pub merge-as : {roots : List ℕ} {main : ℕ} {i : Interface} → MainAlone (ns a) roots c.nodes main r.root i → {services : List ℕ} →
       ServicesAs (ns a) roots c.nodes main r.root (listed_files (ns a) (files_part bs) r.imports) (Ok services) →
-      MergedActorAs a roots main (Ok (record { merged = true; root = r.root; from = top.from; until = top.until; services = services }))
-  merge-as {top = top} t {services} s =
-      let i : Interface = record { merged = true; root = r.root; from = top.from; until = top.until; services = services } in
+      MergedActorAs a roots main (Ok (record { actor = i.actor; from = i.from; until = i.until; services = services }))
+  merge-as {i = i} m {services} s =
+      let made : Interface = record { actor = i.actor; from = i.from; until = i.until; services = services } in
       record {
         verdict = λ ds y. verdict-as ds (s.verdict ds y);
         interface = record {
-          merged = refl;
+          merged = (r.root, m.merged);
           actor = λ ds y.
-              subst (λ (u : Forest Node). ActorAs (ns a) c.nodes ds u i) (ap₂ (merged_actor ds) (files-main a x) (sym (files-imports a x)))
-              (gathered-actor s.gathered (root-inside a x) t ds y);
+              subst (λ (u : Forest Node). ActorAs (ns a) c.nodes ds u made) (ap₂ (merged_actor ds) (files-main a x) (sym (files-imports a x)))
+              (gathered-actor m s.gathered (root-inside a x) ds y);
         };
       }
 
   -- ---- without service imports
-  pub resolved-written : eqb (length r.imports) 0 ≡ true → {i : Interface} (ds : List Definition) → ActorAs (ns a) c.nodes ds (actor_at (ns a) r.root) i → ResolvedAs a ds (Ok i)
+  pub resolved-written : eqb (length r.imports) 0 ≡ true → {i : Interface} (ds : List Definition) → ActorAs (ns a) c.nodes ds (tree_of (ns a) r.root) i → ResolvedAs a ds (Ok i)
   unfolding resolve_verdict resolve_with
   resolved-written none {i} ds y =
       let no : imports a ≡ [] = files-imports a x ∙ ap (listed_files (ns a) (files_part bs)) (none-listed r.imports none) in
@@ -278,10 +288,11 @@ module _ {bs : List ℕ} {c : Contents} (a : Admitted bs c) {r : Files} (x : Fil
         merged-as = subst (λ (u : Forest Node). ActorAs (ns a) c.nodes ds u i) (sym with-is) (y.interface.actor ds t)
 
         methods-are : kids_of (below_class (resolve_with ds (main_actor a.book) (imports a))) ≡ methods_in (ns a) i.services
-        unfolding interface_tree kids_of
+        unfolding actor_tree kids_of
         methods-are =
+            let m = y.interface.merged in
             ap (λ (u : Forest Node). kids_of (below_class u)) (sym merged-as.tree)
-            ∙ rw y.interface.merged (ap kids_of (merged-below (actor_at (ns a) i.root) (methods_in (ns a) i.services)))
+            ∙ rw m.1 (ap kids_of (merged-below (tree_of (ns a) m.0) (methods_in (ns a) i.services)))
 
         hashes-are : {w : Verdict} → w ≡ hashes_verdict a.book.names [] (methods_in (ns a) i.services) →
             w ≡ resolve_verdict a.book.names ds (main_actor a.book) (imports a) (resolve_with ds (main_actor a.book) (imports a))

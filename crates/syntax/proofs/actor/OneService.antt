@@ -1,8 +1,10 @@
 -- One service: by its alias end, and main's. Assumes nothing.
 use mathlib.Core.Path.{◌≡◌, refl, sym, ap, subst, ◌∙◌}
-use mathlib.Core.List.{List, []}
+use mathlib.Core.Bool.{false}
+use mathlib.Core.List.{List, [], ◌∷◌}
 use Prim.Native.Nat.{ℕ, ◌<◌}
 use native.Mathlib.Decide.{ℕ_discrete}
+use native.Mathlib.Omega.{arith}
 use borrow.Author.Tests.{ne_eqb}
 use lib.Dec.{eqb}
 use lib.ListN.{length}
@@ -12,9 +14,9 @@ use Rattle.format.specs.Forest.{Forest, end, no_trees}
 use Rattle.format.specs.Node.{Node}
 use Rattle.format.specs.Book.{Definition}
 use Rattle.format.specs.Layout.{row_at}
-use Rattle.format.specs.Whole.{WholeAt, tree_at, actor_at}
+use Rattle.format.specs.Whole.{WholeAt, tree_at}
 use Rattle.format.proofs.Trees.{beside-end}
-use Rattle.format.proofs.Stored.{actor-none, actor-some}
+use Rattle.format.proofs.Stored.{tree-opens}
 use Rattle.refusals.specs.declared.Refusal.{Refusal}
 use Rattle.refusals.specs.declared.Refusal as refusal
 use Rattle.refusals.specs.Verdict.{Verdict, passes, unless}
@@ -27,10 +29,14 @@ use Rattle.environment.specs.declared.Alias.{Alias}
 use Rattle.environment.specs.declared.End.{End}
 use Rattle.environment.specs.declared.End.TheVariants.{Unbound, Circle, Ends}
 use Rattle.environment.specs.Tables.{Nodes, as_end, InRange, Tabled}
+use Rattle.environment.specs.Trees.{AllTrees}
 use Rattle.environment.proofs.Links.{last_end, AliasAs, chain-other}
+use Rattle.syntax.specs.declared.class.Top.{Top}
+use Rattle.syntax.specs.declared.interface.Actor.TheVariants.{Merged}
+use Rattle.syntax.specs.Classes.{tree_of, TopAs}
 use Rattle.syntax.specs.Interfaces.{IsService, methods_in}
 use Rattle.syntax.specs.Resolving.{service_at, ServesAs, ServiceAs, MainAs}
-use Rattle.syntax.proofs.files.Laws.{tree-some}
+use Rattle.syntax.proofs.class.Laws.{none-arguments}
 use Rattle.syntax.proofs.Stored.{tree-service, tree-methods}
 
 -- ---- no tree at all
@@ -115,40 +121,52 @@ module _ {ns roots : List ℕ} {names count definitions node : ℕ} (nodes : Nod
             let other = ne_eqb (row_at ns e).kind 24 k in
             rw other (record { verdict = λ ds t. rw other at (at-end ds t); service = tt; methods = tt })
 
--- ---- main's service
-module _ (ns roots : List ℕ) (count definitions root : ℕ) where
-  pub main-none : root ≡ 65535 → MainAs ns roots count definitions root (Ok None)
-  unfolding main_verdict no_trees below_class is_class methods_in
-  main-none h =
-      let passed : (ds : List Definition) → main_verdict ds (actor_at ns root) ≡ passes = λ ds. ap (main_verdict ds) (actor-none ns root h) in
+-- ---- main alone
+module _ (ns roots : List ℕ) (count definitions : ℕ) where
+  pub main-none : {names : ℕ} → AllTrees ns names count → MainAs ns roots count definitions None (Ok (record { actor = Merged None; from = 0; until = 0; services = [] }))
+  unfolding tree_of main_verdict no_trees below_class is_class methods_in
+  main-none a =
       record {
-        verdict = λ ds t. sym (passed ds);
+        verdict = λ ds t. refl;
         main = record {
-          passed = λ ds t. passed ds;
-          service = All-nil (IsService ns count);
-          methods = λ ds t. sym (ap (λ (t : Forest Node). methods_of ds (below_class t)) (actor-none ns root h) ∙ end-methods ds);
+          merged = refl;
+          arguments = none-arguments a;
+          serves = record {
+            passed = λ ds t. refl;
+            one = omega arith;
+            service = All-nil (IsService ns count);
+            methods = λ ds t. sym (end-methods ds);
+          };
         };
       }
 
-  module _ (h : root ≡ 65535 → ⊥) (w : WholeAt ns root) (below : ℕ) (is : tree_at ns below ≡ below_class (tree_at ns root)) where
-    same : tree_at ns below ≡ below_class (actor_at ns root)
-    same = is ∙ ap below_class (sym (actor-some ns root h))
+  module _ {names root : ℕ} (a : AllTrees ns names count) (h : root < count) {top : Top} (x : TopAs ns count root top) where
+    some-trees : no_trees (tree_at ns root) ≡ false
+    unfolding no_trees
+    some-trees = rw (tree-opens (a.nodes.tree root h).whole)
 
-    verdict-same : (ds : List Definition) → said ns below refusal.Refusal.NoService ds ≡ main_verdict ds (actor_at ns root)
-    unfolding main_verdict
-    verdict-same ds = rw (tree-some ns root w h) (ap (λ (t : Forest Node). service_verdict refusal.Refusal.NoService (alias_end ds t)) same)
+    verdict-same : (ds : List Definition) → said ns top.below refusal.Refusal.NoService ds ≡ main_verdict ds (tree_of ns (Some root))
+    unfolding main_verdict tree_of
+    verdict-same ds = rw some-trees (ap (λ (t : Forest Node). service_verdict refusal.Refusal.NoService (alias_end ds t)) x.below.is)
 
-    pub main-refused : {r : Refusal} → ChasedAs ns roots count definitions below refusal.Refusal.NoService (Err r) → MainAs ns roots count definitions root (Err r)
+    pub main-refused : {r : Refusal} → ChasedAs ns roots count definitions top.below refusal.Refusal.NoService (Err r) → MainAs ns roots count definitions (Some root) (Err r)
     main-refused s = record { verdict = λ ds t. s.verdict ds t ∙ verdict-same ds; main = tt }
 
-    pub main-found : {n : ℕ} → ChasedAs ns roots count definitions below refusal.Refusal.NoService (Ok n) → MainAs ns roots count definitions root (Ok (Some n))
-    unfolding methods_in
-    main-found {n} s =
-        record {
+    pub main-found : {n : ℕ} → ChasedAs ns roots count definitions top.below refusal.Refusal.NoService (Ok n) → {services : List ℕ} → services ≡ n ∷ [] →
+        MainAs ns roots count definitions (Some root) (Ok (record { actor = Merged (Some root); from = top.from; until = top.until; services = services }))
+    unfolding methods_in tree_of
+    main-found {n} s z =
+        rw z
+        (record {
           verdict = λ ds t. s.verdict ds t ∙ verdict-same ds;
           main = record {
-            passed = λ ds t. sym (s.verdict ds t ∙ verdict-same ds);
-            service = All-cons (IsService ns count) n [] s.service (All-nil (IsService ns count));
-            methods = λ ds t. beside-end (kids_of (tree_at ns n)) ∙ s.methods ds t ∙ ap (methods_of ds) same;
+            merged = refl;
+            arguments = x.arguments;
+            serves = record {
+              passed = λ ds t. sym (s.verdict ds t ∙ verdict-same ds);
+              one = omega arith;
+              service = All-cons (IsService ns count) n [] s.service (All-nil (IsService ns count));
+              methods = λ ds t. beside-end (kids_of (tree_at ns n)) ∙ s.methods ds t ∙ ap (methods_of ds) x.below.is;
+            };
           };
-        }
+        })

@@ -1,8 +1,8 @@
 -- What stands below a class's top. Assumes nothing.
 --     LastLeft                                     the loop of `last_child`
 --     kids-some, kids-of, ends-before              what `top_of` asks
---     top-none, top-other, top-class               what it finds
-use mathlib.Core.Path.{◌≡◌, refl, sym, ap, subst, ◌∙◌}
+--     top-other, top-class                         what it finds
+use mathlib.Core.Path.{◌≡◌, refl, sym, ap, ◌∙◌}
 use mathlib.Core.Bool.{true, false}
 use mathlib.Core.List.{List}
 use Prim.Native.Nat.{ℕ, ◌+◌, ◌≤◌, ◌<◌}
@@ -12,15 +12,14 @@ use Rattle.format.specs.Forest.{Forest, end, tree, beside, breadth}
 use Rattle.format.specs.Node.{Node}
 use Rattle.format.specs.Encode.{Row}
 use Rattle.format.specs.Layout.{row_at, node_of, siblings}
-use Rattle.format.specs.Whole.{Whole, WholeAt, tree_at, actor_at}
+use Rattle.format.specs.Whole.{Whole, WholeAt, tree_at}
 use Rattle.format.proofs.Rows.{opens, kids-whole, nothing, siblings-none}
-use Rattle.format.proofs.Stored.{tree-whole, tree-opens, actor-none, actor-some}
-use Rattle.judgement.specs.Environment.{kids_of}
+use Rattle.format.proofs.Stored.{tree-whole, tree-opens}
+use Rattle.judgement.specs.Environment.{head_kind, kids_of}
 use Rattle.judgement.specs.Actor.{is_class, last_tree, all_but_last, class_arguments, below_class}
 use Rattle.judgement.proofs.Classes.{last-beside, others-beside}
 use Rattle.environment.specs.Trees.{AllTrees, Top}
 use Rattle.environment.proofs.Trees.{top}
-use Rattle.syntax.specs.declared.class.Top as cut
 use Rattle.syntax.proofs.Stored.{tree-class, tree-kids, whole-join, siblings-join}
 use Rattle.syntax.specs.Classes.{LastAs, BelowAs, ArgumentsAs, TopAs}
 
@@ -118,23 +117,15 @@ module _ {ns : List ℕ} {names count : ℕ} (a : AllTrees ns names count) {n : 
     class-arguments : r.kind ≡ 25 → {last : ℕ} → LastAs ns (n + 1) (n + r.size) last → ArgumentsAs ns count (tree_at ns n) (n + 1) last
     class-arguments k l = record { whole = l.before; inside = omega (arith, l.inside, ends-before); are = arguments-are (top a h) r is k l }
 
--- those of a file's root
-module _ {ns : List ℕ} {names count root : ℕ} (a : AllTrees ns names count) where
-  pub none-arguments : root ≡ 65535 → ArgumentsAs ns count (actor_at ns root) 0 0
-  unfolding is_class
-  none-arguments e = no-arguments a (ap is_class (actor-none ns root e))
-
-some-arguments : {ns : List ℕ} {count root from until : ℕ} → (root ≡ 65535 → ⊥) → ArgumentsAs ns count (tree_at ns root) from until → ArgumentsAs ns count (actor_at ns root) from until
-some-arguments {ns} {count} {root} {from} {until} h x = subst (λ (t : Forest Node). ArgumentsAs ns count t from until) (sym (actor-some ns root h)) x
+-- those of no tree
+pub none-arguments : {ns : List ℕ} {names count : ℕ} → AllTrees ns names count → ArgumentsAs ns count end 0 0
+unfolding is_class head_kind
+none-arguments a = no-arguments a refl
 
 -- ---- what `top_of` finds
-module _ {ns : List ℕ} {names count : ℕ} (a : AllTrees ns names count) {root : ℕ} where
-  pub top-none : root ≡ 65535 → {r : cut.Top} → r ≡ record { from = 0; until = 0; below = 0 } → TopAs ns count root r
-  top-none e i = rw i (record { arguments = none-arguments a e; below = λ h. absurd (h e) })
+module _ {ns : List ℕ} {names count : ℕ} (a : AllTrees ns names count) {root : ℕ} (h : root < count) (r : Row) (is : r ≡ row_at ns root) where
+  pub top-other : (r.kind ≡ 25 → ⊥) → TopAs ns count root (record { from = 0; until = 0; below = root })
+  top-other k = record { arguments = other-arguments a h r is k; below = below-self (top a h) r is k }
 
-  module _ (some : root ≡ 65535 → ⊥) (h : root < count) (r : Row) (is : r ≡ row_at ns root) where
-    pub top-other : (r.kind ≡ 25 → ⊥) → TopAs ns count root (record { from = 0; until = 0; below = root })
-    top-other k = record { arguments = some-arguments some (other-arguments a h r is k); below = λ z. below-self (top a h) r is k }
-
-    pub top-class : r.kind ≡ 25 → {last : ℕ} → LastAs ns (root + 1) (root + r.size) last → TopAs ns count root (record { from = root + 1; until = last; below = last })
-    top-class k l = record { arguments = some-arguments some (class-arguments a h r is k l); below = λ z. below-last (top a h) r is k l }
+  pub top-class : r.kind ≡ 25 → {last : ℕ} → LastAs ns (root + 1) (root + r.size) last → TopAs ns count root (record { from = root + 1; until = last; below = last })
+  top-class k l = record { arguments = class-arguments a h r is k l; below = below-last (top a h) r is k l }

@@ -3,15 +3,16 @@
 --     is-import, no-import, ..     a service import, by its role
 --     ImportsLeft                  the loop of `list_imports`
 use mathlib.Core.Path.{◌≡◌, refl, sym, ap, ◌∙◌}
-use mathlib.Core.Bool.{true, false}
+use mathlib.Core.Bool.{true, false, cond, true≢false, false≢true}
 use mathlib.Core.List.{List, [], ◌∷◌, ◌++◌, map, map-append, append_assoc, append-nil}
 use Prim.Native.Nat.{ℕ, zero, suc, ◌+◌, ◌-◌, ◌≤◌, ◌<◌}
 use native.Mathlib.Nat.{sub-zero}
+use native.Mathlib.Decide.{ℕ_discrete}
 use native.Mathlib.Omega.{arith}
 use borrow.Author.Tests.{ne_eqb}
 use lib.Dec.{eqb}
 use lib.ListN.{length, length-append}
-use Rattle.std.specs.Prelude.{All, Result, Ok, Err}
+use Rattle.std.specs.Prelude.{Option, Some, None, is_some, All, Result, Ok, Err}
 use Rattle.std.proofs.lemmas.List.Elements.{All-nil, All-push}
 use Rattle.format.specs.Forest.{no_trees}
 use Rattle.format.specs.Book.{File}
@@ -28,7 +29,7 @@ use Rattle.book.specs.Reading.{Admitted}
 use Rattle.judgement.specs.Actor.{is_service_import, service_imports}
 use Rattle.judgement.specs.Check.{imports_verdict}
 use Rattle.syntax.specs.Verdicts.{verdict_of}
-use Rattle.syntax.specs.Files.{files_in, FileRoots, FileTable, init_at, listed_files, ImportsAs, FilesAs}
+use Rattle.syntax.specs.Files.{files_in, actor_root, FileRoots, FileTable, init_at, listed_files, ImportsAs, FilesAs}
 use Rattle.syntax.proofs.Book.{file-roots, files-in}
 
 -- ---- files from file i on
@@ -72,6 +73,19 @@ tree-some ns n w h = rw (actor-some ns n h, tree-opens w)
 pub tree-none : (ns : List ℕ) (n : ℕ) → n ≡ 65535 → no_trees (actor_at ns n) ≡ true
 unfolding no_trees
 tree-none ns n h = rw (actor-none ns n h)
+
+-- whether there is one
+pub root-none : {n : ℕ} → is_some (actor_root n) ≡ false → n ≡ 65535
+unfolding actor_root
+root-none {n} h = go (ℕ_discrete n 65535)
+  where
+    go : Dec (n ≡ 65535) → n ≡ 65535
+    go (yes e) = e
+    go (no k) = let z : is_some (cond (eqb n 65535) None (Some n)) ≡ true = rw (ne_eqb n 65535 k) in absurd (true≢false (sym z ∙ h))
+
+pub root-some : {n : ℕ} → is_some (actor_root n) ≡ true → n ≡ 65535 → ⊥
+unfolding actor_root
+root-some h e = false≢true (rw e at h)
 
 -- ---- 12 of a file
 module _ (ns : List ℕ) (e : Entry) (fs : List File) where
@@ -189,14 +203,14 @@ module _ {fs : List ℕ} {count nodes : ℕ} (x : FileTable fs count nodes) wher
           }
 
 -- ---- All of it
-module _ {bs : List ℕ} {c : Contents} (a : Admitted bs c) where
-  says : {r : Result (List ℕ) Refusal} → ImportsAs (files_part bs) c.files r → verdict_of r ≡ imports_verdict (service_imports a.book.files)
-  says x = x.verdict (nodes_part bs) (file-roots a) ∙ ap (λ (l : List File). imports_verdict (service_imports l)) (sym (files-in a))
+module _ {bs : List ℕ} {c : Contents} where
+  says : {r : Result (List ℕ) Refusal} → ImportsAs (files_part bs) c.files r → (a : Admitted bs c) → verdict_of r ≡ imports_verdict (service_imports a.book.files)
+  says x a = x.verdict (nodes_part bs) (file-roots a) ∙ ap (λ (l : List File). imports_verdict (service_imports l)) (sym (files-in a))
 
-  pub files-refused : {r : Refusal} → ImportsAs (files_part bs) c.files (Err r) → FilesAs a (Err r)
+  pub files-refused : {r : Refusal} → ImportsAs (files_part bs) c.files (Err r) → FilesAs bs c (Err r)
   files-refused x = record { verdict = says x; files = tt }
 
-  pub files-as : {root : ℕ} {i : List ℕ} {init : ℕ} → root ≡ (entry_at (files_part bs) 0).root → ImportsAs (files_part bs) c.files (Ok i) →
-      init ≡ init_at (files_part bs) c.files → FilesAs a (Ok (record { root = root; imports = i; init = init }))
+  pub files-as : {root : Option ℕ} {i : List ℕ} {init : ℕ} → root ≡ actor_root (entry_at (files_part bs) 0).root → ImportsAs (files_part bs) c.files (Ok i) →
+      init ≡ init_at (files_part bs) c.files → FilesAs bs c (Ok (record { root = root; imports = i; init = init }))
   files-as r x e =
-      record { verdict = says x; files = record { passed = sym (says x); root = r; init = e; listed = x.listed } }
+      record { verdict = says x; files = record { passed = λ a. sym (says x a); root = r; init = e; listed = x.listed } }

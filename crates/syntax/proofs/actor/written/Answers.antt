@@ -7,8 +7,11 @@ use Rattle.syntax.proofs.actor.AsWritten.{written-none, written-as}
 use Rattle.syntax.proofs.actor.written.Goals as goal
 use Rattle.syntax.proofs.actor.written.Goals.{then-service, else-service}
 
-pub returns-then-root-eq-NO_ROOT : goal.returns-then-root-eq-NO_ROOT
-returns-then-root-eq-NO_ROOT c = λ names nodes ds a z h t q. written-none a c.if-root-eq-NO_ROOT.true c.none.ensures ds
+pub returns-in_default : goal.returns-in_default
+returns-in_default c = λ names nodes ds a z h q. rw c.in_default.is (written-none a c.none.ensures ds)
+
+pub top_of-top-requires : goal.top_of-top-requires
+top_of-top-requires c = let p = c.requires in (_, _, p.2, rw c.in-Some.is at p.4)
 
 pub returns : goal.returns
 returns c =
@@ -18,6 +21,8 @@ returns c =
       | then-service w ↦ rw (w.services-is, w.if-service.true) w.from-services.ensures
       | else-service w ↦ rw (w.services-is, w.if-service.false) w.new-services.ensures
     ] in
-    λ names nodes ds a z h t q.
-    written-as a z t c.if-root-eq-NO_ROOT.false (h c.if-root-eq-NO_ROOT.false) s.reached.node-is
-    (listed ∙ ap (λ (b : Bool). cond b (option_to_list c.as_service-service.result.node) []) s.found-is) ds q
+    λ names nodes ds a z h q.
+    let inside = rw c.in-Some.is at h in
+    rw c.in-Some.is
+    (written-as a z (c.top_of-top.ensures _ _ a inside) inside s.reached.node-is
+    (listed ∙ ap (λ (b : Bool). cond b (option_to_list c.as_service-service.result.node) []) s.found-is) ds q)

@@ -1,28 +1,31 @@
 -- `files::read_files` meets its contract. Assumes nothing.
-use mathlib.Core.Path.{ap}
+use mathlib.Core.Path.{ap, ◌∙◌}
 use native.Mathlib.Omega.{arith}
 use Rattle.format.specs.Encode.{Entry}
 use Rattle.std.proofs.lemmas.Result.{err_from_is_err_and}
+use Rattle.book.proofs.Named.{book-of}
+use Rattle.syntax.specs.Files.{actor_root}
 use Rattle.syntax.proofs.Book.{files-held, files-some, file-table, file-roots}
 use Rattle.syntax.proofs.files.Laws.{files-refused, files-as}
 use Rattle.syntax.proofs.files.read_files.Goals as goal
 
 pub at-main-requires : goal.at-main-requires
-at-main-requires c = let a = c.requires in rw c.files-files.ensures (record { held = omega (arith, (files-held a).held, files-some a); few = (files-held a).few })
+at-main-requires c =
+    let a = book-of _ _ c.args.book.laid in
+    rw c.files-files.ensures (record { held = omega (arith, (files-held a).held, files-some a); few = (files-held a).few })
 
 pub list_imports-requires : goal.list_imports-requires
-list_imports-requires c = let a = c.requires in rw c.files-files.ensures (_, file-table a, (_, file-roots a))
+list_imports-requires c = let a = book-of _ _ c.args.book.laid in rw c.files-files.ensures (_, file-table a, (_, file-roots a))
 
 pub returns-in_err-imports : goal.returns-in_err-imports
 returns-in_err-imports c =
     let q = err_from_is_err_and c.from_residual.result c.from_residual.ensures.1 in
-    λ a. rw (q.1, q.2) (files-refused a (rw c.files-files.ensures at c.in_err-imports.ensures))
+    rw (q.1, q.2) (files-refused (rw c.files-files.ensures at c.in_err-imports.ensures))
 
 pub init_number-init-requires : goal.init_number-init-requires
-init_number-init-requires c = let a = c.requires in rw c.files-files.ensures (files-held a, files-some a)
+init_number-init-requires c = let a = book-of _ _ c.args.book.laid in rw c.files-files.ensures (files-held a, files-some a)
 
 pub returns : goal.returns
 returns c =
-    λ a.
-    files-as a (ap (λ (e : Entry). e.root) (rw c.files-files.ensures at c.at-main.ensures)) (rw c.files-files.ensures at c.in_ok-imports.ensures)
-    (rw c.files-files.ensures at c.init_number-init.ensures)
+    files-as (c.actor_root.ensures ∙ ap (λ (e : Entry). actor_root e.root) (rw c.files-files.ensures at c.at-main.ensures))
+    (rw c.files-files.ensures at c.in_ok-imports.ensures) (rw c.files-files.ensures at c.init_number-init.ensures)

@@ -6,7 +6,7 @@ use Rattle.syntax.proofs.actor.Merging.{services-start, number-held, import-insi
 use Rattle.syntax.proofs.actor.Resolver.import_services.Goals as goal
 
 pub loop-f-init : goal.loop-f-init
-loop-f-init c = λ root m. rw c.from-services.ensures (services-start m)
+loop-f-init c = λ root m. services-start m
 
 pub at-e-requires : goal.at-e-requires
 at-e-requires c =
