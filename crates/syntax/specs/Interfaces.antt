@@ -36,6 +36,10 @@ is_present Absent = false
 is_present (Written root) = true
 is_present (Merged main) = true
 
+-- Whether it is merged from services.
+abbrev pub IsMerged : Actor → Type 0
+IsMerged actor = (main : Option ℕ) × (actor ≡ Merged main)
+
 -- The node of main's own.
 unfoldable pub main_of : Actor → Option ℕ
 main_of Absent = None

@@ -19,7 +19,7 @@ use Rattle.syntax.specs.declared.interface.Actor as actor
 use Rattle.syntax.specs.declared.interface.Interface.{Interface}
 use Rattle.syntax.specs.Verdicts.{verdict_of}
 use Rattle.syntax.specs.Classes.{tree_of, ArgumentsAs}
-use Rattle.syntax.specs.Interfaces.{IsService, methods_in, ActorAs}
+use Rattle.syntax.specs.Interfaces.{IsService, methods_in, IsMerged, ActorAs}
 
 -- ---- One service
 
@@ -77,7 +77,7 @@ pub record ServicesAs (ns roots : List ℕ) (count definitions : ℕ) (root : Op
 
 -- With service imports: main and each import have a verdict, and their services make the actor.
 pub record Merged {bs : List ℕ} {c : Contents} (a : Admitted bs c) (roots : List ℕ) (main : ℕ) (i : Interface) : Type 0 where
-  pub merged : (main : Option ℕ) × (i.actor ≡ actor.Actor.Merged main)
+  pub merged : IsMerged i.actor
   pub actor : (ds : List Definition) → Tabled (nodes_part bs) roots main ds →
       ActorAs (nodes_part bs) c.nodes ds (merged_actor ds (main_actor a.book) (service_imports a.book.files)) i
 

@@ -1,18 +1,18 @@
 // The actor walk: `check_actor` of typing.rs, on the interface of the resolved actor.
-ghost use Rattle.std.specs.Prelude.{◌≡◌, true, false, List, ◌<◌, IsSome};
+ghost use Rattle.std.specs.Prelude.{◌≡◌, false, List, ◌<◌, IsSome};
 ghost use Rattle.format.specs.Book.{Definition};
 ghost use Rattle.format.specs.Whole.{tree_at};
 ghost use Rattle.judgement.specs.Check.{check_forest, actor_verdict};
 ghost use Rattle.judgement.specs.WellFormed.{below_top};
-ghost use Rattle.syntax.specs.Interfaces.{interface_tree};
+ghost use Rattle.syntax.specs.Interfaces.{IsMerged, interface_tree};
 ghost use Rattle.typing.specs.Types.{Under};
 ghost use Rattle.typing.specs.Actors.{ActorOf};
 
 use crate::types::Walk;
 use book::kinds::Kind;
-use book::read::{Entry, Node};
+use book::read::Node;
 use refusals::{Refusal, Verdict};
-use syntax::interface::Interface;
+use syntax::interface::{Actor, Interface};
 
 // The children of a class, or another type.
 fn check_top(walk: &Walk, n: usize) -> Verdict
@@ -29,8 +29,8 @@ fn check_top(walk: &Walk, n: usize) -> Verdict
 
 // An actor merged from services: main's arguments, and then the methods of each.
 fn check_merged(walk: &Walk, interface: &Interface) -> Verdict
-    requires { (ds : List Definition) × ActorOf walk.now interface.now ds × (interface.now.merged ≡ true) }
-    ensures { IsSome walk.now.ends → Under walk.now (λ pre ds. ActorOf walk.now interface.now ds → interface.now.merged ≡ true →
+    requires { (ds : List Definition) × ActorOf walk.now interface.now ds × IsMerged interface.now.actor }
+    ensures { IsSome walk.now.ends → Under walk.now (λ pre ds. ActorOf walk.now interface.now ds → IsMerged interface.now.actor →
         result ≡ actor_verdict ds (interface_tree walk.now.rows.now interface.now)) }
 {
     walk.check_types(false, interface.from, interface.until)?;
@@ -46,15 +46,15 @@ pub(crate) fn check_actor(walk: &Walk, interface: &Interface) -> Verdict
     ensures { IsSome walk.now.ends → Under walk.now (λ pre ds. ActorOf walk.now interface.now ds →
         result ≡ actor_verdict ds (interface_tree walk.now.rows.now interface.now)) }
 {
-    if interface.merged {
-        return check_merged(walk, interface);
+    match interface.actor {
+        Actor::Absent => Ok(()),
+        Actor::Written(root) => {
+            check_top(walk, root)?;
+            if interface.services.is_empty() {
+                return Err(Refusal::NoService);
+            }
+            Ok(())
+        }
+        Actor::Merged(_) => check_merged(walk, interface),
     }
-    if interface.root == Entry::NO_ROOT {
-        return Ok(());
-    }
-    check_top(walk, interface.root as usize)?;
-    if interface.services.is_empty() {
-        return Err(Refusal::NoService);
-    }
-    Ok(())
 }

@@ -114,7 +114,8 @@ pub fn check_init_args(
     ensures { (ends : List ℕ) (x : PassedBook book.now roots.now ends p) → InitFoundAs x.admitted both.new result }
 {
     let c = p.contents;
-    let init = syntax::files::init_file(book, c);
+    let admitted = AdmittedBook::new(book, c);
+    let init = syntax::files::init_file(admitted);
     let mut own = [Entry::NO_ROOT; Limits::NAMES];
     if init == c.files {
         environment::merge::merged(&own, roots, both);
@@ -124,7 +125,6 @@ pub fn check_init_args(
             until: 0,
         });
     }
-    let admitted = AdmittedBook::new(book, c);
     check_own(admitted, p.main, &mut own)?;
     merge(admitted, &own, roots)?;
     environment::merge::merged(&own, roots, both);

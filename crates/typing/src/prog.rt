@@ -24,21 +24,21 @@ pub struct Passed {
 
 // The actor of a book whose `main` definitions passed: it is resolved (3, 10, 13, 14), and then walked.
 fn check_resolved<'t>(
-    book: &[u8],
-    c: Contents,
+    book: AdmittedBook,
     files: Files,
     main: usize,
     roots: &'t [u16],
     ends: &'t [u32],
 ) -> Result<Passed, Refusal>
-    requires { (a : Admitted book.now c) × FilesPassed a files × DecsPassed a main roots.now ends.now }
-    ensures { (a : Admitted book.now c) → FilesPassed a files → DecsPassed a main roots.now ends.now → ActorFoundAs a roots.now ends.now result }
+    requires { (a : Admitted book.bytes.now book.contents) × FilesPassed book.bytes.now book.contents files × DecsPassed a main roots.now ends.now }
+    ensures { (a : Admitted book.entry.bytes.now book.entry.contents) → FilesPassed book.entry.bytes.now book.entry.contents files →
+        DecsPassed a main roots.now ends.now → ActorFoundAs a roots.now ends.now result }
 {
-    let interface = syntax::actor::resolve_actor(book, c, files, main, roots, ends)?;
-    let walk = Walk::new(AdmittedBook::new(book, c), roots, Some(ends));
+    let interface = syntax::actor::resolve_actor(book, files, main, roots, ends)?;
+    let walk = Walk::new(book, roots, Some(ends));
     crate::actor::check_actor(&walk, &interface)?;
     Ok(Passed {
-        contents: c,
+        contents: book.contents,
         main,
         interface,
     })
@@ -55,10 +55,11 @@ pub fn check_prog(
     requires { Admitted book.now c × (roots.old ≡ blank_table) × (ends.old ≡ zero_table) }
     ensures { (a : Admitted book.now c) → FoundAs a roots.new ends.new result }
 {
-    let files = syntax::files::read_files(book, c)?;
-    let main = syntax::files::main_definitions(c.definitions(book), c.definitions, files.init);
-    Decs::new(AdmittedBook::new(book, c), 0, main).check(roots, ends)?;
-    let found = check_resolved(book, c, files, main, roots, ends);
+    let admitted = AdmittedBook::new(book, c);
+    let files = syntax::files::read_files(admitted)?;
+    let main = syntax::files::main_definitions(admitted.definitions(), c.definitions, files.init);
+    Decs::new(admitted, 0, main).check(roots, ends)?;
+    let found = check_resolved(admitted, files, main, roots, ends);
     if found.is_err() {
         environment::clear(roots);
         environment::clear_ends(ends);

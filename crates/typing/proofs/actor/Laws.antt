@@ -17,10 +17,10 @@ use Rattle.format.specs.Node.{Node}
 use Rattle.format.specs.Book.{Definition}
 use Rattle.format.specs.Encode.{Row}
 use Rattle.format.specs.Layout.{row_at, siblings}
-use Rattle.format.specs.Whole.{WholeAt, tree_at, actor_at}
+use Rattle.format.specs.Whole.{WholeAt, tree_at}
 use Rattle.std.proofs.lemmas.List.{at_drop_more, at_drop_all}
 use Rattle.std.proofs.lemmas.List.Elements.{All-get_or}
-use Rattle.format.proofs.Stored.{tree-opens, actor-none, actor-some}
+use Rattle.format.proofs.Stored.{tree-opens}
 use Rattle.refusals.specs.declared.Refusal.{Refusal}
 use Rattle.refusals.specs.declared.Refusal.TheVariants.{NoService}
 use Rattle.refusals.specs.Verdict.{Verdict, passes, and_then, unless}
@@ -33,7 +33,9 @@ use Rattle.judgement.specs.WellFormed.{below_top}
 use Rattle.judgement.proofs.Classes.{last-beside}
 use Rattle.environment.proofs.Links.{chain-other}
 use Rattle.syntax.specs.declared.interface.Interface.{Interface}
-use Rattle.syntax.specs.Interfaces.{IsService, methods_in, interface_tree}
+use Rattle.syntax.specs.declared.interface.Actor.TheVariants.{Absent, Written}
+use Rattle.syntax.specs.Classes.{tree_of}
+use Rattle.syntax.specs.Interfaces.{IsService, methods_in, IsMerged, main_of, actor_tree, interface_tree}
 use Rattle.syntax.proofs.Stored.{tree-class, tree-kids}
 use Rattle.syntax.proofs.interface.Laws.{tree-arguments}
 use Rattle.typing.specs.declared.types.Walk.{Walk}
@@ -109,17 +111,17 @@ MergedLeft w services k =
 
 -- what is said of an actor merged from services
 abbrev pub SaidOf : Walk → Interface → Verdict → Type 0
-SaidOf w i v = IsSome w.ends → Under w (λ pre ds. ActorOf w i ds → i.merged ≡ true → v ≡ actor_verdict ds (interface_tree w.rows.now i))
+SaidOf w i v = IsSome w.ends → Under w (λ pre ds. ActorOf w i ds → IsMerged i.actor → v ≡ actor_verdict ds (interface_tree w.rows.now i))
 
 module _ (w : Walk) (i : Interface) where
   -- where the arguments have the verdict v and the methods the verdict u
-  merged-is : {ds : List Definition} → ActorOf w i ds → i.merged ≡ true → (v u : Verdict) →
+  merged-is : {ds : List Definition} → ActorOf w i ds → IsMerged i.actor → (v u : Verdict) →
       v ≡ check_forest false false ds (siblings w.rows.now i.from i.until) → u ≡ check_forest false true ds (methods_in w.rows.now i.services) →
       and_then v u ≡ actor_verdict ds (interface_tree w.rows.now i)
-  unfolding interface_tree
+  unfolding actor_tree
   merged-is {ds} a m v u p q =
-      rw (p, q, a.arguments.are ∙ tree-arguments w.rows.now i m)
-      (merged-verdict ds (methods_in w.rows.now i.services) (actor_at w.rows.now i.root) ∙ ap (actor_verdict ds) (rw m refl))
+      rw (p, q, a.arguments.are ∙ tree-arguments w.rows.now i.services m.1)
+      (merged-verdict ds (methods_in w.rows.now i.services) (tree_of w.rows.now m.0) ∙ ap (actor_verdict ds) (rw m.1 refl))
 
   pub arguments-stop : {x : Refusal} → Said w false i.from i.until (Err x) → SaidOf w i (Err x)
   arguments-stop {x} s q ds e a m =
@@ -159,48 +161,48 @@ module _ (w : Walk) (i : Interface) where
       pub merged-on : Under w (λ pre ds. passes ≡ type_verdict pre ds w.rows.now (get_or services k 0)) → IsSome w.ends → MergedLeft w services (k + 1)
       merged-on u = merged-opens u
 
-  -- ---- an actor as written
-  module _ (m : i.merged ≡ false) {ds : List Definition} (a : ActorOf w i ds) where
-    tree-root : interface_tree w.rows.now i ≡ actor_at w.rows.now i.root
-    unfolding interface_tree
-    tree-root = rw m refl
+  -- ---- none, and an actor as written
+  pub no-actor : (ds : List Definition) → i.actor ≡ Absent → passes ≡ actor_verdict ds (interface_tree w.rows.now i)
+  unfolding actor_verdict no_trees actor_tree
+  no-actor ds m = rw m refl
 
-    pub no-actor : i.root ≡ 65535 → passes ≡ actor_verdict ds (interface_tree w.rows.now i)
-    unfolding actor_verdict no_trees
-    no-actor h = rw (tree-root, actor-none w.rows.now i.root h)
+  module _ {root : ℕ} (m : i.actor ≡ Written root) {ds : List Definition} (a : ActorOf w i ds) where
+    tree-some : interface_tree w.rows.now i ≡ tree_at w.rows.now root
+    unfolding actor_tree
+    tree-some = rw m refl
 
-    module _ (h : i.root ≡ 65535 → ⊥) where
-      tree-some : interface_tree w.rows.now i ≡ tree_at w.rows.now i.root
-      tree-some = tree-root ∙ actor-some w.rows.now i.root h
+    pub root-inside : root < w.nodes
+    unfolding main_of
+    root-inside = rw m at a.nodes.main
 
-      tree-is : no_trees (tree_at w.rows.now i.root) ≡ false
-      unfolding no_trees
-      tree-is = rw (tree-opens (whole w (a.nodes.root h)))
+    tree-is : no_trees (tree_at w.rows.now root) ≡ false
+    unfolding no_trees
+    tree-is = rw (tree-opens (whole w root-inside))
 
-      module _ (q : IsSome w.ends) (e : WalkEnv w ds) where
-        written : {v : Verdict} → Under w (λ pre ds. v ≡ check_forest pre false ds (below_top (tree_at w.rows.now i.root))) → (b : Bool) → b ≡ as_service ds (below_class (tree_at w.rows.now i.root)) →
-            and_then v (unless b NoService) ≡ actor_verdict ds (interface_tree w.rows.now i)
-        unfolding actor_verdict below_top
-        written u b s = rw (tree-some, tree-is, s, rw (some-not-none w.ends q) at (u ds e)) refl
+    module _ (q : IsSome w.ends) (e : WalkEnv w ds) where
+      written : {v : Verdict} → Under w (λ pre ds. v ≡ check_forest pre false ds (below_top (tree_at w.rows.now root))) → (b : Bool) → b ≡ as_service ds (below_class (tree_at w.rows.now root)) →
+          and_then v (unless b NoService) ≡ actor_verdict ds (interface_tree w.rows.now i)
+      unfolding actor_verdict below_top
+      written u b s = rw (tree-some, tree-is, s, rw (some-not-none w.ends q) at (u ds e)) refl
 
-        -- 10 is a look at the number of services
-        served : length i.services ≡ cond (as_service ds (below_class (tree_at w.rows.now i.root))) 1 0
-        served = a.served m h ∙ ap (λ (u : Forest Node). cond (as_service ds (below_class u)) 1 0) tree-some
+      -- 10 is a look at the number of services
+      served : length i.services ≡ cond (as_service ds (below_class (tree_at w.rows.now root))) 1 0
+      served = a.served root m ∙ ap (λ (u : Forest Node). cond (as_service ds (below_class u)) 1 0) tree-some
 
-        pub written-stop : {x : Refusal} → Under w (λ pre ds. Err x ≡ check_forest pre false ds (below_top (tree_at w.rows.now i.root))) → Err x ≡ actor_verdict ds (interface_tree w.rows.now i)
-        written-stop u = written u _ refl
+      pub written-stop : {x : Refusal} → Under w (λ pre ds. Err x ≡ check_forest pre false ds (below_top (tree_at w.rows.now root))) → Err x ≡ actor_verdict ds (interface_tree w.rows.now i)
+      written-stop u = written u _ refl
 
-        module _ (u : Under w (λ pre ds. passes ≡ check_forest pre false ds (below_top (tree_at w.rows.now i.root)))) where
-          pub no-service : length i.services ≡ 0 → Err NoService ≡ actor_verdict ds (interface_tree w.rows.now i)
-          no-service z = written u false (sym (go (as_service ds (below_class (tree_at w.rows.now i.root))) served))
-            where
-              go : (b : Bool) → length i.services ≡ cond b 1 0 → b ≡ false
-              go true e = absurd (let f : ⊥ = omega (arith, e, z) in f)
-              go false e = refl
+      module _ (u : Under w (λ pre ds. passes ≡ check_forest pre false ds (below_top (tree_at w.rows.now root)))) where
+        pub no-service : length i.services ≡ 0 → Err NoService ≡ actor_verdict ds (interface_tree w.rows.now i)
+        no-service z = written u false (sym (go (as_service ds (below_class (tree_at w.rows.now root))) served))
+          where
+            go : (b : Bool) → length i.services ≡ cond b 1 0 → b ≡ false
+            go true e = absurd (let f : ⊥ = omega (arith, e, z) in f)
+            go false e = refl
 
-          pub some-service : (length i.services ≡ 0 → ⊥) → passes ≡ actor_verdict ds (interface_tree w.rows.now i)
-          some-service z = written u true (sym (go (as_service ds (below_class (tree_at w.rows.now i.root))) served))
-            where
-              go : (b : Bool) → length i.services ≡ cond b 1 0 → b ≡ true
-              go true e = refl
-              go false e = absurd (z e)
+        pub some-service : (length i.services ≡ 0 → ⊥) → passes ≡ actor_verdict ds (interface_tree w.rows.now i)
+        some-service z = written u true (sym (go (as_service ds (below_class (tree_at w.rows.now root))) served))
+          where
+            go : (b : Bool) → length i.services ≡ cond b 1 0 → b ≡ true
+            go true e = refl
+            go false e = absurd (z e)

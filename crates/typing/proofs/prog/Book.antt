@@ -20,9 +20,10 @@ use Rattle.book.proofs.Opened.{names-count, nodes-count}
 use Rattle.judgement.specs.Environment.{main_definitions}
 use Rattle.judgement.specs.Resolve.{resolve_actor}
 use Rattle.environment.specs.Tables.{Tabled}
-use Rattle.syntax.specs.Interfaces.{interface_tree}
+use Rattle.std.proofs.lemmas.Option.{IfSome_then}
+use Rattle.syntax.specs.Interfaces.{is_present, main_of}
 use Rattle.syntax.proofs.Book.{few-definitions}
-use Rattle.syntax.proofs.interface.Laws.{tree-none, tree-merged, tree-written}
+use Rattle.syntax.proofs.interface.Laws.{tree-absent, tree-present}
 use Rattle.typing.specs.declared.prog.Passed.{Passed}
 use Rattle.typing.specs.Passing.{PassedAs}
 
@@ -45,24 +46,11 @@ module _ {bs : List ℕ} {c : Contents} {a : Admitted bs c} {roots ends' : List 
   nodes-are = ap (λ (d : Contents). d.nodes) x.contents ∙ nodes-count a
 
   -- ---- Whether there is an actor, as the code tells it
-  module _ {has : Bool} (is : has ≡ (p.interface.merged || not (eqb p.interface.root 65535))) where
+  module _ {has : Bool} (is : has ≡ is_present p.interface.actor) where
     pub no-actor : has ≡ false → resolve_actor a.book ≡ end
-    no-actor f = sym x.tree ∙ go p.interface.merged refl (eqb p.interface.root 65535) refl (sym is ∙ f)
-      where
-        go : (m : Bool) → p.interface.merged ≡ m → (n : Bool) → eqb p.interface.root 65535 ≡ n → (m || not n) ≡ false → interface_tree (nodes_part bs) p.interface ≡ end
-        go false m true n f = tree-none (nodes_part bs) p.interface m (eqb→eq p.interface.root 65535 (rw n tt))
-        go false m false n f = absurd (false≢true (sym f))
-        go true m n k f = absurd (false≢true (sym f))
+    no-actor f = sym x.tree ∙ tree-absent (nodes_part bs) p.interface.services p.interface.actor (sym is ∙ f)
 
     pub some-actor : has ≡ true → resolve_actor a.book ≡ end → ⊥
-    some-actor f e = go p.interface.merged refl (eqb p.interface.root 65535) refl (sym is ∙ f)
-      where
-        none : interface_tree (nodes_part bs) p.interface ≡ end
-        none = x.tree ∙ e
-
-        go : (m : Bool) → p.interface.merged ≡ m → (n : Bool) → eqb p.interface.root 65535 ≡ n → (m || not n) ≡ true → ⊥
-        go true m n k f = tree-merged (nodes_part bs) p.interface m none
-        go false m false n f =
-            let h : p.interface.root ≡ 65535 → ⊥ = λ z. false≢true (sym n ∙ rw z) in
-            tree-written (nodes_part bs) p.interface m h (x.all.nodes.tree p.interface.root (x.nodes.root h)).whole none
-        go false m true n f = false≢true f
+    some-actor f e =
+        tree-present (nodes_part bs) p.interface.services p.interface.actor (sym is ∙ f)
+        (IfSome_then (main_of p.interface.actor) x.nodes.main (λ n h. (x.all.nodes.tree n h).whole)) (x.tree ∙ e)

@@ -3,14 +3,14 @@
 --     defined, actor-of, ..                 what the next stage asks
 --     prog-passed                           what is handed on
 use mathlib.Core.Path.{◌≡◌, refl, sym, ap, subst, ◌∙◌}
-use mathlib.Core.Bool.{true, false, cond}
+use mathlib.Core.Bool.{true, false, cond, false≢true}
 use mathlib.Core.List.{List}
 use Prim.Native.Nat.{ℕ}
 use native.Mathlib.Nat.{sub-zero}
 use native.Mathlib.Omega.{arith}
 use lib.ListN.{length}
 use denote.Bor.{Bor}
-use Rattle.std.specs.Prelude.{Some, IsSome, Ok, Err}
+use Rattle.std.specs.Prelude.{Some, IsSome, Result, Ok, Err, is_err}
 use Rattle.format.specs.Forest.{Forest, end, tree, no_trees}
 use Rattle.format.specs.Node.{Node}
 use Rattle.format.specs.Book.{Definition, Book}
@@ -43,6 +43,7 @@ use Rattle.typing.specs.Walk.{Env}
 use Rattle.typing.specs.Types.{Reads, WalkEnv, Under}
 use Rattle.typing.specs.Decs.{Checked, DecsAs}
 use Rattle.typing.specs.Actors.{ActorOf}
+use Rattle.typing.specs.declared.prog.Passed.{Passed}
 use Rattle.typing.specs.Passing.{DecsPassed, ActorFoundAs, FoundAs}
 
 -- ---- The actor of a book that passes is a service below its top
@@ -71,16 +72,26 @@ module _ {bs : List ℕ} {c : Contents} (a : Admitted bs c) where
   stop-blank is y z = record { found = record { verdict = is; passed = tt }; roots-left = y; ends-left = z }
 
   -- ---- 12
-  pub imports-refused : {x : Refusal} → FilesAs a (Err x) → {roots ends' : List ℕ} → roots ≡ blank_table → ends' ≡ zero_table → FoundAs a roots ends' (Err x)
+  pub imports-refused : {x : Refusal} → FilesAs bs c (Err x) → {roots ends' : List ℕ} → roots ≡ blank_table → ends' ≡ zero_table → FoundAs a roots ends' (Err x)
   unfolding check
-  imports-refused x = stop-blank (sym (rw (← x.verdict) refl))
+  imports-refused x = stop-blank (sym (rw (← x.verdict a) refl))
 
-  past-imports : {r : Files} → FilesPassed a r →
+  -- ---- The tables: with nothing again where the actor is refused, and else as they are
+  pub left-blank : (r : Result Passed Refusal) → is_err r ≡ true → {old olds : List ℕ} → ActorFoundAs a old olds r → {roots ends' : List ℕ} → roots ≡ blank_table → ends' ≡ zero_table →
+      FoundAs a roots ends' r
+  left-blank (Ok p) e f y z = absurd (false≢true e)
+  left-blank (Err x) e f y z = stop-blank f.verdict y z
+
+  pub left-whole : (r : Result Passed Refusal) → is_err r ≡ false → {roots ends' : List ℕ} → ActorFoundAs a roots ends' r → FoundAs a roots ends' r
+  left-whole (Ok p) e f = record { found = f; roots-left = tt; ends-left = tt }
+  left-whole (Err x) e f = absurd (false≢true (sym e))
+
+  past-imports : {r : Files} → FilesPassed bs c r →
       check a.book ≡ and_then (decs_verdict (length a.book.names) ds) (and_then (resolve_verdict a.book.names ds (main_actor a.book) (service_imports a.book.files) (resolve_actor a.book)) (actor_verdict ds (resolve_actor a.book)))
   unfolding check
-  past-imports x = rw x.passed refl
+  past-imports x = rw (x.passed a) refl
 
-  pub split-files : {r : Files} → FilesPassed a r → {es : List ℕ} → es ≡ definitions_part bs → {main : ℕ} → SplitAs es c.definitions r.init main →
+  pub split-files : {r : Files} → FilesPassed bs c r → {es : List ℕ} → es ≡ definitions_part bs → {main : ℕ} → SplitAs es c.definitions r.init main →
       SplitAs (definitions_part bs) c.definitions (init_at (files_part bs) c.files) main
   split-files {r} x e {main} s =
       subst (λ (i : ℕ). SplitAs (definitions_part bs) c.definitions i main) x.init (subst (λ (l : List ℕ). SplitAs l c.definitions r.init main) e s)
@@ -90,7 +101,7 @@ module _ {bs : List ℕ} {c : Contents} (a : Admitted bs c) where
     definitions-are : ds ≡ definitions_in (nodes_part bs) (definitions_part bs) 0 main
     definitions-are = main-definitions-are bs a.laid (rw (← definitions-count a, ← files-count a) s)
 
-    module _ {r : Files} (x : FilesPassed a r) {roots ends' : List ℕ} where
+    module _ {r : Files} (x : FilesPassed bs c r) {roots ends' : List ℕ} where
       decs-is : {w : Verdict} → DecsAs (definitions_part bs) (nodes_part bs) c.names c.nodes 0 main w roots ends' → w ≡ decs_verdict (length a.book.names) ds
       decs-is d = d.entered.verdict ∙ ap (λ (k : ℕ). decs_verdict k (definitions_in (nodes_part bs) (definitions_part bs) 0 main)) (names-count a) ∙ ap (decs_verdict (length a.book.names)) (sym definitions-are)
 
@@ -101,7 +112,7 @@ module _ {bs : List ℕ} {c : Contents} (a : Admitted bs c) where
       defined d = record { split = s; passed = d }
 
   -- ---- The resolved actor
-  module _ {r : Files} (x : FilesPassed a r) {main : ℕ} {roots ends' : List ℕ} (o : DecsPassed a main roots ends') where
+  module _ {r : Files} (x : FilesPassed bs c r) {main : ℕ} {roots ends' : List ℕ} (o : DecsPassed a main roots ends') where
     tables : Checked (nodes_part bs) roots ends' c.nodes ds
     tables = rw (definitions-are o.split) o.passed.entered.checked
 

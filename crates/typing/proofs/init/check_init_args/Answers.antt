@@ -12,7 +12,7 @@ merged-requires c = (refl, c.requires.0.1.passed.checked.table.long, rw c.requir
 
 pub returns-then-init-c : goal.returns-then-init-c
 unfolding blank_table
-returns-then-init-c c = λ ends x. init-none x.admitted (sym (c.init_file-init.ensures x.admitted) ∙ c.if-init-c.true) x.passed refl c.merged.ensures
+returns-then-init-c c = λ ends x. init-none x.admitted (sym (rw (c.new-admitted.ensures.bytes, c.new-admitted.ensures.contents) at c.init_file-init.ensures) ∙ c.if-init-c.true) x.passed refl c.merged.ensures
 
 -- With one: its own definitions, the merge and the arguments.
 pub check_own-requires : goal.check_own-requires
@@ -22,43 +22,43 @@ check_own-requires c = record { within = rw c.new-admitted.ensures.contents c.re
 pub returns-in_err-check_own : goal.returns-in_err-check_own
 returns-in_err-check_own c =
     rw (handed-on c.from_residual.result c.from_residual.ensures)
-    (λ ends x. own-refused x.admitted (c.init_file-init.ensures x.admitted) c.if-init-c.false x.passed (rw (c.new-admitted.ensures.bytes, c.new-admitted.ensures.contents) at c.in_err-check_own.ensures) c.requires.1)
+    (λ ends x. own-refused x.admitted (rw (c.new-admitted.ensures.bytes, c.new-admitted.ensures.contents) at c.init_file-init.ensures) c.if-init-c.false x.passed (rw (c.new-admitted.ensures.bytes, c.new-admitted.ensures.contents) at c.in_err-check_own.ensures) c.requires.1)
 
 pub merge-requires : goal.merge-requires
 merge-requires c =
     let x = c.requires.0.1 in
-    let o = own-here x.admitted (c.init_file-init.ensures x.admitted) c.if-init-c.false x.passed (rw (c.new-admitted.ensures.bytes, c.new-admitted.ensures.contents) at c.in_ok-check_own.ensures) in
+    let o = own-here x.admitted (rw (c.new-admitted.ensures.bytes, c.new-admitted.ensures.contents) at c.init_file-init.ensures) c.if-init-c.false x.passed (rw (c.new-admitted.ensures.bytes, c.new-admitted.ensures.contents) at c.in_ok-check_own.ensures) in
     rw c.new-admitted.ensures.contents (record { first = own-table x.admitted o x.passed; second = main-table x.admitted o x.passed })
 
 pub returns-in_err-merge : goal.returns-in_err-merge
 returns-in_err-merge c =
     rw (handed-on c.from_residual-in_err-merge.result c.from_residual-in_err-merge.ensures)
     (λ ends x.
-    let o = own-here x.admitted (c.init_file-init.ensures x.admitted) c.if-init-c.false x.passed (rw (c.new-admitted.ensures.bytes, c.new-admitted.ensures.contents) at c.in_ok-check_own.ensures) in
+    let o = own-here x.admitted (rw (c.new-admitted.ensures.bytes, c.new-admitted.ensures.contents) at c.init_file-init.ensures) c.if-init-c.false x.passed (rw (c.new-admitted.ensures.bytes, c.new-admitted.ensures.contents) at c.in_ok-check_own.ensures) in
     init-differs x.admitted o x.passed ((rw (c.new-admitted.ensures.bytes, c.new-admitted.ensures.contents) at c.in_err-merge.ensures) x.admitted) c.requires.1)
 
 pub merged-requires-2 : goal.merged-requires-2
 merged-requires-2 c =
     let x = c.requires.0.1 in
-    let o = own-here x.admitted (c.init_file-init.ensures x.admitted) c.if-init-c.false x.passed (rw (c.new-admitted.ensures.bytes, c.new-admitted.ensures.contents) at c.in_ok-check_own.ensures) in
+    let o = own-here x.admitted (rw (c.new-admitted.ensures.bytes, c.new-admitted.ensures.contents) at c.init_file-init.ensures) c.if-init-c.false x.passed (rw (c.new-admitted.ensures.bytes, c.new-admitted.ensures.contents) at c.in_ok-check_own.ensures) in
     ((own-table x.admitted o x.passed).long, (main-table x.admitted o x.passed).long, rw c.requires.1 blank-length)
 
 pub check_seen-args-requires : goal.check_seen-args-requires
 check_seen-args-requires c =
     let x = c.requires.0.1 in
-    let o = own-here x.admitted (c.init_file-init.ensures x.admitted) c.if-init-c.false x.passed (rw (c.new-admitted.ensures.bytes, c.new-admitted.ensures.contents) at c.in_ok-check_own.ensures) in
+    let o = own-here x.admitted (rw (c.new-admitted.ensures.bytes, c.new-admitted.ensures.contents) at c.init_file-init.ensures) c.if-init-c.false x.passed (rw (c.new-admitted.ensures.bytes, c.new-admitted.ensures.contents) at c.in_ok-check_own.ensures) in
     (_, c.requires.0.0, x, o, record { passed = (rw (c.new-admitted.ensures.bytes, c.new-admitted.ensures.contents) at c.in_ok-merge.ensures) x.admitted; table = c.merged-2.ensures })
 
 pub returns-then-is_err : goal.returns-then-is_err
 returns-then-is_err c =
     λ ends x.
-    let o = own-here x.admitted (c.init_file-init.ensures x.admitted) c.if-init-c.false x.passed (rw (c.new-admitted.ensures.bytes, c.new-admitted.ensures.contents) at c.in_ok-check_own.ensures) in
+    let o = own-here x.admitted (rw (c.new-admitted.ensures.bytes, c.new-admitted.ensures.contents) at c.init_file-init.ensures) c.if-init-c.false x.passed (rw (c.new-admitted.ensures.bytes, c.new-admitted.ensures.contents) at c.in_ok-check_own.ensures) in
     init-cleared _ (c.check_seen-args.ensures _ ends x o (record { passed = (rw (c.new-admitted.ensures.bytes, c.new-admitted.ensures.contents) at c.in_ok-merge.ensures) x.admitted; table = c.merged-2.ensures }))
     (sym c.is_err.ensures.value ∙ c.if-is_err.true) c.clear.ensures
 
 pub returns-else-is_err : goal.returns-else-is_err
 returns-else-is_err c =
     λ ends x.
-    let o = own-here x.admitted (c.init_file-init.ensures x.admitted) c.if-init-c.false x.passed (rw (c.new-admitted.ensures.bytes, c.new-admitted.ensures.contents) at c.in_ok-check_own.ensures) in
+    let o = own-here x.admitted (rw (c.new-admitted.ensures.bytes, c.new-admitted.ensures.contents) at c.init_file-init.ensures) c.if-init-c.false x.passed (rw (c.new-admitted.ensures.bytes, c.new-admitted.ensures.contents) at c.in_ok-check_own.ensures) in
     init-found _ (c.check_seen-args.ensures _ ends x o (record { passed = (rw (c.new-admitted.ensures.bytes, c.new-admitted.ensures.contents) at c.in_ok-merge.ensures) x.admitted; table = c.merged-2.ensures }))
     (sym c.is_err.ensures.value ∙ c.if-is_err.false)
