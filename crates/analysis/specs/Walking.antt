@@ -13,12 +13,11 @@ use Rattle.judgement.specs.WellFormed.{Defined}
 use Rattle.environment.specs.Tables.{Nodes, Binds}
 use Rattle.book.specs.Tables.{no_flags, is_set}
 use Rattle.syntax.specs.declared.interface.Interface.{Interface}
-use Rattle.syntax.specs.Interfaces.{InterfaceNodes}
-use Rattle.syntax.specs.Classes.{ArgumentsAs}
+use Rattle.syntax.specs.Interfaces.{IsMerged, InterfaceNodes}
+use Rattle.syntax.specs.Classes.{tree_of, ArgumentsAs}
 use Rattle.listing.specs.Chase.{Walk as State, going, unbound, chase, visit, chase_types}
 use Rattle.analysis.specs.declared.chase.Walk.{Walk}
 use Rattle.analysis.specs.Book.{Agrees, Rooted}
-use Rattle.format.specs.Whole.{actor_at}
 
 -- ---- The walk
 
@@ -103,12 +102,12 @@ pub record NothingMet (w : Walk) : Type 0 where
 abbrev pub WalkedAs : (ns roots : List ℕ) (start : Forest Node) (r : Result Walk Refusal) → Type 0
 WalkedAs ns roots start r = (ds : List Definition) → Binds ns roots ds → length ds ≤ 512 → Holds ds (chase_types ds start) r
 
--- A root that is a node of the book, or 65,535; and an interface whose nodes are, with the arguments of its root where it is merged.
+-- A root that is a node of the book; and an interface whose nodes are, with the arguments of main's actor where it is merged.
 pub record RootIn (ns roots : List ℕ) (root : ℕ) : Type 0 where
   pub rooted : Rooted ns roots
-  pub node : (root ≡ 65535 → ⊥) → root < rooted.count
+  pub node : root < rooted.count
 
 pub record InterfaceIn (ns roots : List ℕ) (i : Interface) : Type 0 where
   pub rooted : Rooted ns roots
   pub nodes : InterfaceNodes ns rooted.count i
-  pub arguments : i.merged ≡ true → ArgumentsAs ns rooted.count (actor_at ns i.root) i.from i.until
+  pub arguments : (m : IsMerged i.actor) → ArgumentsAs ns rooted.count (tree_of ns m.0) i.from i.until

@@ -2,7 +2,7 @@
 // leads to. The rows of a type are scanned in order, and only a name that is new is gone into.
 ghost use Rattle.std.specs.Prelude.{◌≡◌, ◌+◌, ◌≤◌};
 ghost use Rattle.format.specs.Layout.{siblings};
-ghost use Rattle.format.specs.Whole.{actor_at};
+ghost use Rattle.format.specs.Whole.{tree_at};
 ghost use Rattle.syntax.specs.Interfaces.{interface_tree};
 ghost use Rattle.analysis.specs.Book.{Readable};
 ghost use Rattle.analysis.specs.Walking.{Started, ChasedAs, is_new, Scanned, NextNew, Counted, NothingMet, WalkedAs, RootIn, InterfaceIn};
@@ -13,7 +13,7 @@ use book::read::{Entry, Node};
 use book::tables::Flags;
 use format::Limits;
 use refusals::Refusal;
-use syntax::interface::Interface;
+use syntax::interface::{Actor, Interface};
 
 // How far a walk has come: a mark for each name seen, and the names listed so far, of which there are no more than definitions.
 #[derive(Drop)]
@@ -111,17 +111,13 @@ pub fn chase_types(rows: &[u8], roots: &[u16], from: usize, until: usize) -> Res
     chase(rows, roots, from, until, Walk::new())
 }
 
-// An actor as written, where there is one. A second caller would keep the compiler from inlining it, and the list pay a copy of the walk.
-fn chase_written(rows: &[u8], roots: &[u16], root: u16) -> Result<Walk, Refusal>
+// An actor as written. A second caller would keep the compiler from inlining it, and the list pay a copy of the walk.
+fn chase_written(rows: &[u8], roots: &[u16], root: usize) -> Result<Walk, Refusal>
     requires { RootIn rows.now roots.now root × Counted rows.now roots.now }
-    ensures { WalkedAs rows.now roots.now (actor_at rows.now root) result }
+    ensures { WalkedAs rows.now roots.now (tree_at rows.now root) result }
 {
-    if root == Entry::NO_ROOT {
-        return Ok(Walk::new());
-    }
-    let n = root as usize;
-    let t = Node::at(rows, n);
-    chase_types(rows, roots, n, n + t.size)
+    let t = Node::at(rows, root);
+    chase_types(rows, roots, root, root + t.size)
 }
 
 // `chase_actor`. A merged actor: main's arguments, and then the methods of each service.
@@ -129,8 +125,10 @@ pub fn chase_actor(rows: &[u8], roots: &[u16], interface: Interface) -> Result<W
     requires { InterfaceIn rows.now roots.now interface × Counted rows.now roots.now }
     ensures { WalkedAs rows.now roots.now (interface_tree rows.now interface) result }
 {
-    if !interface.merged {
-        return chase_written(rows, roots, interface.root);
+    match interface.actor {
+        Actor::Absent => return Ok(Walk::new()),
+        Actor::Written(root) => return chase_written(rows, roots, root),
+        Actor::Merged(_) => {}
     }
     let mut walk = chase_types(rows, roots, interface.from, interface.until)?;
     for s in interface.services.as_slice() {

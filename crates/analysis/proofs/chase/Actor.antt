@@ -10,7 +10,7 @@ use Prim.Native.Nat.{ℕ, suc, ◌+◌, ◌≤◌, ◌<◌}
 use native.Mathlib.Numerals.{add-one}
 use native.Mathlib.Omega.{arith}
 use lib.Dec.{eqb}
-use Rattle.std.proofs.Common.{length, get_or, drop, replicate, drop-cons, Result, Ok, Err}
+use Rattle.std.proofs.Common.{length, get_or, drop, replicate, drop-cons, Option, Result, Ok, Err}
 use Rattle.std.proofs.lemmas.List.Elements.{All-same, All-get_or}
 use lib.ListN.{length-replicate}
 use lib.Seq.{drop-length}
@@ -20,9 +20,8 @@ use Rattle.format.specs.Node.{Kind, PrimT, VarT, OptT, VecT, RecordT, VariantT, 
 use Rattle.format.specs.Book.{Definition}
 use Rattle.format.specs.Encode.{Row}
 use Rattle.format.specs.Layout.{row_at, siblings}
-use Rattle.format.specs.Whole.{WholeAt, actor_at}
+use Rattle.format.specs.Whole.{WholeAt, tree_at}
 use Rattle.format.proofs.References.{everywhere}
-use Rattle.format.proofs.Stored.{actor-some}
 use Rattle.judgement.specs.Environment.{kids_of}
 use Rattle.judgement.specs.Actor.{is_class, all_but_last, class_arguments, service_of, class_of, merged_of}
 use Rattle.judgement.specs.Check.{member}
@@ -30,7 +29,9 @@ use Rattle.format.specs.Distinct.{none}
 use Rattle.book.specs.Tables.{no_flags, is_set}
 use Rattle.syntax.specs.declared.interface.Interface.{Interface}
 use Rattle.environment.specs.Tables.{Binds}
-use Rattle.syntax.specs.Interfaces.{IsService, methods_in, interface_tree}
+use Rattle.syntax.specs.declared.interface.Actor.TheVariants.{Absent, Written}
+use Rattle.syntax.specs.Classes.{tree_of}
+use Rattle.syntax.specs.Interfaces.{IsService, methods_in, IsMerged, main_of, actor_tree, interface_tree}
 use Rattle.syntax.proofs.Stored.{tree-kids}
 use Rattle.listing.specs.Chase.{Walk as State, going, unbound, arm, chase, visit, chase_types}
 use Rattle.analysis.specs.declared.chase.Walk.{Walk}
@@ -124,8 +125,8 @@ module _ (f : ℕ → State → State) where
       go false = refl
 
 -- ---- a node of the book
-pub written-is : (ns : List ℕ) {n : ℕ} (q : Row) → q ≡ row_at ns n → (n ≡ 65535 → ⊥) → siblings ns n (n + q.size) ≡ actor_at ns n
-written-is ns {n} q is s = ap (λ (r : Row). siblings ns n (n + r.size)) is ∙ sym (actor-some ns n s)
+pub written-is : (ns : List ℕ) (n : ℕ) (q : Row) → q ≡ row_at ns n → siblings ns n (n + q.size) ≡ tree_at ns n
+written-is ns n q is = ap (λ (r : Row). siblings ns n (n + r.size)) is
 
 -- ---- The loop over services: those that are left lead where all of them do
 abbrev pub over_services : List ℕ → List Definition → List ℕ → State → State
@@ -135,54 +136,59 @@ none-over : (ns : List ℕ) (ds : List Definition) (s : State) → over_services
 unfolding methods_in chase
 none-over ns ds s = refl
 
-pub record ServiceCome (ns : List ℕ) (ds : List Definition) (root : ℕ) (services : List ℕ) (v : Walk) (k : ℕ) : Type 0 where
+pub record ServiceCome (ns : List ℕ) (ds : List Definition) (main : Option ℕ) (services : List ℕ) (v : Walk) (k : ℕ) : Type 0 where
   pub seen : List ℕ
   pub out : List ℕ
   pub goes : Goes ds 0 seen out v
-  pub same : over_services ns ds (drop k services) (going seen out) ≡ over_services ns ds services (chase_types ds (class_arguments (actor_at ns root)))
+  pub same : over_services ns ds (drop k services) (going seen out) ≡ over_services ns ds services (chase_types ds (class_arguments (tree_of ns main)))
 
 -- The interface is merged, and these are its services.
 pub record MergedAs (a : Interface) (services : List ℕ) : Type 0 where
-  pub merged : a.merged ≡ true
+  pub merged : IsMerged a.actor
   pub are : services ≡ a.services
 
 pub record ServicesLeft (ns roots : List ℕ) (a : Interface) (services : List ℕ) (v : Walk) (k : ℕ) : Type 0 where
   pub interface : MergedAs a services
   pub passed : k ≤ length services
-  pub come : (ds : List Definition) → Binds ns roots ds → length ds ≤ 512 → ServiceCome ns ds a.root services v k
+  pub come : (ds : List Definition) → Binds ns roots ds → length ds ≤ 512 → ServiceCome ns ds interface.merged.0 services v k
 
-pub actor-written : {ns roots : List ℕ} → Counted ns roots → (a : Interface) → a.merged ≡ false → (r : Result Walk Refusal) → WalkedAs ns roots (actor_at ns a.root) r → WalkedAs ns roots (interface_tree ns a) r
-unfolding interface_tree
+pub actor-absent : {ns roots : List ℕ} → Counted ns roots → (a : Interface) → a.actor ≡ Absent → {w : Walk} → NothingMet w → WalkedAs ns roots (interface_tree ns a) (Ok w)
+unfolding actor_tree
+actor-absent {ns} t a m {w} n = fresh-none t (interface_tree ns a) (rw m refl) w n
+
+pub actor-written : {ns roots : List ℕ} → Counted ns roots → (a : Interface) {root : ℕ} → a.actor ≡ Written root → (r : Result Walk Refusal) →
+    WalkedAs ns roots (tree_at ns root) r → WalkedAs ns roots (interface_tree ns a) r
+unfolding actor_tree
 actor-written t a m r h = rw m h
 
 module _ {ns roots : List ℕ} (t : Counted ns roots) {a : Interface} {services : List ℕ} where
   -- from the services to the interface
-  actor-over : MergedAs a services → (r : Result Walk Refusal) →
-      ((ds : List Definition) → Binds ns roots ds → length ds ≤ 512 → Holds ds (over_services ns ds services (chase_types ds (class_arguments (actor_at ns a.root)))) r) →
+  actor-over : (m : MergedAs a services) → (r : Result Walk Refusal) →
+      ((ds : List Definition) → Binds ns roots ds → length ds ≤ 512 → Holds ds (over_services ns ds services (chase_types ds (class_arguments (tree_of ns m.merged.0)))) r) →
       WalkedAs ns roots (interface_tree ns a) r
-  unfolding interface_tree chase_types
+  unfolding actor_tree chase_types
   actor-over m r h ds b few =
-      rw m.merged
+      rw m.merged.1
       (subst (λ (s : State). Holds ds s r)
-      (ap (λ (l : List ℕ). over_services ns ds l (chase_types ds (class_arguments (actor_at ns a.root)))) m.are
-      ∙ sym (merged-chase (visit (fuel ds) ds) (actor_at ns a.root) (methods_in ns a.services) (going [] [])))
+      (ap (λ (l : List ℕ). over_services ns ds l (chase_types ds (class_arguments (tree_of ns m.merged.0)))) m.are
+      ∙ sym (merged-chase (visit (fuel ds) ds) (tree_of ns m.merged.0) (methods_in ns a.services) (going [] [])))
       (h ds b few))
 
   -- the class's arguments stop it
-  pub arguments-stop : MergedAs a services → {f : Forest Node} → f ≡ class_arguments (actor_at ns a.root) → (why : Refusal) → WalkedAs ns roots f (Err why) →
+  pub arguments-stop : (m : MergedAs a services) → {f : Forest Node} → f ≡ class_arguments (tree_of ns m.merged.0) → (why : Refusal) → WalkedAs ns roots f (Err why) →
       WalkedAs ns roots (interface_tree ns a) (Err why)
   arguments-stop m e why h =
       actor-over m (Err why) λ ds b few.
-      holds-on ds (fuel ds) (methods_in ns services) (chase_types ds (class_arguments (actor_at ns a.root))) why (walked-same t (Err why) e h ds b few)
+      holds-on ds (fuel ds) (methods_in ns services) (chase_types ds (class_arguments (tree_of ns m.merged.0))) why (walked-same t (Err why) e h ds b few)
 
-  pub services-start : MergedAs a services → {f : Forest Node} → f ≡ class_arguments (actor_at ns a.root) → (v : Walk) → WalkedAs ns roots f (Ok v) →
+  pub services-start : (m : MergedAs a services) → {f : Forest Node} → f ≡ class_arguments (tree_of ns m.merged.0) → (v : Walk) → WalkedAs ns roots f (Ok v) →
       ServicesLeft ns roots a services v 0
   services-start m e v h =
       record {
         interface = m;
         passed = omega arith;
         come = λ ds b few.
-            let g = holds-going ds (chase_types ds (class_arguments (actor_at ns a.root))) v (walked-same t (Ok v) e h ds b few) in
+            let g = holds-going ds (chase_types ds (class_arguments (tree_of ns m.merged.0))) v (walked-same t (Ok v) e h ds b few) in
             record { seen = g.seen; out = g.out; goes = g.goes; same = ap (over_services ns ds services) (sym g.is) };
       }
 
@@ -244,8 +250,9 @@ module _ {ns roots : List ℕ} (t : Counted ns roots) {a : Interface} {services 
             subst (λ (z : State). Holds ds z (Err why)) (sym (opens ds (going y.seen y.out)) ∙ y.same)
             (holds-on ds (fuel ds) (methods_in ns (drop (k + 1) services)) x why (c ds y.seen y.out b few y.goes))
 
-pub interface-root : {ns roots : List ℕ} {i : Interface} → InterfaceIn ns roots i → RootIn ns roots i.root
-interface-root s = record { rooted = s.rooted; node = s.nodes.root }
+pub interface-root : {ns roots : List ℕ} {i : Interface} → InterfaceIn ns roots i → {root : ℕ} → i.actor ≡ Written root → RootIn ns roots root
+unfolding main_of
+interface-root s m = record { rooted = s.rooted; node = rw m at s.nodes.main }
 
-pub interface-arguments : {ns roots : List ℕ} {i : Interface} (s : InterfaceIn ns roots i) → i.merged ≡ true → Readable ns roots i.from i.until
+pub interface-arguments : {ns roots : List ℕ} {i : Interface} (s : InterfaceIn ns roots i) → IsMerged i.actor → Readable ns roots i.from i.until
 interface-arguments s m = record { rooted = s.rooted; whole = (s.arguments m).whole; inside = (s.arguments m).inside }

@@ -3,27 +3,30 @@ use mathlib.Core.Path.{refl, ap}
 use Rattle.std.proofs.Common.{◌≡◌, Err, rules}
 use Rattle.format.specs.Encode.{Row}
 use Rattle.analysis.proofs.BookNodes.{here-whole, kids-readable}
-use Rattle.analysis.proofs.chase.Actor.{MergedAs, actor-written, interface-root, interface-arguments, service-in, arguments-stop, services-start, services-started, services-on, services-stop, services-over}
+use Rattle.analysis.proofs.chase.Actor.{MergedAs, actor-absent, actor-written, interface-root, interface-arguments, service-in, arguments-stop, services-start, services-started, services-on, services-stop, services-over}
 use Rattle.analysis.proofs.chase.chase_actor.Goals as goal
 
-pub chase_written-requires : goal.chase_written-requires
-chase_written-requires c = (interface-root c.requires.0, c.requires.1)
+pub returns-in-Absent : goal.returns-in-Absent
+returns-in-Absent c = actor-absent c.requires.1 c.args.interface c.in-Absent.is c.new.ensures
 
-pub returns-then-not-interface : goal.returns-then-not-interface
-returns-then-not-interface c = actor-written c.requires.1 _ c.if-not-interface.true _ c.chase_written.ensures
+pub chase_written-requires : goal.chase_written-requires
+chase_written-requires c = (interface-root c.requires.0 c.in-Written.is, c.requires.1)
+
+pub returns-in-Written : goal.returns-in-Written
+returns-in-Written c = actor-written c.requires.1 c.args.interface c.in-Written.is _ c.chase_written.ensures
 
 pub chase_types-requires : goal.chase_types-requires
-chase_types-requires c = (interface-arguments c.requires.0 c.if-not-interface.false, c.requires.1)
+chase_types-requires c = (interface-arguments c.requires.0 (_, c.in-Merged.is), c.requires.1)
 
 pub returns-in_err-walk : goal.returns-in_err-walk
 returns-in_err-walk c =
-    let m : MergedAs c.args.interface c.args.interface.services = record { merged = c.if-not-interface.false; are = refl } in
+    let m : MergedAs c.args.interface c.args.interface.services = record { merged = (_, c.in-Merged.is); are = refl } in
     let e : c.from_residual.result ≡ Err c.in_err-walk.field-0.0 = search rules in
     rw e (arguments-stop c.requires.1 m (c.requires.0.arguments m.merged).are _ c.in_err-walk.ensures)
 
 pub loop-s-init : goal.loop-s-init
 loop-s-init c =
-    let m : MergedAs c.args.interface _ = record { merged = c.if-not-interface.false; are = c.as_slice-s-items.ensures.all } in
+    let m : MergedAs c.args.interface _ = record { merged = (_, c.in-Merged.is); are = c.as_slice-s-items.ensures.all } in
     services-start c.requires.1 m (c.requires.0.arguments m.merged).are _ c.in_ok-walk.ensures
 
 pub chase-requires : goal.chase-requires
