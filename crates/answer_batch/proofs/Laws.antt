@@ -1,10 +1,13 @@
 -- What functions inside the crates ask, of an admitted book and of one that passed. Assumes nothing.
 --     definition-within, body-inside     a definition's entry, and the root of its body
 --     main-within, body-ended, ..        of a passed book: its bodies and its actor, with the table of alias ends
-use mathlib.Core.Path.{◌≡◌, ap}
+use mathlib.Core.Path.{◌≡◌, sym, ap}
 use mathlib.Core.List.{List}
 use Prim.Native.Nat.{ℕ, ◌+◌, ◌≤◌, ◌<◌}
 use native.Mathlib.Omega.{arith}
+use Rattle.std.specs.Prelude.{Some}
+use Rattle.format.specs.Forest.{count}
+use Rattle.format.specs.Book.{trees}
 use Rattle.format.specs.Encode as stored
 use Rattle.format.specs.Layout.{entry_at, nodes_part, definitions_part}
 use Rattle.book.specs.declared.kinds.Contents.{Contents}
@@ -15,6 +18,7 @@ use Rattle.environment.specs.Tables.{Ended}
 use Rattle.environment.specs.Trees.{AllTrees}
 use Rattle.syntax.specs.declared.class.Top.{Top}
 use Rattle.syntax.specs.Classes.{TopAs}
+use Rattle.syntax.specs.Interfaces.{main_of}
 use Rattle.syntax.proofs.Book.{entries-held, entries-of}
 use Rattle.syntax.proofs.actor.AsWritten.{below-ended}
 use Rattle.typing.specs.declared.prog.Passed.{Passed}
@@ -46,10 +50,13 @@ module _ {bs roots ends' : List ℕ} {p : Passed} (b : PassedBook bs roots ends'
       }
 
   -- the actor
-  pub actor-trees : (names nodes : ℕ) × AllTrees (nodes_part bs) names nodes × ((p.interface.root ≡ 65535 → ⊥) → p.interface.root < nodes)
-  actor-trees = (_, _, b.passed.all, b.passed.nodes.root)
+  module _ {root : ℕ} (h : Some root ≡ main_of p.interface.actor) where
+    actor-inside : root < count (trees b.admitted.book)
+    actor-inside = rw (sym h) at b.passed.nodes.main
 
-  pub actor-ended : (p.interface.root ≡ 65535 → ⊥) → {top : Top} →
-      ((names nodes : ℕ) → AllTrees (nodes_part bs) names nodes → ((p.interface.root ≡ 65535 → ⊥) → p.interface.root < nodes) → TopAs (nodes_part bs) nodes p.interface.root top) →
-      Ended (nodes_part bs) ends' top.below
-  actor-ended some t = below-ended b.passed.all b.passed.checked.ended (t _ _ b.passed.all b.passed.nodes.root) some (b.passed.nodes.root some)
+    pub actor-trees : (names nodes : ℕ) × AllTrees (nodes_part bs) names nodes × (root < nodes)
+    actor-trees = (_, _, b.passed.all, actor-inside)
+
+    pub actor-ended : {top : Top} → ((names nodes : ℕ) → AllTrees (nodes_part bs) names nodes → root < nodes → TopAs (nodes_part bs) nodes root top) →
+        Ended (nodes_part bs) ends' top.below
+    actor-ended t = below-ended b.passed.all b.passed.checked.ended (t _ _ b.passed.all actor-inside) actor-inside

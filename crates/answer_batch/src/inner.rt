@@ -90,7 +90,7 @@ fn say_lookups(lines: Lines, book: &CheckedBook)
 {
     let c = book.passed.contents;
     let main = book.passed.main;
-    let root = book.passed.interface.root;
+    let root = book.passed.interface.main();
     let definitions = c.definitions(book.bytes);
     let rows = c.nodes(book.bytes);
     lines.count(b"given ", main);
@@ -100,8 +100,8 @@ fn say_lookups(lines: Lines, book: &CheckedBook)
         let service = environment::as_service(rows, book.ends, node);
         print_found(lines, function, service);
     }
-    if root != Entry::NO_ROOT {
-        let top = syntax::class::top_of(rows, root);
+    if let Some(n) = root {
+        let top = syntax::class::top_of(rows, n);
         print_actor(lines, environment::as_service(rows, book.ends, top.below));
     }
     lines.write(b"\n");

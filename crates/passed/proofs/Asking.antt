@@ -5,10 +5,9 @@
 --     handed-refused, handed-as, ..  what is handed over then
 --     init-stops, init-goes          the init check
 use mathlib.Core.Path.{◌≡◌, sym, ap, subst, ◌∙◌}
-use mathlib.Core.Bool.{Bool, true, false, not, ◌||◌}
+use mathlib.Core.Bool.{Bool, true, false}
 use mathlib.Core.List.{List}
 use Prim.Native.Nat.{ℕ}
-use lib.Dec.{eqb}
 use Rattle.refusals.specs.declared.Refusal.{Refusal}
 use Rattle.refusals.specs.declared.Refusal.TheVariants.{NoActor}
 use Rattle.std.specs.Prelude.{Result, Ok, Err, IfOk}
@@ -26,6 +25,7 @@ use Rattle.admission.specs.Admitting.{admission_of}
 use Rattle.admission.proofs.Admitting.{admission-refuses, admission-gives}
 use Rattle.judgement.specs.Resolve.{resolve_actor}
 use Rattle.judgement.specs.Check.{check, check_bytes, init_check, init_check_bytes}
+use Rattle.syntax.specs.Interfaces.{is_present}
 use Rattle.typing.specs.declared.prog.Passed.{Passed}
 use Rattle.typing.specs.Passing.{PassedAs, FoundAs}
 use Rattle.typing.proofs.prog.Book.{no-actor, some-actor}
@@ -63,7 +63,7 @@ module _ (bs : Source) (roots ends' : List ℕ) where
 
 -- ---- 17
 module _ {bs : List ℕ} {c : Contents} {a : Admitted bs c} {roots ends' : List ℕ} {p : Passed} (x : PassedAs a roots ends' p) {has : Bool}
-    (is : has ≡ (p.interface.merged || not (eqb p.interface.root 65535))) {A : Type 0} (o : Outcome A) where
+    (is : has ≡ is_present p.interface.actor) {A : Type 0} (o : Outcome A) where
   pub lacks-actor : has ≡ false → after (and_then (check a.book) (needs_actor (resolve_actor a.book))) o ≡ refused NoActor
   lacks-actor f = rooms.actor-lacks a.book o x.passed (no-actor x is f)
 

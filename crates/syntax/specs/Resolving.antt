@@ -1,5 +1,5 @@
 -- What resolving the actor of a book asks and says. Definitions; assumes nothing.
-use Rattle.std.specs.Prelude.{◌≡◌, true, cond, List, Option, ℕ, ◌≤◌, eqb, length, All, Result, Ok, Err, IfOk}
+use Rattle.std.specs.Prelude.{◌≡◌, cond, List, Option, ℕ, ◌≤◌, eqb, length, All, Result, Ok, Err, IfOk}
 use Rattle.format.specs.Forest.{Forest, beside}
 use Rattle.format.specs.Node.{Node}
 use Rattle.format.specs.Book.{Definition, File}

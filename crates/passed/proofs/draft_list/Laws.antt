@@ -15,7 +15,7 @@ use Rattle.refusals.specs.Outcome.{refused, after}
 use Rattle.format.specs.Forest.{count, no_trees}
 use Rattle.format.specs.Book.{Definition, Book, trees}
 use Rattle.format.specs.Layout.{entry_at, nodes_part, definitions_part, files_part}
-use Rattle.format.specs.Whole.{definition_at, actor_at}
+use Rattle.format.specs.Whole.{definition_at, tree_at, actor_at}
 use Rattle.format.proofs.Admitted.{trees-whole}
 use Rattle.format.proofs.Stored.{tree-opens, actor-none, actor-some}
 use Rattle.book.specs.declared.kinds.Contents.{Contents}
@@ -77,9 +77,9 @@ module _ {bs : List ℕ} {c : Contents} (a : Admitted bs c) where
 
     pub root-in : {roots : List ℕ} → Roots roots (count (trees b)) → RootIn rows roots root
     root-in bound =
-        record { rooted = record { names = length b.names; count = count (trees b); all = book-trees; bound = bound }; node = λ h. root-inside }
+        record { rooted = record { names = length b.names; count = count (trees b); all = book-trees; bound = bound }; node = root-inside }
 
-    draft-goes : (v : Verdict) → v ≡ once_verdict [] (draft_definitions b) → draft_list b ≡ after v (walked (chase_types (draft_definitions b) (actor_at rows root)))
+    draft-goes : (v : Verdict) → v ≡ once_verdict [] (draft_definitions b) → draft_list b ≡ after v (walked (chase_types (draft_definitions b) (tree_at rows root)))
     unfolding draft_list after needs_actor no_trees
     draft-goes v e =
         rw (main-is m.is, actor-some rows root m.some, tree-opens (book-trees.nodes.tree root root-inside).whole, e)
@@ -138,9 +138,9 @@ module _ {bs : List ℕ} {c : Contents} (a : Admitted bs c) where
             pub written : RootIn ns roots root × Counted ns roots
             written = rw nodes-here (root-in passed.table, walks.counted (draft_definitions b) bound few)
 
-            module _ (w : Result Walk Refusal) (x : WalkedAs ns roots (actor_at ns root) w) where
-              pub draft-walks : Walks rows roots (draft_definitions b) (actor_at rows root) w
-              draft-walks = record { binds = bound; few = few; comes = subst (λ (l : List ℕ). WalkedAs l roots (actor_at l root) w) nodes-here x }
+            module _ (w : Result Walk Refusal) (x : WalkedAs ns roots (tree_at ns root) w) where
+              pub draft-walks : Walks rows roots (draft_definitions b) (tree_at rows root) w
+              draft-walks = record { binds = bound; few = few; comes = subst (λ (l : List ℕ). WalkedAs l roots (tree_at l root) w) nodes-here x }
 
               pub draft-says : draft_list b ≡ walk_outcome w
               unfolding after

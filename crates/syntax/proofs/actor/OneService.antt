@@ -19,7 +19,7 @@ use Rattle.format.proofs.Trees.{beside-end}
 use Rattle.format.proofs.Stored.{tree-opens}
 use Rattle.refusals.specs.declared.Refusal.{Refusal}
 use Rattle.refusals.specs.declared.Refusal as refusal
-use Rattle.refusals.specs.Verdict.{Verdict, passes, unless}
+use Rattle.refusals.specs.Verdict.{Verdict, unless}
 use Rattle.judgement.specs.Environment.{head, kids_of}
 use Rattle.judgement.specs.Aliases.{ends, chain, chain_from, alias_end, alias_length, methods_at}
 use Rattle.judgement.specs.Actor.{is_class, below_class}

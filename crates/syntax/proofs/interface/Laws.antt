@@ -3,7 +3,7 @@
 --     tree-root                                a tree by its stored root
 --     tree-absent, tree-merged, ..             whether there is an actor
 --     interface-as                             what an actor offers that is a service below its top
-use mathlib.Core.Path.{◌≡◌, refl, sym, ap, ◌∙◌}
+use mathlib.Core.Path.{◌≡◌, refl, sym, ap}
 use mathlib.Core.Bool.{Bool, true, false, cond, false≢true}
 use mathlib.Core.List.{List}
 use Prim.Native.Nat.{ℕ}

@@ -2,12 +2,11 @@
 --     fits, few, tabled          what the book gives by its bytes, and the tables of it
 --     names-are, nodes-are       its contents
 --     no-actor, some-actor        17
-use mathlib.Core.Path.{◌≡◌, refl, sym, ap, ◌∙◌}
-use mathlib.Core.Bool.{Bool, true, false, not, ◌||◌, false≢true}
+use mathlib.Core.Path.{◌≡◌, sym, ap, ◌∙◌}
+use mathlib.Core.Bool.{Bool, true, false}
 use mathlib.Core.List.{List}
 use Prim.Native.Nat.{ℕ, ◌≤◌}
 use native.Mathlib.Omega.{arith}
-use lib.Dec.{eqb, eqb→eq}
 use lib.ListN.{length}
 use Rattle.format.specs.Forest.{end, count}
 use Rattle.format.specs.Book.{trees}

@@ -14,4 +14,8 @@ pub as_service-service-requires : goal.as_service-service-requires
 as_service-service-requires c = rw c.nodes-rows.ensures (body-ended c.requires c.loop-d-test.true (rw c.definitions-definitions.ensures at c.at-node.ensures))
 
 pub top_of-top-requires : goal.top_of-top-requires
-top_of-top-requires c = rw c.nodes-rows.ensures (actor-trees c.requires)
+top_of-top-requires c = rw c.nodes-rows.ensures (actor-trees c.requires (sym c.in-Some.is ∙ c.main-root.ensures))
+
+pub as_service-requires : goal.as_service-requires
+as_service-requires c =
+    rw c.nodes-rows.ensures (actor-ended c.requires (sym c.in-Some.is ∙ c.main-root.ensures) (rw c.nodes-rows.ensures at c.top_of-top.ensures))

@@ -1,9 +1,8 @@
 -- `CheckedBook::list` meets its contract. Assumes nothing.
 use mathlib.Core.Path.{◌≡◌, sym, ap, ◌∙◌, subst}
-use mathlib.Core.Bool.{Bool, true, false, not, ◌||◌}
+use mathlib.Core.Bool.{Bool, true, false}
 use mathlib.Core.List.{List}
 use Prim.Native.Nat.{ℕ}
-use lib.Dec.{eqb}
 use native.Mathlib.Omega.{arith}
 use Prim.Native.Nat.{◌≤◌}
 use lib.ListN.{length}
@@ -17,7 +16,7 @@ use Rattle.book.specs.Reading.{Admitted}
 use Rattle.judgement.specs.Environment.{main_definitions}
 use Rattle.judgement.specs.Actor.{class_arguments}
 use Rattle.typing.specs.declared.prog.Passed.{Passed}
-use Rattle.syntax.specs.Interfaces.{interface_tree}
+use Rattle.syntax.specs.Interfaces.{interface_tree, is_present}
 use Rattle.typing.specs.Passing.{PassedAs}
 use Rattle.syntax.proofs.interface.Laws.{tree-merged, tree-arguments}
 use Rattle.typing.proofs.prog.Book.{tabled, few}
@@ -41,8 +40,8 @@ module _ {bs : List ℕ} {c : Contents} {a : Admitted bs c} {roots ends' : List 
     rooted = record { names = _; count = _; all = x.all; bound = x.checked.table };
     nodes = x.nodes;
     arguments = λ m.
-        let y = (x.offers (λ e. tree-merged (nodes_part bs) p.interface m (x.tree ∙ e))).arguments in
-        record { whole = y.whole; inside = y.inside; are = y.are ∙ ap class_arguments (sym x.tree) ∙ tree-arguments (nodes_part bs) p.interface m };
+        let y = (x.offers (λ e. tree-merged (nodes_part bs) p.interface.services m.1 (x.tree ∙ e))).arguments in
+        record { whole = y.whole; inside = y.inside; are = y.are ∙ ap class_arguments (sym x.tree) ∙ tree-arguments (nodes_part bs) p.interface.services m.1 };
   }
 
   few-definitions : length (main_definitions a.book) ≤ 512
@@ -51,7 +50,7 @@ module _ {bs : List ℕ} {c : Contents} {a : Admitted bs c} {roots ends' : List 
   counted : Counted (nodes_part bs) roots
   counted = walks.counted (main_definitions a.book) (tabled x).0 few-definitions
 
-  module _ {has : Bool} (is : has ≡ (p.interface.merged || not (eqb p.interface.root 65535))) where
+  module _ {has : Bool} (is : has ≡ is_present p.interface.actor) where
     list-lacks : has ≡ false → list a.book ≡ refused NoActor
     unfolding list
     list-lacks f = lacks-actor x is _ f

@@ -1,9 +1,8 @@
 -- `CheckedBook::project` meets its contract. Assumes nothing.
 use mathlib.Core.Path.{◌≡◌, subst}
-use mathlib.Core.Bool.{Bool, true, false, not, ◌||◌}
+use mathlib.Core.Bool.{Bool, true, false}
 use mathlib.Core.List.{List}
 use Prim.Native.Nat.{ℕ}
-use lib.Dec.{eqb}
 use Rattle.refusals.specs.declared.Refusal.TheVariants.{NoActor}
 use Rattle.refusals.specs.Outcome.{refused}
 use Rattle.refusals.specs.Handed.{Answer, HandedAs}
@@ -12,7 +11,7 @@ use Rattle.book.specs.declared.kinds.Contents.{Contents}
 use Rattle.book.specs.Reading.{Admitted}
 use Rattle.typing.specs.declared.prog.Passed.{Passed}
 use Rattle.typing.specs.Passing.{PassedAs}
-use Rattle.syntax.specs.Interfaces.{methods_in}
+use Rattle.syntax.specs.Interfaces.{methods_in, is_present}
 use Rattle.typing.proofs.prog.Book.{some-actor}
 use Rattle.listing.specs.Project.{project_from, projected, project}
 use Rattle.analysis.specs.Projecting.{Services}
@@ -22,7 +21,7 @@ use Rattle.passed.proofs.CheckedBook.project.Goals as goal
 
 -- ---- The projection of a book that passed, as the code has it
 module _ {bs : List ℕ} {c : Contents} {a : Admitted bs c} {roots ends' : List ℕ} {p : Passed} (x : PassedAs a roots ends' p)
-    {has : Bool} (is : has ≡ (p.interface.merged || not (eqb p.interface.root 65535))) where
+    {has : Bool} (is : has ≡ is_present p.interface.actor) where
   project-lacks : (l : List ℕ) → has ≡ false → project a.book l ≡ refused NoActor
   unfolding project
   project-lacks l f = lacks-actor x is _ f

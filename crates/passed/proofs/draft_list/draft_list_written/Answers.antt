@@ -27,29 +27,29 @@ returns-in_err-enter c =
 pub at-t-requires : goal.at-t-requires
 at-t-requires c =
     let ready = written c.requires.0 c.requires.1 c.definitions-entries.ensures c.own_definitions-own.ensures c.enter.ensures c.in_ok-enter.was c.nodes-rows.ensures in
-    here-within ready.0.rooted (ready.0.node c.requires.1.some)
+    here-within ready.0.rooted ready.0.node
 
 pub overflow_add-n : goal.overflow_add-n
 overflow_add-n c =
     let ready = written c.requires.0 c.requires.1 c.definitions-entries.ensures c.own_definitions-own.ensures c.enter.ensures c.in_ok-enter.was c.nodes-rows.ensures in
-    omega (arith, here-small ready.0.rooted (ready.0.node c.requires.1.some) (ap (λ (q : Row). q.size) c.at-t.ensures))
+    omega (arith, here-small ready.0.rooted ready.0.node (ap (λ (q : Row). q.size) c.at-t.ensures))
 
 pub chase_types-requires : goal.chase_types-requires
 chase_types-requires c =
     let ready = written c.requires.0 c.requires.1 c.definitions-entries.ensures c.own_definitions-own.ensures c.enter.ensures c.in_ok-enter.was c.nodes-rows.ensures in
-    (here-readable ready.0.rooted (ready.0.node c.requires.1.some) (ap (λ (q : Row). q.size) c.at-t.ensures), ready.1)
+    (here-readable ready.0.rooted ready.0.node (ap (λ (q : Row). q.size) c.at-t.ensures), ready.1)
 
 pub returns-in_err-w : goal.returns-in_err-w
 returns-in_err-w c =
     let ready = written c.requires.0 c.requires.1 c.definitions-entries.ensures c.own_definitions-own.ensures c.enter.ensures c.in_ok-enter.was c.nodes-rows.ensures in
     rw (handed-on c.from_residual-in_err-w.result c.from_residual-in_err-w.ensures)
     (λ a. handed-refused _ (draft-says a c.requires.1 c.definitions-entries.ensures c.own_definitions-own.ensures c.enter.ensures c.in_ok-enter.was c.nodes-rows.ensures _
-    (walked-same ready.1 _ (written-is _ _ c.at-t.ensures c.requires.1.some) c.in_err-w.ensures)))
+    (walked-same ready.1 _ (written-is _ _ _ c.at-t.ensures) c.in_err-w.ensures)))
 
 pub returns : goal.returns
 returns c =
     let ready = written c.requires.0 c.requires.1 c.definitions-entries.ensures c.own_definitions-own.ensures c.enter.ensures c.in_ok-enter.was c.nodes-rows.ensures in
     λ a. handed-as
     (draft-says a c.requires.1 c.definitions-entries.ensures c.own_definitions-own.ensures c.enter.ensures c.in_ok-enter.was c.nodes-rows.ensures _
-    (walked-same ready.1 _ (written-is _ _ c.at-t.ensures c.requires.1.some) c.in_ok-w.ensures))
+    (walked-same ready.1 _ (written-is _ _ _ c.at-t.ensures) c.in_ok-w.ensures))
     (rw c.as_slice.ensures.value at c.hand.ensures)
