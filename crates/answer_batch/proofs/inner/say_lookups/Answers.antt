@@ -1,7 +1,8 @@
 -- `say_lookups` is safe: a definition that is not the init file's has a body among the nodes, and so has what stands below main's actor. Assumes
 -- nothing.
+use mathlib.Core.Path.{sym, ◌∙◌}
 use native.Mathlib.Omega.{arith}
-use Rattle.answer_batch.proofs.Laws.{main-within, definition-within, body-ended, actor-trees}
+use Rattle.answer_batch.proofs.Laws.{main-within, definition-within, body-ended, actor-trees, actor-ended}
 use Rattle.answer_batch.proofs.inner.say_lookups.Goals as goal
 
 pub at-node-requires : goal.at-node-requires
