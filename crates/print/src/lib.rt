@@ -3,8 +3,7 @@
 // Every function that is public is total: none asks anything of its caller.
 #![tactic(auto)]
 
-ghost use Rattle.std.specs.Prelude.{◌≡◌, [], ◌∷◌, take, is_some, unwrap_or};
-ghost use Rattle.print.specs.Laid.{Lays, LaysWithin};
+ghost use Rattle.std.specs.Prelude.{◌≡◌, ◌≤◌, [], ◌∷◌, length, take, is_some, unwrap_or};
 ghost use Rattle.print.specs.Quoted.{plain, escape, quoted};
 ghost use Rattle.print.specs.Decimal.{decimal};
 ghost use Rattle.print.specs.Refused.{in_table, name_or_number, named_or_dash, refusal_of};
@@ -30,11 +29,23 @@ fn is_in_table(book: &[u8], number: u16) -> bool
 // `write!`, since std promises what a format writes where it succeeds, and not that it does.
 #[derive(Drop)]
 pub struct Text<'a> {
-    pub out: &'a mut [u8],
-    pub end: usize,
+    out: &'a mut [u8],
+    end: usize,
+    ghost within: { end ≤ length out.now },
 }
 
-impl Text<'_> {
+impl<'a> Text<'a> {
+    ghost use Rattle.print.specs.Laid.{Lays, LaysWithin};
+
+    // Nothing is laid yet: the place is the buffer's front.
+    pub fn new(out: &'a mut [u8]) -> Text<'a>
+        ensures front { result.end ≡ 0 }
+        ensures out { result.out.now ≡ out.old }
+        ensures same { result.out.ghost_name ≡ out.entry.ghost_name }
+    {
+        Text { out, end: 0 }
+    }
+
     // One byte.
     pub fn byte(&mut self, b: u8)
         ensures { Lays (b ∷ []) self.old self.new }
@@ -119,10 +130,18 @@ impl Text<'_> {
         self.byte(b'\n');
     }
 
-    // What was laid, in a buffer that was laid from its front.
+    // What was laid.
     pub fn laid(&self) -> &[u8]
         ensures { result.now ≡ take self.now.end self.now.out.now }
     {
-        self.out.get(..self.end).unwrap_or(self.out)
+        &self.out[..self.end]
+    }
+
+    // The same for as long as the buffer is lent.
+    pub fn into_laid(self) -> &'a [u8]
+        ensures { result.now ≡ take self.entry.end self.entry.out.now }
+    {
+        let Text { out, end } = self;
+        &out[..end]
     }
 }
