@@ -3,7 +3,7 @@
 // Of a file or standard input no contract can say what is read; of a reader whose bytes are known, `fill` says that it was these.
 #![tactic(auto)]
 
-ghost use Rattle.std.specs.Prelude.{IfOk, IfSome};
+ghost use Rattle.std.specs.Prelude.{◌≡◌, length, IfOk, IfSome};
 ghost use Rattle.stdio.specs.Read.{Filled, ReadAs, WrittenAs};
 
 use std::env::{Env, FillError};
@@ -16,18 +16,15 @@ fn reason<'a>(why: &Error, text: &'a mut [u8]) -> &'a [u8] {
     let _ = io::Write::write_fmt(&mut room, why);
     let size = text.iter().position(|b| *b == 0).unwrap_or(text.len());
     let all = &text[..size];
-    match str::from_utf8(all)
+    str::from_utf8(all)
         .ok()
-        .and_then(|said| said.find(" (os error "))
-    {
-        Some(end) => all.get(..end).unwrap_or(all),
-        None => all,
-    }
+        .and_then(|said| said.split_once(" (os error "))
+        .map_or(all, |(said, _)| said.as_bytes())
 }
 
 // Reads until the input ends or the buffer is full. std reads a whole input into a Vec alone, and `read_exact` refuses one that ends before.
-fn fill<S: io::Read>(source: &mut S, buf: &mut [u8]) -> io::Result<usize>
-    ensures { IfOk result (λ n. Filled (S.remaining source.old) (S.remaining source.new) n buf.new) }
+fn fill<'b, S: io::Read>(source: &mut S, buf: &'b mut [u8]) -> io::Result<&'b [u8]>
+    ensures { IfOk result (λ part. Filled (S.remaining source.old) (S.remaining source.new) (length buf.old) part.now) }
 {
     let mut done = 0;
     while done < buf.len() {
@@ -37,7 +34,7 @@ fn fill<S: io::Read>(source: &mut S, buf: &mut [u8]) -> io::Result<usize>
         }
         done += more;
     }
-    Ok(done)
+    Ok(&buf[..done])
 }
 
 // The C library's number of a name that is too long.
@@ -60,47 +57,37 @@ impl Program<'_> {
         let _ = stderr.write_all(b"\n");
     }
 
-    // The line that tells what failed, and why.
-    fn tell_failure(&self, what: &[u8], why: &Error) {
-        let mut text = [0u8; 128];
-        self.tell(&[self.name, b": ", what, b": ", reason(why, &mut text)]);
-    }
-
-    // Reads an open file; `what` is its name in a message.
-    fn read_open<S: io::Read>(&self, what: &[u8], source: &mut S, buf: &mut [u8]) -> Option<usize>
-        ensures { IfSome result (λ n. Filled (S.remaining source.old) (S.remaining source.new) n buf.new) }
+    // What was found, or none where that failed: a line then tells on what, and why.
+    fn or_tell<T>(&self, subject: &[u8], found: io::Result<T>) -> Option<T>
+        ensures { IfSome result (λ x. found ≡ Ok x) }
     {
-        match fill(source, buf) {
-            Ok(size) => Some(size),
+        match found {
+            Ok(x) => Some(x),
             Err(why) => {
-                self.tell_failure(what, &why);
+                let mut text = [0u8; 128];
+                self.tell(&[self.name, b": ", subject, b": ", reason(&why, &mut text)]);
                 None
             }
         }
     }
 
     // Reads the file of this path.
-    fn read_file(&self, path: &[u8], buf: &mut [u8]) -> Option<usize>
-        ensures { ReadAs result buf.new }
+    fn read_file<'b>(&self, path: &[u8], buf: &'b mut [u8]) -> Option<&'b [u8]>
+        ensures { ReadAs result buf.old }
     {
-        let Ok(name) = str::from_utf8(path) else {
-            let why = Error::new(ErrorKind::InvalidFilename, "Not UTF-8");
-            self.tell_failure(path, &why);
-            return None;
-        };
-        match fs::open(self.rt, name) {
-            Ok(mut file) => self.read_open(path, &mut file, buf),
-            Err(why) => {
-                self.tell_failure(path, &why);
-                None
-            }
-        }
+        let text = str::from_utf8(path).map_err(|_| Error::new(
+            ErrorKind::InvalidFilename,
+            "Not UTF-8",
+        ));
+        let name = self.or_tell(path, text)?;
+        let mut file = self.or_tell(path, fs::open(self.rt, name))?;
+        self.or_tell(path, fill(&mut file, buf))
     }
 
-    // Reads the file that the program's argument names, or standard input where there is none: so many bytes at the front of the buffer, which
-    // are all of the input unless the buffer is full. None is a failure, which was told.
-    pub fn read(&self, buf: &mut [u8]) -> Option<usize>
-        ensures { ReadAs result buf.new }
+    // Reads the file that the program's argument names, or standard input where there is none: the part of the buffer that was read into, which is
+    // all of the input unless the buffer is full. None is a failure, which was told.
+    pub fn read<'b>(&self, buf: &'b mut [u8]) -> Option<&'b [u8]>
+        ensures { ReadAs result buf.old }
     {
         if !matches!(self.rt.arg(2, &mut []), Err(FillError::NotPresent)) {
             self.tell(&[b"usage: ", self.name, b" [FILE]"]);
@@ -110,12 +97,11 @@ impl Program<'_> {
         match self.rt.arg(1, &mut path) {
             Ok(size) => self.read_file(&path[..size], buf),
             Err(FillError::NotPresent) => {
-                self.read_open(b"standard input", &mut self.rt.stdin(), buf)
+                self.or_tell(b"standard input", fill(&mut self.rt.stdin(), buf))
             }
             Err(FillError::TooLong) => {
-                let why = Error::from_raw_os_error(ENAMETOOLONG);
-                self.tell_failure(b"the file's name", &why);
-                None
+                let too_long = Error::from_raw_os_error(ENAMETOOLONG);
+                self.or_tell(b"the file's name", Err(too_long))
             }
         }
     }
@@ -124,12 +110,7 @@ impl Program<'_> {
     pub fn write(&self, text: &[u8]) -> Option<usize>
         ensures { WrittenAs result text.now }
     {
-        match self.rt.write_all(text) {
-            Ok(()) => Some(text.len()),
-            Err(why) => {
-                self.tell_failure(b"standard output", &why);
-                None
-            }
-        }
+        self.or_tell(b"standard output", self.rt.write_all(text))?;
+        Some(text.len())
     }
 }
