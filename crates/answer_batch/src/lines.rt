@@ -23,10 +23,7 @@ impl Lines<'_> {
         requires { F.IsAlwaysCallable lay }
     {
         let mut out = [0; ROOM_FOR_PIECE];
-        let mut text = Text {
-            out: &mut out,
-            end: 0,
-        };
+        let mut text = Text::new(&mut out);
         lay(&mut text);
         self.write(text.laid());
     }

@@ -23,12 +23,12 @@ use Rattle.typing.specs.Passing.{PassedBook}
 use Rattle.passed.specs.Stages.{BookPassed}
 use Rattle.passed.proofs.Asking.{stops, answered, handed-as}
 use Rattle.print.specs.declared.Text.{Text}
-use Rattle.print.specs.Laid.{Lays}
-use Rattle.print.proofs.Lays.{nothing, then, alias}
+use Rattle.print.specs.Laid.{Lays, LaysWithin}
+use Rattle.print.proofs.Lays.{nothing, then, alias, within, lays, wider}
 use Rattle.std.specs.Prelude.{nat_eq, Ok, Err}
 use Rattle.std.specs.List.{list_any}
 use Rattle.print.specs.Refused.{refusal_of}
-use Rattle.list.specs.Printed.{heading, mark_of, line, lines, list_in, marks_in, marked_text, listed_text, printed, marks_asked, list_asked}
+use Rattle.list.specs.Printed.{heading, mark_of, line, lines, list_in, marks_in, marked_text, listed_text, printed, marks_asked, list_asked, Prints}
 use Rattle.list.proofs.Answered.{refused-is, given-is}
 
 -- ---- Whether a name is among the marked ones
@@ -75,6 +75,13 @@ full-passed e x = rw e at x
 pub check-refused : (bs : List ℕ) {l : Limits} {why : Refusal} → l ≡ full → check_bytes (bs under l) ≡ Err why → refusal_of bs why ≡ printed bs
 unfolding fit list_in listed_text printed
 check-refused bs e f = rw (stops list (bs under full) list-after (rw e at f))
+
+-- ---- A refusal that is handed on, and its line
+pub prints-none : {bs : List ℕ} {why : Refusal} {t : Text} → refusal_of bs why ≡ printed bs → Prints bs t t (Err why)
+prints-none e = record { all = tt; refused = e; left = nothing _ }
+
+pub prints-line : {bs : List ℕ} {why : Refusal} {a b c : Text} → Prints bs a b (Err why) → LaysWithin 780 (refusal_of bs why) b c → LaysWithin 409600 (printed bs) a c
+prints-line p q = wider (omega arith) p.refused (within q.laid.few (then p.left (lays q)))
 
 -- ---- and by the answers to the questions on a book that passed, which are those on bytes
 module _ {bs roots ends' : List ℕ} {p : Passed} (x : BookPassed (bs under full) roots ends' p) {old new : List ℕ} {r : Answer} where

@@ -1,6 +1,6 @@
 -- How long what is printed can be: at most 512 names are listed, a name has at most 255 bytes, and a byte prints as three at most. Assumes
 -- nothing.
-use mathlib.Core.Path.{◌≡◌, sym, ap}
+use mathlib.Core.Path.{◌≡◌, sym, ap, ◌∙◌}
 use mathlib.Core.List.{List, [], ◌∷◌}
 use Prim.Native.Nat.{ℕ, suc, ◌+◌, ◌*◌, ◌≤◌, ◌<◌}
 use native.Mathlib.Omega.{arith}
@@ -77,7 +77,8 @@ module _ (bs l : List ℕ) {old new : List ℕ} {r : Answer} (h : HandedAs (mark
       within (rw (sym same) (given-length bs l (take count new) f (given-few h n e))) (alias same p)
 
 -- and so is all that is printed.
-pub printed-laid : {text final : List ℕ} {a b : Text} → 409600 ≤ length a.out.now → a.end ≡ 0 → LaysWithin 409600 text a b → final ≡ b.out.now → (take b.end final ≡ text) × (b.end < 409600)
+pub printed-laid : {text part : List ℕ} {a b : Text} → 409600 ≤ length a.out.now → a.end ≡ 0 → LaysWithin 409600 text a b → part ≡ take b.end b.out.now → (part ≡ text) × (length part < 409600)
 printed-laid h e q f =
     let p = rw e at q.laid in
-    rw f (all-before p.laid (omega (arith, p.few)), omega (arith, p.few, p.laid.place))
+    let same = f ∙ all-before p.laid (omega (arith, p.few)) in
+    (same, rw same p.few)

@@ -1,12 +1,15 @@
 -- What is printed for the bytes of a book (document 01, "Listed, marked, refused"), under full limits. Definitions; assumes nothing.
-use Rattle.std.specs.Prelude.{cond, List, [], ◌∷◌, ◌++◌, ℕ, suc, length}
+use Rattle.std.specs.Prelude.{◌≡◌, cond, List, [], ◌∷◌, ◌++◌, ℕ, suc, length, IfErr, OnOk, OnErr}
 use Rattle.format.specs.Layout.{name_in}
 use Rattle.judgement.specs.Check.{member}
+use Rattle.refusals.specs.Verdict.{Verdict}
 use Rattle.refusals.specs.Outcome.{Outcome, refused, given, fit}
 use Rattle.listing.specs.List.{list}
 use Rattle.listing.specs.Marks.{marks_over}
 use Rattle.format.specs.Within.{full}
 use Rattle.format.specs.Admission.{◌under◌, on_bytes}
+use Rattle.print.specs.declared.Text.{Text}
+use Rattle.print.specs.Laid.{Lays, LaysWithin}
 use Rattle.print.specs.Ascii.{ascii}
 use Rattle.print.specs.Decimal.{decimal}
 use Rattle.print.specs.Quoted.{quoted}
@@ -53,3 +56,9 @@ listed_text book (given listed) = marked_text book listed (marks_in book listed)
 
 unfoldable pub printed : List ℕ → List ℕ
 printed book = listed_text book (list_in book)
+
+-- All of it is laid, or nothing where the book is refused: then its line is what is printed.
+pub record Prints (book : List ℕ) (old new : Text) (v : Verdict) : Type 0 where
+  pub all : OnOk v (LaysWithin 409600 (printed book) old new)
+  pub refused : IfErr v (λ why. refusal_of book why ≡ printed book)
+  pub left : OnErr v (Lays [] old new)

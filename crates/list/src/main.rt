@@ -2,23 +2,21 @@
 // or its refusal. What is printed is proved; a read or a write that fails is told on standard error.
 #![tactic(auto)]
 
-ghost use Rattle.std.specs.Prelude.{◌≤◌, ◌<◌, ◌≡◌, length, take};
+ghost use Rattle.std.specs.Prelude.{◌≤◌, ◌<◌, ◌≡◌, length};
 ghost use Rattle.refusals.specs.Outcome.{given};
 ghost use Rattle.format.specs.Within.{full};
 ghost use Rattle.format.specs.Admission.{◌under◌};
-ghost use Rattle.book.specs.Reading.{Admitted};
 ghost use Rattle.passed.specs.Stages.{BookPassed};
 ghost use Rattle.print.specs.Laid.{Lays, LaysWithin};
-ghost use Rattle.list.specs.Printed.{heading, mark_of, line, lines, marked_text, printed};
+ghost use Rattle.list.specs.Printed.{heading, mark_of, line, lines, marked_text, printed, Prints};
 
 use book::admitted::AdmittedBook;
-use book::kinds::Contents;
 use book::tables::NameIndex;
 use format::Limits;
-use passed::Tables;
+use passed::{CheckedBook, Tables};
 use print::Text;
+use refusals::Verdict;
 use stdio::Program;
-use typing::prog::Passed;
 
 // The first line.
 fn heading(listed: usize, marked: usize, text: &mut Text)
@@ -61,55 +59,54 @@ fn lines(names: &NameIndex, listed: &[u16], marked: &[u16], text: &mut Text)
 }
 
 // What is printed where both questions are answered.
-fn table(book: &[u8], c: Contents, listed: &[u16], marked: &[u16], text: &mut Text)
-    requires { Admitted book.now c }
-    ensures { Lays (marked_text book.now listed.now (given marked.now)) text.old text.new }
+fn table(book: AdmittedBook, listed: &[u16], marked: &[u16], text: &mut Text)
+    ensures { Lays (marked_text book.entry.bytes.now listed.now (given marked.now)) text.old text.new }
 {
     heading(listed.len(), marked.len(), text);
-    let names = NameIndex::of(AdmittedBook::new(book, c));
-    lines(&names, listed, marked, text);
+    lines(&NameIndex::of(book), listed, marked, text);
 }
 
-// What is printed of a book that passed.
-fn print_passed(book: &[u8], p: Passed, tables: &Tables, text: &mut Text)
-    requires { BookPassed (book.now under full) tables.now.roots tables.now.ends p }
-    ensures { LaysWithin 409600 (printed book.now) text.old text.new }
+// Prints what both questions on a book that passed are answered; a refusal is handed on, and nothing is laid then.
+fn print_passed(book: &CheckedBook, text: &mut Text) -> Verdict
+    requires { BookPassed (book.now.bytes.now under full) book.now.roots.now book.now.ends.now book.now.passed }
+    ensures { Prints book.now.bytes.now text.old text.new result }
 {
-    let c = p.contents;
-    let checked = tables.checked(book, p);
     let mut list_room = [0; Limits::DEFINITIONS];
+    let count = book.list(&mut list_room)?;
+    let listed = &list_room[..count];
     let mut marks_room = [0; Limits::NAMES];
-    match checked.list(&mut list_room) {
-        Err(why) => text.refusal(why, book),
-        Ok(count) => {
-            let listed = &list_room[..count];
-            match checked.marks(listed, &mut marks_room) {
-                Err(why) => text.refusal(why, book),
-                Ok(count) => table(book, c, listed, &marks_room[..count], text),
-            }
-        }
-    }
+    let count = book.marks(listed, &mut marks_room)?;
+    let admitted = AdmittedBook::new(book.bytes, book.passed.contents);
+    table(admitted, listed, &marks_room[..count], text);
+    Ok(())
 }
 
-// All that is printed for the bytes of a book, which is admitted and checked once.
+// The same of any bytes, which are admitted and checked once for both questions.
+fn print_answers(book: &[u8], text: &mut Text) -> Verdict
+    ensures { Prints book.now text.old text.new result }
+{
+    let mut tables = Tables::new();
+    let p = tables.pass(book, Limits::full())?;
+    print_passed(&tables.checked(book, p), text)
+}
+
+// All that is printed for the bytes of a book.
 fn print_book(book: &[u8], text: &mut Text)
     ensures { LaysWithin 409600 (printed book.now) text.old text.new }
 {
-    let mut tables = Tables::new();
-    match tables.pass(book, Limits::full()) {
-        Err(why) => text.refusal(why, book),
-        Ok(p) => print_passed(book, p, &tables, text),
+    if let Err(why) = print_answers(book, text) {
+        text.refusal(why, book);
     }
 }
 
-// The same into a buffer from its front: never as many bytes as are asked for.
-fn print(book: &[u8], out: &mut [u8]) -> usize
+// The same in a buffer, which has room for it.
+fn print<'a>(book: &[u8], out: &'a mut [u8]) -> &'a [u8]
     requires { 409600 ≤ length out.old }
-    ensures { (take result out.new ≡ printed book.now) × (result < 409600) }
+    ensures { (result.now ≡ printed book.now) × (length result.now < 409600) }
 {
-    let mut text = Text { out, end: 0 };
+    let mut text = Text::new(out);
     print_book(book, &mut text);
-    text.end
+    text.into_laid()
 }
 
 // More bytes than are ever printed.
@@ -121,10 +118,9 @@ fn main(rt: HostRuntime) {
         name: b"list",
     };
     let mut input = [0; Limits::ROOM];
-    let Some(size) = list.read(&mut input) else {
+    let Some(book) = list.read(&mut input) else {
         return;
     };
     let mut out = [0; ROOM_FOR_PRINT];
-    let end = print(&input[..size], &mut out);
-    list.write(&out[..end]);
+    list.write(print(book, &mut out));
 }

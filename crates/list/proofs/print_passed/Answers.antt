@@ -2,35 +2,40 @@
 use mathlib.Core.Path.{refl, sym, ◌∙◌}
 use native.Mathlib.Omega.{arith}
 use lib.Seq.{length-take-le}
+use Rattle.typing.proofs.Handing.{handed-on}
 use Rattle.print.proofs.Lays.{wider}
 use Rattle.list.proofs.Answered.{given-within}
-use Rattle.list.proofs.Listed.{list-handed, list-refused, list-given, marks-handed, marks-refused}
+use Rattle.list.proofs.Listed.{prints-none, list-handed, list-refused, list-given, marks-handed, marks-refused}
 use Rattle.list.proofs.Room.{given-few, marks-laid}
 use Rattle.list.proofs.print_passed.Goals as goal
 
-pub returns-in-Err : goal.returns-in-Err
-returns-in-Err c = wider (omega arith) (list-refused _ (list-handed c.requires (let e = c.checked-checked.ensures in rw (e.bytes, e.passed, e.roots, e.ends) at c.list.ensures)) refl c.in-Err.is) c.refusal.ensures
+pub returns-in_err-count : goal.returns-in_err-count
+returns-in_err-count c = rw (handed-on c.from_residual.result c.from_residual.ensures) (prints-none (list-refused _ (list-handed c.requires c.list.ensures) refl c.in_err-count.was))
 
 pub slice_bounds-list_room-end : goal.slice_bounds-list_room-end
-slice_bounds-list_room-end c = given-within (list-handed c.requires (let e = c.checked-checked.ensures in rw (e.bytes, e.passed, e.roots, e.ends) at c.list.ensures)) refl c.in-Ok.is
+slice_bounds-list_room-end c = given-within (list-handed c.requires c.list.ensures) refl c.in_ok-count.was
 
 pub slice_bounds-listed-end : goal.slice_bounds-listed-end
-slice_bounds-listed-end c = sym (length-take-le _ _ (given-within (list-handed c.requires (let e = c.checked-checked.ensures in rw (e.bytes, e.passed, e.roots, e.ends) at c.list.ensures)) refl c.in-Ok.is))
+slice_bounds-listed-end c = sym (length-take-le _ _ (given-within (list-handed c.requires c.list.ensures) refl c.in_ok-count.was))
+
+pub returns-in_err-count-2 : goal.returns-in_err-count-2
+returns-in_err-count-2 c =
+    rw (handed-on c.from_residual-in_err-count-2.result c.from_residual-in_err-count-2.ensures)
+    (prints-none (marks-refused _ _ (marks-handed c.requires _ c.marks.ensures) refl c.in_err-count-2.was ∙ list-given _ (list-handed c.requires c.list.ensures) refl c.in_ok-count.was))
 
 pub slice_bounds-marks_room-end : goal.slice_bounds-marks_room-end
-slice_bounds-marks_room-end c = given-within (marks-handed c.requires _ (let e = c.checked-checked.ensures in rw (e.bytes, e.passed, e.roots, e.ends) at c.marks.ensures)) refl c.in-Ok-marks.is
+slice_bounds-marks_room-end c = given-within (marks-handed c.requires _ c.marks.ensures) refl c.in_ok-count-2.was
 
 pub slice_bounds-table-end : goal.slice_bounds-table-end
-slice_bounds-table-end c = sym (length-take-le _ _ (given-within (marks-handed c.requires _ (let e = c.checked-checked.ensures in rw (e.bytes, e.passed, e.roots, e.ends) at c.marks.ensures)) refl c.in-Ok-marks.is))
+slice_bounds-table-end c = sym (length-take-le _ _ (given-within (marks-handed c.requires _ c.marks.ensures) refl c.in_ok-count-2.was))
 
-pub returns-in-Err-marks : goal.returns-in-Err-marks
-returns-in-Err-marks c =
-    wider (omega arith)
-    (marks-refused _ _ (marks-handed c.requires _ (let e = c.checked-checked.ensures in rw (e.bytes, e.passed, e.roots, e.ends) at c.marks.ensures)) refl c.in-Err-marks.is ∙ list-given _ (list-handed c.requires (let e = c.checked-checked.ensures in rw (e.bytes, e.passed, e.roots, e.ends) at c.list.ensures)) refl c.in-Ok.is)
-    c.refusal-in-Err-marks.ensures
-
-pub returns-in-Ok-marks : goal.returns-in-Ok-marks
-returns-in-Ok-marks c =
-    let listed = list-handed c.requires (let e = c.checked-checked.ensures in rw (e.bytes, e.passed, e.roots, e.ends) at c.list.ensures) in
-    wider (omega arith) (list-given _ listed refl c.in-Ok.is)
-    (marks-laid _ _ (marks-handed c.requires _ (let e = c.checked-checked.ensures in rw (e.bytes, e.passed, e.roots, e.ends) at c.marks.ensures)) refl (given-few listed refl c.in-Ok.is) c.in-Ok-marks.is c.table.ensures)
+pub returns : goal.returns
+returns c =
+    let listed = list-handed c.requires c.list.ensures in
+    let laid = rw c.new-admitted.ensures.bytes at c.table.ensures in
+    record {
+      all = wider (omega arith) (list-given _ listed refl c.in_ok-count.was)
+          (marks-laid _ _ (marks-handed c.requires _ c.marks.ensures) refl (given-few listed refl c.in_ok-count.was) c.in_ok-count-2.was laid);
+      refused = tt;
+      left = tt;
+    }

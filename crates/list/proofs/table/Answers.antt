@@ -4,4 +4,4 @@ use Rattle.list.proofs.Listed.{table-is}
 use Rattle.list.proofs.table.Goals as goal
 
 pub returns : goal.returns
-returns c = alias (table-is _ _ _) (then c.heading.ensures (rw (c.of-names.ensures, c.new.ensures.bytes) at c.lines.ensures))
+returns c = alias (table-is _ _ _) (then c.heading.ensures (rw c.of.ensures at c.lines.ensures))
