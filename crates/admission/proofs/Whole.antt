@@ -3,7 +3,6 @@ use mathlib.Core.Path.{◌≡◌, refl, sym, ap, subst, ◌∙◌}
 use mathlib.Core.Bool.{true, false, cond}
 use mathlib.Core.List.{List}
 use Prim.Native.Nat.{ℕ}
-use Rattle.refusals.specs.declared.Refusal.{Refusal}
 use Rattle.refusals.specs.declared.Refusal.TheVariants.{OverLimit}
 use Rattle.refusals.specs.Verdict.{Verdict}
 use Rattle.refusals.specs.Outcome.{refused, given, after}
@@ -19,7 +18,7 @@ use Rattle.format.proofs.Admission.{admitted-whole}
 use Rattle.book.specs.declared.kinds.Contents.{Contents}
 use Rattle.book.specs.Reading as read
 use Rattle.book.specs.Reading.{contents_of}
-use Rattle.std.specs.Prelude.{Result, Ok, Err}
+use Rattle.std.specs.Prelude.{Ok, Err}
 use Rattle.std.specs.Result.{result_map_both}
 use Rattle.admission.specs.Admitting.{admission_of}
 
@@ -48,10 +47,10 @@ module _ {bs : List ℕ} {c : Contents} (o : read.Admitted bs c) where
       after-labels : admitted (bs under l) ≡ after v (given o.book)
       after-labels = judged ∙ rw (← e, ← labels o.book o.laid)
 
-      pub labelled : {r : Result Contents Refusal} → r ≡ result_map_both (λ _. c) (λ e. e) v → r ≡ admission_of (admitted (bs under l))
+      pub labelled : result_map_both (λ _. c) (λ why. why) v ≡ admission_of (admitted (bs under l))
       unfolding admission_of after
-      labelled m = m ∙ go v ∙ sym (ap admission_of after-labels)
+      labelled = go v ∙ sym (ap admission_of after-labels)
         where
-          go : (v : Verdict) → result_map_both (λ _. c) (λ e. e) v ≡ admission_of (after v (given o.book))
+          go : (v : Verdict) → result_map_both (λ _. c) (λ why. why) v ≡ admission_of (after v (given o.book))
           go (Ok tt) = rw o.table
           go (Err why) = refl

@@ -1,30 +1,36 @@
 // What every question starts with: bytes that nobody vouches for are admitted as a book, or refused (format, specs/Admission.antt).
 #![tactic(auto)]
 
-ghost use Rattle.std.specs.Prelude.{◌≡◌};
+ghost use Rattle.std.specs.Prelude.{◌≡◌, IfOk};
+ghost use Rattle.std.specs.Result.{result_map_both};
 ghost use Rattle.format.specs.Admission.{◌under◌, admitted};
 ghost use Rattle.admission.specs.Admitting.{admission_of};
 
 use book::admitted::AdmittedBook;
-use book::kinds::Contents;
 use format::Limits;
 use refusals::Refusal;
 
 // Admits a book: one whose layout is not broken (1), that is within the limits (24), and in which no label is repeated (18). None has more than
 // document 01's figures, so a larger limit takes as much as the figure.
-pub fn admit(book: &[u8], limits: Limits) -> Result<Contents, Refusal>
-    ensures { result ≡ admission_of (admitted (book.now under limits)) }
+pub fn admit<'a>(book: &'a [u8], limits: Limits) -> Result<AdmittedBook<'a>, Refusal>
+    ensures answer { result_map_both (λ b. b.contents) (λ why. why) result ≡ admission_of (admitted (book.entry.now under limits)) }
+    ensures bytes { IfOk result (λ b. b.bytes ≡ book.entry) }
 {
-    let Some(c) = book::layout(book) else {
+    let Some(contents) = book::layout(book) else {
         return Err(Refusal::Broken);
     };
     let size = Limits {
-        names: c.names as u32,
-        nodes: c.nodes as u32,
-        definitions: c.definitions as u32,
+        names: contents.names as u32,
+        nodes: contents.nodes as u32,
+        definitions: contents.definitions as u32,
     };
     if !size.within(limits) {
         return Err(Refusal::OverLimit);
     }
-    repeats::check_labels(AdmittedBook::new(book, c)).map(|()| c)
+    let admitted = AdmittedBook {
+        bytes: book,
+        contents,
+    };
+    repeats::check_labels(admitted)?;
+    Ok(admitted)
 }

@@ -3,3 +3,4 @@ pub mod Refusals
 pub mod Verdicts
 pub mod Outcomes
 pub mod Handed
+pub mod Handing

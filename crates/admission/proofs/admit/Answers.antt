@@ -1,6 +1,6 @@
 -- `admit` meets its contract: a broken book, one over a limit, one with a repeated label, and one that is admitted. Assumes nothing.
-use Rattle.std.proofs.Common.{rules, arith, ◌≡◌, ℕ, List, Err, None, sym, ap, ◌∙◌}
-use Rattle.std.specs.Result.{result_map_both}
+use Rattle.std.proofs.Common.{arith, ◌≡◌, ℕ, List, Err, None, sym, ap, ◌∙◌}
+use Rattle.refusals.proofs.Handing.{handed-on}
 use Rattle.refusals.specs.declared.Refusal.TheVariants.{Broken}
 use Rattle.format.specs.declared.Limits.{Limits}
 use Rattle.format.specs.Admission.{◌under◌, admitted, is_broken}
@@ -15,8 +15,8 @@ broken-refused : (bs : List ℕ) (l : Limits) → None ≡ reading bs → Err Br
 unfolding admission_of
 broken-refused bs l e = ap admission_of (sym (admission-refuses (bs under l) (is_broken (broken-of bs e))))
 
-pub returns-in_default : goal.returns-in_default
-returns-in_default c = broken-refused _ _ (sym c.in_default.is ∙ c.layout.ensures)
+pub returns-in_default-clause-answer : goal.returns-in_default-clause-answer
+returns-in_default-clause-answer c = broken-refused _ _ (sym c.in_default.is ∙ c.layout.ensures)
 
 pub overflow_cast-size : goal.overflow_cast-size
 overflow_cast-size c = let f = few (book-of _ _ (sym c.in-Some.is ∙ c.layout.ensures)) in omega (arith, f.names)
@@ -27,13 +27,14 @@ overflow_cast-size-2 c = let f = few (book-of _ _ (sym c.in-Some.is ∙ c.layout
 pub overflow_cast-size-3 : goal.overflow_cast-size-3
 overflow_cast-size-3 c = let f = few (book-of _ _ (sym c.in-Some.is ∙ c.layout.ensures)) in omega (arith, f.definitions)
 
-pub returns-then-not-within : goal.returns-then-not-within
-returns-then-not-within c = over (book-of _ _ (sym c.in-Some.is ∙ c.layout.ensures)) _ (sym (c.if-not-within.true) ∙ c.within.ensures)
+pub returns-then-not-within-clause-answer : goal.returns-then-not-within-clause-answer
+returns-then-not-within-clause-answer c = over (book-of _ _ (sym c.in-Some.is ∙ c.layout.ensures)) _ (sym (c.if-not-within.true) ∙ c.within.ensures)
 
-pub new-requires : goal.new-requires
-new-requires c = book-of _ _ (sym c.in-Some.is ∙ c.layout.ensures)
+pub returns-in_err-check_labels-clause-answer : goal.returns-in_err-check_labels-clause-answer
+returns-in_err-check_labels-clause-answer c =
+    rw (handed-on c.from_residual.result c.from_residual.ensures)
+    (labelled (book-of _ _ (sym c.in-Some.is ∙ c.layout.ensures)) _ (sym (c.if-not-within.false) ∙ c.within.ensures) c.in_err-check_labels.ensures)
 
-pub returns : goal.returns
-returns c =
-    let m : c.map.result ≡ result_map_both (λ _. c.in-Some.c) (λ e. e) c.check_labels.result = search rules in
-    labelled (book-of _ _ (sym c.in-Some.is ∙ c.layout.ensures)) _ (sym (c.if-not-within.false) ∙ c.within.ensures) (rw c.new.ensures.bytes at c.check_labels.ensures) m
+pub returns-clause-answer : goal.returns-clause-answer
+returns-clause-answer c =
+    labelled (book-of _ _ (sym c.in-Some.is ∙ c.layout.ensures)) _ (sym (c.if-not-within.false) ∙ c.within.ensures) c.in_ok-check_labels.ensures
