@@ -24,7 +24,7 @@ impl Asking<'_> {
         self.begin_word(b"chains");
         match admission::admit(self.book, self.limits) {
             Err(why) => self.refuse(why),
-            Ok(c) => self.say_chains(c),
+            Ok(book) => self.say_chains(book.contents),
         }
     }
 

@@ -32,8 +32,8 @@ pub fn pass(
     requires { (roots.old ≡ blank_table) × (ends.old ≡ zero_table) }
     ensures { PassAs (book.now under limits) roots.new ends.new result }
 {
-    let c = admission::admit(book, limits)?;
-    typing::prog::check_prog(book, c, roots, ends)
+    let admitted = admission::admit(book, limits)?;
+    typing::prog::check_prog(admitted.bytes, admitted.contents, roots, ends)
 }
 
 // A book that passed, with the tables that its check filled. That they are of each other is asked by its methods: as a ghost field it would need a

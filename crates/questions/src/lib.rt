@@ -61,8 +61,8 @@ pub fn init_list(book: &[u8], limits: Limits, out: &mut [u16]) -> Answer
 pub fn draft_list(book: &[u8], limits: Limits, out: &mut [u16]) -> Answer
     ensures { HandedAs (on_bytes draft_list (book.now under limits)) out.old out.new result }
 {
-    let c = admission::admit(book, limits)?;
-    passed::draft_list::draft_list_admitted(book, c, out)
+    let admitted = admission::admit(book, limits)?;
+    passed::draft_list::draft_list_admitted(admitted.bytes, admitted.contents, out)
 }
 
 // The names that have to be boxed where these definitions are laid out in this order, ascending: the check's refusals, 3 for the first
