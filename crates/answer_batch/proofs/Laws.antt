@@ -19,7 +19,7 @@ use Rattle.environment.specs.Trees.{AllTrees}
 use Rattle.syntax.specs.declared.class.Top.{Top}
 use Rattle.syntax.specs.Classes.{TopAs}
 use Rattle.syntax.specs.Interfaces.{main_of}
-use Rattle.syntax.proofs.Book.{entries-held, entries-of}
+use Rattle.environment.proofs.Book.{entries-held, entries-of}
 use Rattle.syntax.proofs.actor.AsWritten.{below-ended}
 use Rattle.typing.specs.declared.prog.Passed.{Passed}
 use Rattle.typing.specs.Passing.{PassedBook}

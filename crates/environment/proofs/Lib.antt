@@ -8,3 +8,4 @@ pub mod Definitions
 pub mod FuncEnds
 pub mod ChainEnds
 pub mod Trees
+pub mod Book

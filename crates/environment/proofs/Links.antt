@@ -2,13 +2,16 @@
 --     chain-other, chain-unbound, ..    one link of a chain
 --     head-var, head-other              the head of a stored tree
 --     found-none, found-some            what a table of roots has
+--     rooted, unrooted                  by `root_of`
 --     row-within, name-inside           a node, and the name that it is
 --     LinkSays, Bound, link-says        what a link says of a name's definition
 --     ChainLeft, chain-step, ..        the loop of `alias_end`
 --     get_or-within, in-table             a place within a table
 use mathlib.Core.Path.{◌≡◌, refl, sym, ap, ◌∙◌}
 use mathlib.Core.List.{List, [], ◌∷◌}
+use mathlib.Core.Bool.{true, false, false≢true}
 use Rattle.std.specs.Prelude.{Option, Some, None, IfSome, IfNone}
+use Rattle.std.specs.Option.{is_some}
 use Prim.Native.Nat.{ℕ, zero, suc, ◌+◌, ◌-◌, ◌≤◌, ◌<◌}
 use native.Mathlib.Decide.{ℕ_discrete}
 use native.Mathlib.Omega.{arith}
@@ -115,12 +118,28 @@ module _ {ns : List ℕ} {names count at : ℕ} (x : Nodes ns names count) (insi
         let v = is-var ns at e (ℕ_discrete _ _) in
         omega (arith, (x.row at inside).name v.0, v.1)
 
+-- ---- whether a name has a definition, by what the table of roots has
+module _ {root : ℕ} (o : Option ℕ) where
+  pub rooted : IfSome o (λ r. (r ≡ root) × (r ≡ 65535 → ⊥)) → is_some o ≡ true → root ≡ 65535 → ⊥
+  rooted = go o
+    where
+      go : (o : Option ℕ) → IfSome o (λ r. (r ≡ root) × (r ≡ 65535 → ⊥)) → is_some o ≡ true → root ≡ 65535 → ⊥
+      go None s e z = false≢true e
+      go (Some r) s e z = s.1 (s.0 ∙ z)
+
+  pub unrooted : IfNone o (root ≡ 65535) → is_some o ≡ false → root ≡ 65535
+  unrooted = go o
+    where
+      go : (o : Option ℕ) → IfNone o (root ≡ 65535) → is_some o ≡ false → root ≡ 65535
+      go None s e = s
+      go (Some r) s e = absurd (false≢true (sym e))
+
 -- ---- what a link says of a name's definition
-link-none : (ns : List ℕ) (root : ℕ) → root ≡ 65535 → link_of ns root ≡ None
+pub link-none : (ns : List ℕ) (root : ℕ) → root ≡ 65535 → link_of ns root ≡ None
 unfolding link_of
 link-none ns root e = rw e
 
-link-some : (ns : List ℕ) (root : ℕ) → (root ≡ 65535 → ⊥) → link_of ns root ≡ Some (record { root = root; next = var_at ns root })
+pub link-some : (ns : List ℕ) (root : ℕ) → (root ≡ 65535 → ⊥) → link_of ns root ≡ Some (record { root = root; next = var_at ns root })
 unfolding link_of
 link-some ns root e = rw (ne_eqb root 65535 e)
 

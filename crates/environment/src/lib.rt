@@ -3,15 +3,15 @@
 // Functions ask of their caller what an admitted book gives: nodes that are whole trees with numbers in range (specs/Tables.antt).
 #![tactic(auto)]
 
-ghost use Rattle.std.specs.Prelude.{◌≡◌, List, ℕ, ◌+◌, ◌-◌, ◌/◌, ◌≤◌, ◌<◌, length, get_or};
-ghost use Rattle.format.specs.Book.{Definition};
+ghost use Rattle.std.specs.Prelude.{◌≡◌, List, ℕ, ◌+◌, ◌-◌, ◌/◌, ◌≤◌, ◌<◌, length, get_or, IfNone, IfSome};
+ghost use Rattle.format.specs.Layout.{definitions_part};
 ghost use Rattle.book.specs.Tables.{blank_table, zero_table};
-ghost use Rattle.environment.specs.Tables.{Nodes, Entries, Roots, Tabled, var_at, link_of, DefinesAs, end_of, crossed_in, Ended, AliasEndsAs, ReachedAs, LookupAs};
+ghost use Rattle.environment.specs.Tables.{DefinesAs, end_of, crossed_in, Ended, ReachedAs, LookupAs};
 
 pub mod merge;
 pub mod scope;
 
-use crate::scope::Scope;
+use book::admitted::AdmittedBook;
 use book::kinds::Kind;
 use book::read::{Entry, Node};
 use format::Limits;
@@ -88,21 +88,17 @@ pub fn clear_ends(table: &mut [u32])
 
 // Enters the definitions of entries `from` up to `to` in a table that has nothing: 2 with the first name defined twice. Then the table has
 // nothing, as it was lent.
-pub fn enter(
-    entries: &[u8],
-    names: usize,
-    nodes: usize,
-    from: usize,
-    to: usize,
-    roots: &mut [u16],
-) -> Verdict
-    requires { Entries entries.now names nodes from to × (names ≤ 1024) × (nodes ≤ 4096) × (roots.old ≡ blank_table) }
-    ensures { DefinesAs entries.now nodes from to roots.new result }
+pub fn enter(book: AdmittedBook, from: usize, to: usize, roots: &mut [u16]) -> Verdict
+    requires ordered { from ≤ to }
+    requires within { to ≤ book.contents.definitions }
+    requires empty { roots.old ≡ blank_table }
+    ensures { DefinesAs (definitions_part book.entry.bytes.now) book.entry.contents.nodes from to roots.new result }
 {
+    let entries = book.definitions();
     for d in from..to {
         let e = Entry::at(entries, d);
         let n = e.name as usize;
-        if roots[n] != Entry::NO_ROOT {
+        if root_of(roots, n).is_some() {
             roots.fill(Entry::NO_ROOT);
             return Err(Refusal::Twice(e.name));
         }
@@ -111,39 +107,24 @@ pub fn enter(
     Ok(())
 }
 
+// The root of a name's definition by a table of roots, where it has one.
+pub fn root_of(roots: &[u16], n: usize) -> Option<usize>
+    ensures none { IfNone result (get_or roots.now n 65535 ≡ 65535) }
+    ensures some { IfSome result (λ root. (root ≡ get_or roots.now n 65535) × (root ≡ 65535 → ⊥)) }
+{
+    let root = *roots.get(n)?;
+    if root == Entry::NO_ROOT {
+        None
+    } else {
+        Some(root as usize)
+    }
+}
+
 // One link of an alias chain: where the definition of a name stands, and the name that it is.
 #[derive(Clone, Copy)]
 pub struct Link {
     pub root: usize,
     pub next: Option<usize>,
-}
-
-// The name that a node is.
-#[tactic(auto, unfolding(crate::specs::Tables::var_at))]
-fn var_at(rows: &[u8], node: usize) -> Option<usize>
-    requires { (names nodes : ℕ) × Nodes rows.now names nodes × (node < nodes) }
-    ensures { result ≡ var_at rows.now node }
-{
-    let t = Node::at(rows, node);
-    if t.kind == Kind::Var as u8 {
-        Some(t.value as usize)
-    } else {
-        None
-    }
-}
-
-// Follows a name to the next, where it has a definition.
-#[tactic(auto, unfolding(crate::specs::Tables::link_of))]
-pub fn step(rows: &[u8], roots: &[u16], n: usize) -> Option<Link>
-    requires { (names nodes : ℕ) × Nodes rows.now names nodes × Roots roots.now nodes × (n < names) }
-    ensures { result ≡ link_of rows.now (get_or roots.now n 65535) }
-{
-    if roots[n] == Entry::NO_ROOT {
-        return None;
-    }
-    let root = roots[n] as usize;
-    let next = var_at(rows, root);
-    Some(Link { root, next })
 }
 
 // Where an alias chain ends: at a name without definition, never, or at a node that is no name.
@@ -159,21 +140,6 @@ pub enum End {
 pub struct Alias {
     pub crossed: usize,
     pub end: End,
-}
-
-// `Scope::find_ends` for who lends book and table at two lifetimes, as typing does: a struct with one for both gets no generated proof there.
-pub fn find_ends(
-    rows: &[u8],
-    roots: &[u16],
-    names: usize,
-    nodes: usize,
-    definitions: usize,
-    ends: &mut [u32],
-) -> Verdict
-    requires { Nodes rows.now names nodes × Roots roots.now nodes × (ends.old ≡ zero_table) × ((ds : List Definition) × Tabled rows.now roots.now definitions ds) × (definitions ≤ 512) }
-    ensures { AliasEndsAs rows.now roots.now names nodes definitions ends.new result }
-{
-    Scope::new(rows, roots, names, nodes).find_ends(definitions, ends)
 }
 
 // The node at which a chain ends, and how many names it crosses.

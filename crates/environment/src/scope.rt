@@ -2,31 +2,35 @@
 ghost use Rattle.environment.specs.Tables.{Nodes, Roots};
 ghost use Rattle.environment.specs.Props.{props};
 
-use crate::{Alias, ChainEnd, End, Link};
-use book::read::Entry;
+use crate::{Alias, ChainEnd, End, Link, root_of};
+use book::admitted::AdmittedBook;
+use book::kinds::Kind;
+use book::read::Node;
 use refusals::{Refusal, Verdict};
 
-// The nodes of an admitted book, and for each of its names the root of the definition, where it has one.
+// The nodes of an admitted book, and for each of its names the root of the definition, where it has one. Two lifetimes: tables are lent for less
+// long than the book.
 #[derive(Clone, Copy)]
-pub struct Scope<'a> {
-    pub rows: &'a [u8],
-    pub roots: &'a [u16],
+pub struct Scope<'b, 't> {
+    pub rows: &'b [u8],
+    pub roots: &'t [u16],
     pub names: usize,
     pub nodes: usize,
     pub ghost whole: { Nodes rows.now names nodes } by { Prim.hlevel props },
     pub ghost bound: { Roots roots.now nodes } by { Prim.hlevel props },
 }
 
-impl<'a> Scope<'a> {
+impl<'b, 't> Scope<'b, 't> {
     ghost use Rattle.std.specs.Prelude.{◌≡◌, List, ◌<◌, ◌≤◌, get_or, length};
     ghost use Rattle.format.specs.Book.{Definition};
+    ghost use Rattle.format.specs.Layout.{nodes_part};
     ghost use Rattle.format.specs.Whole.{tree_at};
     ghost use Rattle.judgement.specs.Aliases.{chain_from};
     ghost use Rattle.book.specs.Tables.{zero_table};
-    ghost use Rattle.environment.specs.Tables.{Nodes, Roots, link_of, as_end, InRange, EndKnown};
+    ghost use Rattle.environment.specs.Tables.{Nodes, Roots, var_at, link_of, as_end, InRange, EndKnown};
     ghost use Rattle.environment.specs.Scopes.{IsBy, Defines, Opened, Ending, Follows, Notes, EndsOf};
 
-    pub fn new(rows: &'a [u8], roots: &'a [u16], names: usize, nodes: usize) -> Scope<'a>
+    pub fn new(rows: &'b [u8], roots: &'t [u16], names: usize, nodes: usize) -> Scope<'b, 't>
         requires { Nodes rows.now names nodes × Roots roots.now nodes }
         ensures rows { result.rows ≡ rows.entry }
         ensures roots { result.roots ≡ roots.entry }
@@ -41,12 +45,40 @@ impl<'a> Scope<'a> {
         }
     }
 
+    // Of an admitted book, beside a table of its definitions.
+    pub fn of(book: AdmittedBook<'b>, roots: &'t [u16]) -> Scope<'b, 't>
+        requires { Roots roots.now book.contents.nodes }
+        ensures rows { result.rows.now ≡ nodes_part book.entry.bytes.now }
+        ensures roots { result.roots ≡ roots.entry }
+        ensures names { result.names ≡ book.entry.contents.names }
+        ensures nodes { result.nodes ≡ book.entry.contents.nodes }
+    {
+        let c = book.contents;
+        Scope::new(book.nodes(), roots, c.names, c.nodes)
+    }
+
+    // The name that a node is.
+    #[tactic(auto, unfolding(crate::specs::Tables::var_at))]
+    fn var_at(self, node: usize) -> Option<usize>
+        requires { node < self.nodes }
+        ensures { result ≡ var_at self.entry.rows.now node }
+    {
+        let t = Node::at(self.rows, node);
+        if t.kind == Kind::Var as u8 {
+            Some(t.value as usize)
+        } else {
+            None
+        }
+    }
+
     // Follows a name to the next, where it has a definition. Whoever follows an alias chain takes this step, in a loop.
     pub fn step(self, n: usize) -> Option<Link>
         requires { n < self.names }
         ensures { result ≡ link_of self.entry.rows.now (get_or self.entry.roots.now n 65535) }
     {
-        crate::step(self.rows, self.roots, n)
+        let root = root_of(self.roots, n)?;
+        let next = self.var_at(root);
+        Some(Link { root, next })
     }
 
     // The end of the chain from a node, which crosses at most `left` names: with as many as there are definitions, one more never ends.
@@ -60,7 +92,7 @@ impl<'a> Scope<'a> {
         ensures few { result.crossed ≤ left }
     {
         let mut at = node;
-        let mut next = crate::var_at(self.rows, node);
+        let mut next = self.var_at(node);
         let mut crossed = 0;
         while let Some(n) = next {
             let Some(s) = self.step(n) else {
@@ -92,7 +124,7 @@ impl<'a> Scope<'a> {
         ensures { Opened self.entry ends.new }
     {
         for n in 0..self.names {
-            if self.roots[n] != Entry::NO_ROOT {
+            if root_of(self.roots, n).is_some() {
                 ends[n] = ChainEnd::OPEN;
             }
         }

@@ -4,14 +4,14 @@
 --     init-tree-is, init-root                         the init arguments
 --     no-init, init-definitions-none                  what holds where the code finds no init file
 --     main-actor-is                                   the main actor
---     some-files, .., nodes-known, file-root          what the code that walks the bytes asks of them
---     trees-fit, definition-tree-fits                 the trees fit
---     files-held, names-book, all-trees, ..            the same of an admitted book by its contents
+--     some-files, few-files, file-root                what the code that walks the bytes asks of them
+--     definition-tree-fits                            the trees fit
+--     files-held, names-book, ..                      the same of an admitted book by its contents
 use mathlib.Core.Path.{◌≡◌, refl, sym, ap, subst, ◌∙◌}
 use mathlib.Core.Bool.{Bool, true, false, cond, not}
 use mathlib.Core.List.Memᴰ
 use mathlib.Core.List.{List, [], ◌∷◌, ◌++◌, map, map-append}
-use Prim.Native.Nat.{ℕ, zero, suc, ◌+◌, ◌-◌, ◌*◌, ◌≤◌, ◌<◌}
+use Prim.Native.Nat.{ℕ, zero, suc, ◌+◌, ◌-◌, ◌≤◌, ◌<◌}
 use native.Mathlib.Nat.{zero-add, sub-zero}
 use native.Mathlib.Decide.{dec_lt}
 use native.Mathlib.Omega.{arith}
@@ -23,25 +23,23 @@ use Rattle.format.specs.Forest.{end, count}
 use Rattle.format.specs.Book.{Definition, Role, Main, TypeImport, ServiceImport, InitArgs, File, Book, trees}
 use Rattle.format.specs.Encode.{Entry}
 use Rattle.format.specs.Fits.{is_init, is_init_role, is_main, forest_fits, definition_fits, files_rise, file_fits, imports_fit, roles_fit}
-use Rattle.format.specs.Layout.{entry_at, run, nodes_part, definitions_part, files_part, siblings, role_of, read, whole, layout}
+use Rattle.format.specs.Layout.{entry_at, run, nodes_part, definitions_part, files_part, role_of, read, whole, layout}
 use Rattle.format.specs.Whole.{tree_at, definition_at, actor_at, file_at}
 use Rattle.format.proofs.Logic.{is-true, is-false, says}
 use Rattle.format.proofs.Lists.{All, run-append, made-passes}
 use Rattle.format.proofs.Entries.{main-role, init-role}
 use Rattle.format.proofs.Stored.{actor-none}
-use Rattle.format.proofs.Encoded.{all-fit}
-use Rattle.format.proofs.Admitted.{admitted-parts, names-read, nodes-long, definitions-held, files-held as files-fill, trees-are, trees-whole, node-stored, definition-stored, definitions-are, file-stored, files-are}
+use Rattle.format.proofs.Admitted.{admitted-parts, names-read, files-held as files-fill, definition-stored, definitions-are, file-stored, files-are}
 use Rattle.book.specs.declared.kinds.Contents.{Contents}
 use Rattle.book.specs.Reading.{EntryWithin, Admitted}
 use Rattle.book.specs.Tables.{HashesAgree, HashesOf}
-use Rattle.book.proofs.Opened.{names-count, nodes-count, definitions-count, files-count}
+use Rattle.book.proofs.Opened.{nodes-count, files-count}
 use Rattle.judgement.specs.Environment.{role_at, keep, main_definitions, init_definitions}
 use Rattle.judgement.specs.Actor.{first_actor, main_actor, init_tree, NoInit}
 use Rattle.judgement.proofs.Lookup.{keep-first, keep-last}
 use Rattle.judgement.proofs.Books.{definition-fits}
 use Rattle.judgement.proofs.Theorems.{no-init-definitions, no-init-tree}
-use Rattle.environment.specs.Tables.{Nodes, Entries, definitions_in}
-use Rattle.environment.specs.Trees.{AllTrees}
+use Rattle.environment.specs.Tables.{definitions_in}
 use Rattle.syntax.specs.Files.{files_in, FileRoots, FileTable, init_at, SplitAs}
 
 -- ---- Files by their places
@@ -131,34 +129,8 @@ module _ (bs : List ℕ) {b : Book} (w : layout bs ≡ whole b) where
   pub few-files : length b.files ≤ 16
   few-files = (admitted-parts bs w).few_files
 
-  pub few-definitions : length b.definitions ≤ 512
-  few-definitions = (admitted-parts bs w).few_definitions
-
-  pub definitions-within : EntryWithin (definitions_part bs) (length b.definitions)
-  definitions-within = let h = definitions-held bs w in record { held = h.0; few = h.1 }
-
   pub files-within : EntryWithin (files_part bs) (length b.files)
   files-within = let h = files-fill bs w in record { held = h.0; few = omega (arith, h.1) }
-
-  pub nodes-known : Nodes (nodes_part bs) (length b.names) (count (trees b))
-  nodes-known =
-      record {
-        few_names = (admitted-parts bs w).few_names;
-        few_nodes = (admitted-parts bs w).few_nodes;
-        within = (trees-whole bs w).within;
-        tree = λ n h. (node-stored bs w n h).tree;
-        row = λ n h. (node-stored bs w n h).row;
-      }
-
-  pub entries-known : (from to : ℕ) → from ≤ to → to ≤ length b.definitions → Entries (definitions_part bs) (length b.names) (count (trees b)) from to
-  entries-known from to h k =
-      record {
-        ordered = h;
-        held = omega (arith, definitions-within.held);
-        few = definitions-within.few;
-        name = λ d l m. (definition-stored bs w d (omega arith)).name;
-        root = λ d l m. let t = (definition-stored bs w d (omega arith)).tree in omega (arith, t.ends, t.whole.one);
-      }
 
   pub file-root : (j : ℕ) → j < length b.files → ((entry_at (files_part bs) j).root ≡ 65535 → ⊥) → (entry_at (files_part bs) j).root < count (trees b)
   file-root j h n = let t = (file-stored bs w j h).tree n in omega (arith, t.ends, t.whole.one)
@@ -298,9 +270,6 @@ module _ (bs : List ℕ) {b : Book} (w : layout bs ≡ whole b) where
         ∙ keep-last _ mains inits (mains-good (λ c. c ≡ false) refl) (inits-good (λ c. c ≡ true) refl)
 
   -- ---- The trees of definitions and files, at roots
-  pub trees-fit : T (forest_fits (length b.names) Root (siblings (nodes_part bs) 0 (count (trees b))))
-  trees-fit = rw (trees-are bs w) (all-fit (admitted-parts bs w))
-
   pub definition-tree-fits : (d : ℕ) → d < length b.definitions → T (forest_fits (length b.names) Root (tree_at (nodes_part bs) (entry_at (definitions_part bs) d).root))
   definition-tree-fits d h =
       let names : ℕ = length b.names in
@@ -335,29 +304,9 @@ module _ {bs : List ℕ} {c : Contents} (a : Admitted bs c) where
   pub files-some : 1 ≤ c.files
   files-some = rw (files-count a) (some-files bs a.laid)
 
-  pub entries-held : EntryWithin (definitions_part bs) c.definitions
-  entries-held = rw (definitions-count a) (definitions-within bs a.laid)
-
-  pub few-all : c.definitions ≤ 512
-  few-all = omega (arith, few-definitions bs a.laid, definitions-count a)
-
   pub names-book : (read bs).names ≡ a.book.names
   unfolding read
   names-book = names-read bs a.laid
 
   pub hashes-book : {hs : List ℕ} → HashesOf hs (read bs).names → HashesAgree hs a.book.names
   hashes-book {hs} o = subst (HashesAgree hs) names-book o.agree
-
-  pub book-trees : AllTrees (nodes_part bs) (length a.book.names) (count (trees a.book))
-  book-trees = record { nodes = nodes-known bs a.laid; whole = trees-whole bs a.laid; fits = trees-fit bs a.laid }
-
-  pub all-trees : AllTrees (nodes_part bs) c.names c.nodes
-  all-trees = rw (names-count a, nodes-count a) book-trees
-
-  pub rows-exact : length (nodes_part bs) ≤ c.nodes * 12
-  rows-exact = omega (arith, nodes-long bs a.laid, nodes-count a)
-
-  -- the entries from one to another
-  module _ {from to : ℕ} (l : from ≤ to) (h : to ≤ c.definitions) where
-    pub entries-of : Entries (definitions_part bs) c.names c.nodes from to
-    entries-of = rw (names-count a, nodes-count a) (entries-known bs a.laid from to l (omega (arith, definitions-count a)))

@@ -4,6 +4,7 @@ ghost use Rattle.std.specs.Prelude.{◌≤◌};
 use crate::types::Walk;
 use book::admitted::AdmittedBook;
 use book::read::{Entry, Node};
+use environment::scope::Scope;
 use refusals::{Refusal, Verdict};
 
 // The definitions of entries `from` up to `to`: they see each other and no others.
@@ -69,15 +70,8 @@ impl<'a> Decs<'a> {
         ensures { EnteredOf self.entry result roots.now ends.new }
     {
         self.check_bodies(roots)?;
-        let c = self.book.contents;
-        environment::find_ends(
-            self.book.nodes(),
-            roots,
-            c.names,
-            c.nodes,
-            self.to - self.from,
-            ends,
-        )?;
+        let scope = Scope::of(self.book, roots);
+        scope.find_ends(self.to - self.from, ends)?;
         if self.methods_fit(roots, ends) {
             return Ok(());
         }
@@ -91,15 +85,7 @@ impl<'a> Decs<'a> {
         requires ends { ends.old ≡ zero_table }
         ensures { DecsOf self.entry result roots.new ends.new }
     {
-        let c = self.book.contents;
-        environment::enter(
-            self.book.definitions(),
-            c.names,
-            c.nodes,
-            self.from,
-            self.to,
-            roots,
-        )?;
+        environment::enter(self.book, self.from, self.to, roots)?;
         let checked = self.check_entered(roots, ends);
         if checked.is_err() {
             environment::clear(roots);

@@ -13,6 +13,7 @@ use crate::prog::Passed;
 use crate::types::Walk;
 use book::admitted::AdmittedBook;
 use book::read::{Entry, Node};
+use environment::scope::Scope;
 use format::Limits;
 use refusals::{Refusal, Verdict};
 
@@ -73,12 +74,11 @@ fn check_arguments(
     requires seen { (ds : List Definition) × Seen book.bytes.now book.contents both.now count ds }
     ensures { (ds : List Definition) → Seen book.entry.bytes.now book.entry.contents both.now count ds → ArgumentsFound book.entry.bytes.now count root ds result }
 {
-    let rows = book.nodes();
-    let c = book.contents;
+    let scope = Scope::of(book, both);
     let mut ends = environment::no_ends();
-    environment::find_ends(rows, both, c.names, c.nodes, count, &mut ends)?;
+    scope.find_ends(count, &mut ends)?;
     let from = root + 1;
-    let until = root + Node::at(rows, root).size;
+    let until = root + Node::at(scope.rows, root).size;
     Walk::new(book, both, Some(&ends)).check_types(false, from, until)?;
     Ok(InitArgs { count, from, until })
 }

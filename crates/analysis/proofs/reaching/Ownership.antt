@@ -23,7 +23,7 @@ use Rattle.format.proofs.References.{everywhere}
 use Rattle.format.proofs.Stored.{tree-count}
 use Rattle.format.proofs.Encoded.{definitions-run}
 use Rattle.format.proofs.Admitted.{admitted-parts, definitions-body, definition-stored}
-use Rattle.syntax.proofs.Book.{nodes-known, entries-known}
+use Rattle.environment.proofs.Book.{nodes-known, entries-known}
 use Rattle.analysis.specs.Reaching.{Apart, Defining, OwnedBy, OwnersAs, no_rows}
 
 pub rows-length : length no_rows ≡ 4096

@@ -2,29 +2,48 @@
 use Prim.Native.Nat.{◌<◌}
 use mathlib.Core.Path.{sym, ◌∙◌}
 use native.Mathlib.Omega.{arith}
+use Rattle.book.proofs.Named.{book-of}
 use Rattle.environment.proofs.BlankTable.{blank-filled}
-use Rattle.environment.proofs.Links.{get_or-within}
+use Rattle.environment.proofs.Book.{nodes-of, entries-of, entry-within}
+use Rattle.environment.proofs.Links.{rooted, unrooted}
 use Rattle.environment.proofs.RootTable.{table-start, table-end, name-fits, table-twice, table-on}
 use Rattle.environment.proofs.enter.Goals as goal
 
 pub loop-d-init : goal.loop-d-init
-loop-d-init c = rw c.requires.3 (table-start _ _ _ _ _ c.requires.0)
+loop-d-init c =
+    let a = book-of _ _ c.args.book.laid in
+    rw c.requires.empty (table-start _ _ _ _ _ (entries-of a c.requires.ordered c.requires.within))
 
-pub returns-then-roots-n : goal.returns-then-roots-n
-returns-then-roots-n c =
-    let p = c.requires in
+pub at-e-requires : goal.at-e-requires
+at-e-requires c = rw c.definitions-entries.ensures (entry-within (book-of _ _ c.args.book.laid) c.requires.within c.loop-d-test.true)
+
+pub bounds-roots-n : goal.bounds-roots-n
+bounds-roots-n c =
+    let a = book-of _ _ c.args.book.laid in
+    let n = nodes-of a in
     let l = c.loop-d.invariant in
-    let named : c.at-e.result.name < 1024 = name-fits p.0 p.1 p.2 l c.loop-d-test.true _ c.at-e.ensures in
-    let in-table = get_or-within c.loop-d.roots c.at-e.result.name 0 65535 (omega (arith, l.long)) in
-    table-twice p.0 p.1 p.2 l c.loop-d-test.true _ c.at-e.ensures (λ e. c.if-roots-n.true (in-table ∙ e)) (blank-filled l.long (c.fill.ensures.after (λ y e. e)))
+    let small = name-fits (entries-of a c.requires.ordered c.requires.within) n.few_names n.few_nodes l c.loop-d-test.true _ (rw c.definitions-entries.ensures at c.at-e.ensures) in
+    omega (arith, small, l.long)
+
+pub returns-then-is_some : goal.returns-then-is_some
+returns-then-is_some c =
+    let a = book-of _ _ c.args.book.laid in
+    let l = c.loop-d.invariant in
+    let n = nodes-of a in
+    table-twice (entries-of a c.requires.ordered c.requires.within) n.few_names n.few_nodes l c.loop-d-test.true _
+    (rw c.definitions-entries.ensures at c.at-e.ensures)
+    (rooted c.root_of.result c.root_of.ensures.some (sym c.is_some.ensures ∙ c.if-is_some.true)) (blank-filled l.long (c.fill.ensures.after (λ y e. e)))
 
 pub loop-d-preserved : goal.loop-d-preserved
 loop-d-preserved c =
-    let p = c.requires in
-    let l = c.loop-d.invariant in
-    let named : c.at-e.result.name < 1024 = name-fits p.0 p.1 p.2 l c.loop-d-test.true _ c.at-e.ensures in
-    let in-table = get_or-within c.loop-d.roots c.at-e.result.name 0 65535 (omega (arith, l.long)) in
-    table-on p.0 p.1 p.2 l c.loop-d-test.true _ c.at-e.ensures (sym in-table ∙ c.if-roots-n.false)
+    let a = book-of _ _ c.args.book.laid in
+    let n = nodes-of a in
+    table-on (entries-of a c.requires.ordered c.requires.within) n.few_names n.few_nodes c.loop-d.invariant c.loop-d-test.true _
+    (rw c.definitions-entries.ensures at c.at-e.ensures)
+    (unrooted c.root_of.result c.root_of.ensures.none (sym c.is_some.ensures ∙ c.if-is_some.false))
 
 pub returns : goal.returns
-returns c = table-end c.requires.0 c.requires.1 c.requires.2 c.loop-d.invariant c.loop-d-test.false
+returns c =
+    let a = book-of _ _ c.args.book.laid in
+    let n = nodes-of a in
+    table-end (entries-of a c.requires.ordered c.requires.within) n.few_names n.few_nodes c.loop-d.invariant c.loop-d-test.false

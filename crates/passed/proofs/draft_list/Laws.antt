@@ -28,7 +28,8 @@ use Rattle.judgement.proofs.Lookup.{keep-first}
 use Rattle.environment.specs.Tables.{Binds, Entries, Roots, DefinesAs, definitions_in}
 use Rattle.environment.proofs.Definitions.{defined-length, defined-binds, defined-once}
 use Rattle.environment.specs.Trees.{AllTrees}
-use Rattle.syntax.proofs.Book.{all-made, definitions-parts, owners-rise, main-actor-is, few-definitions, entries-known, nodes-known, trees-fit, file-root, some-files, files-within}
+use Rattle.environment.proofs.Book.{few-definitions, entries-known, nodes-known, trees-fit}
+use Rattle.syntax.proofs.Book.{all-made, definitions-parts, owners-rise, main-actor-is, file-root, some-files, files-within}
 use Rattle.listing.specs.Chase.{chase_types, walked}
 use Rattle.listing.specs.Room.{needs_actor}
 use Rattle.listing.specs.DraftList.{draft_definitions, draft_list}

@@ -26,7 +26,7 @@ use Rattle.book.proofs.Named.{book-of}
 use Rattle.environment.specs.Tables.{Nodes, Entries, Roots, Binds, Tabled, DefinesAs, AliasEndsAs, definitions_in}
 use Rattle.environment.proofs.Definitions.{defined-length, defined-binds, defined-once}
 use Rattle.environment.proofs.FuncEnds.{ends-func}
-use Rattle.syntax.proofs.Book.{all-trees, rows-exact, entries-of, entries-held, few-all}
+use Rattle.environment.proofs.Book.{all-trees, rows-exact, entries-of, entries-held, few-all}
 use Rattle.typing.specs.declared.types.Walk.{Walk}
 use Rattle.typing.specs.declared.decs.Decs.{Decs}
 use Rattle.typing.specs.Walk.{type_verdict}

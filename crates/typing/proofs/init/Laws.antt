@@ -55,7 +55,8 @@ use Rattle.typing.specs.Passing.{PassedAs}
 use Rattle.environment.proofs.Trees.{blank-nodes}
 use Rattle.syntax.proofs.Stored.{tree-kids}
 use Rattle.typing.proofs.decs.Laws.{definitions-none, definitions-cons}
-use Rattle.syntax.proofs.Book.{files-held, few-all, names-book, book-trees, all-trees, rows-exact, entries-of, init_of, entries-known, init-within, no-init, init-definitions-none, init-tree-is, init-root, main-definitions-are, init-definitions-are, file-root}
+use Rattle.environment.proofs.Book.{few-all, book-trees, all-trees, rows-exact, entries-of, entries-known}
+use Rattle.syntax.proofs.Book.{files-held, names-book, init_of, init-within, no-init, init-definitions-none, init-tree-is, init-root, main-definitions-are, init-definitions-are, file-root}
 use Rattle.book.proofs.Opened.{names-count, nodes-count, definitions-count, files-count}
 use Rattle.typing.proofs.prog.Laws.{definitions-passed}
 

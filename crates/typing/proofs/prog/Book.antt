@@ -21,7 +21,7 @@ use Rattle.judgement.specs.Resolve.{resolve_actor}
 use Rattle.environment.specs.Tables.{Tabled}
 use Rattle.std.proofs.lemmas.Option.{IfSome_then}
 use Rattle.syntax.specs.Interfaces.{is_present, main_of}
-use Rattle.syntax.proofs.Book.{few-definitions}
+use Rattle.environment.proofs.Book.{few-definitions}
 use Rattle.syntax.proofs.interface.Laws.{tree-absent, tree-present}
 use Rattle.typing.specs.declared.prog.Passed.{Passed}
 use Rattle.typing.specs.Passing.{PassedAs}

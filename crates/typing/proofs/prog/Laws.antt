@@ -36,7 +36,8 @@ use Rattle.syntax.specs.declared.interface.Interface.{Interface}
 use Rattle.syntax.specs.Files.{init_at, SplitAs, FilesAs, FilesPassed}
 use Rattle.syntax.specs.Interfaces.{interface_tree, ActorAs, InterfaceAs}
 use Rattle.syntax.specs.Resolving.{ResolvedAs}
-use Rattle.syntax.proofs.Book.{book-trees, entries-of, main-definitions-are}
+use Rattle.environment.proofs.Book.{book-trees, entries-of}
+use Rattle.syntax.proofs.Book.{main-definitions-are}
 use Rattle.syntax.proofs.interface.Laws.{interface-as}
 use Rattle.typing.specs.declared.types.Walk.{Walk}
 use Rattle.typing.specs.Walk.{Env}

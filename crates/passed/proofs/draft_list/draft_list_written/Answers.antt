@@ -1,5 +1,5 @@
 -- `draft_list_written` meets its contract. Assumes nothing.
-use Rattle.syntax.proofs.Book.{definitions-within}
+use Rattle.environment.proofs.Book.{definitions-within}
 use Rattle.book.specs.Tables.{blank_table}
 use Rattle.book.proofs.Opened.{definitions-count}
 use Rattle.typing.proofs.Handing.{handed-on}

@@ -1,6 +1,7 @@
 -- `actor::check_hashes` meets its contract. Assumes nothing.
 use Rattle.book.proofs.Named.{book-of}
-use Rattle.syntax.proofs.Book.{hashes-book, all-trees}
+use Rattle.environment.proofs.Book.{all-trees}
+use Rattle.syntax.proofs.Book.{hashes-book}
 use Rattle.syntax.proofs.hashes.Methods.{services-in}
 use Rattle.syntax.proofs.actor.check_hashes.Goals as goal
 

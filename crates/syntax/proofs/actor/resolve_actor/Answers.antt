@@ -2,7 +2,7 @@
 use mathlib.Core.Path.{sym, ◌∙◌}
 use Rattle.std.proofs.lemmas.Result.{err_from_is_err_and}
 use Rattle.book.proofs.Named.{book-of}
-use Rattle.syntax.proofs.Book.{all-trees}
+use Rattle.environment.proofs.Book.{all-trees}
 use Rattle.syntax.proofs.actor.Merging.{root-inside, resolved-written, resolved-refused, merged-as, hashes-refused, resolved-merged}
 use Rattle.syntax.proofs.actor.resolve_actor.Goals as goal
 

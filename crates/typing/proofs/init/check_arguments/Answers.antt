@@ -4,29 +4,36 @@ use native.Mathlib.Omega.{arith}
 use Rattle.format.specs.Encode.{Row}
 use Rattle.format.proofs.Rows.{node-within}
 use Rattle.book.proofs.Named.{book-of}
-use Rattle.syntax.proofs.Book.{all-trees}
+use Rattle.environment.proofs.Book.{all-trees}
 use Rattle.typing.proofs.Handing.{handed-on}
 use Rattle.typing.proofs.init.Laws.{arguments-stop, arguments-end}
 use Rattle.typing.proofs.init.check_arguments.Goals as goal
 
 pub find_ends-requires : goal.find_ends-requires
-find_ends-requires c = let s = c.requires.seen.1 in rw c.nodes-rows.ensures ((all-trees (book-of _ _ c.args.book.laid)).nodes, c.requires.table, c.no_ends-ends.ensures, (_, (s.binds, s.counted)), omega (arith, s.few))
+find_ends-requires c =
+    let s = c.requires.seen.1 in
+    let o = c.of-scope.ensures in
+    record { ends = c.no_ends-ends.ensures; defined = rw (o.rows, o.roots) (_, (s.binds, s.counted)); few = omega (arith, s.few) }
 
 pub at-requires : goal.at-requires
-at-requires c = rw c.nodes-rows.ensures (node-within ((all-trees (book-of _ _ c.args.book.laid)).nodes.tree _ c.requires.inside).whole)
+at-requires c = rw c.of-scope.ensures.rows (node-within ((all-trees (book-of _ _ c.args.book.laid)).nodes.tree _ c.requires.inside).whole)
 
 pub overflow_add-until : goal.overflow_add-until
 overflow_add-until c =
     let a = all-trees (book-of _ _ c.args.book.laid) in
     let w = a.nodes.tree _ c.requires.inside in
-    let s = rw c.nodes-rows.ensures at (ap (λ (q : Row). q.size) c.at.ensures) in
+    let s = rw c.of-scope.ensures.rows at (ap (λ (q : Row). q.size) c.at.ensures) in
     omega (arith, s, w.ends, a.nodes.few_nodes)
 
 pub returns-in_err-check_types : goal.returns-in_err-check_types
 returns-in_err-check_types c =
+    let o = c.of-scope.ensures in
     rw (handed-on c.from_residual-in_err-check_types.result c.from_residual-in_err-check_types.ensures)
-    (λ ds s. arguments-stop (book-of _ _ c.args.book.laid) (rw c.nodes-rows.ensures at c.in_ok-find_ends.ensures) s refl c.new.ensures c.requires.inside (rw c.nodes-rows.ensures at c.at.ensures) c.in_err-check_types.ensures)
+    (λ ds s. arguments-stop (book-of _ _ c.args.book.laid) (rw (o.rows, o.roots, o.names, o.nodes) at c.in_ok-find_ends.ensures) s refl c.new.ensures c.requires.inside
+    (rw o.rows at c.at.ensures) c.in_err-check_types.ensures)
 
 pub returns : goal.returns
 returns c =
-    λ ds s. arguments-end (book-of _ _ c.args.book.laid) (rw c.nodes-rows.ensures at c.in_ok-find_ends.ensures) s refl c.new.ensures c.requires.inside (rw c.nodes-rows.ensures at c.at.ensures) c.in_ok-check_types.ensures
+    let o = c.of-scope.ensures in
+    λ ds s. arguments-end (book-of _ _ c.args.book.laid) (rw (o.rows, o.roots, o.names, o.nodes) at c.in_ok-find_ends.ensures) s refl c.new.ensures c.requires.inside
+    (rw o.rows at c.at.ensures) c.in_ok-check_types.ensures

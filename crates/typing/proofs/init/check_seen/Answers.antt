@@ -1,5 +1,5 @@
 -- `check_seen` meets its contract. Assumes nothing.
-use Rattle.syntax.proofs.Book.{all-trees}
+use Rattle.environment.proofs.Book.{all-trees}
 use Rattle.typing.proofs.init.Laws.{own-table, main-entries, few-own, init-held, root-inside, both-table, init-seen, arguments-seen}
 use Rattle.typing.proofs.init.check_seen.Goals as goal
 

@@ -1,6 +1,6 @@
 -- `check_prog` meets its contract. Assumes nothing.
 use mathlib.Core.Path.{sym, ◌∙◌}
-use Rattle.syntax.proofs.Book.{entries-held}
+use Rattle.environment.proofs.Book.{entries-held}
 use Rattle.typing.proofs.Handing.{handed-on}
 use Rattle.typing.proofs.prog.Laws.{imports-refused, split-files, decs-refused, defined, left-blank, left-whole}
 use Rattle.typing.proofs.prog.check_prog.Goals as goal

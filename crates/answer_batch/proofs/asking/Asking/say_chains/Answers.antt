@@ -2,7 +2,7 @@
 use mathlib.Core.Path.{refl}
 use native.Mathlib.Omega.{arith}
 use Rattle.book.specs.Tables.{blank_table}
-use Rattle.syntax.proofs.Book.{all-trees, entries-of}
+use Rattle.environment.proofs.Book.{all-trees, entries-of}
 use Rattle.answer_batch.proofs.Laws.{definition-within, body-inside}
 use Rattle.answer_batch.proofs.asking.Asking.say_chains.Goals as goal
 

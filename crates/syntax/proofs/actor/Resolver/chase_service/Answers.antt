@@ -7,7 +7,7 @@ use denote.Bor.{Bor}
 use Rattle.book.proofs.Named.{book-of}
 use Rattle.environment.specs.declared.Alias.{Alias}
 use Rattle.environment.proofs.Links.{AliasAs}
-use Rattle.syntax.proofs.Book.{all-trees}
+use Rattle.environment.proofs.Book.{all-trees}
 use Rattle.syntax.proofs.actor.OneService.{chased, chase-unbound, chase-circle, chase-inside, chase-ends}
 use Rattle.syntax.proofs.actor.Resolver.chase_service.Goals as goal
 

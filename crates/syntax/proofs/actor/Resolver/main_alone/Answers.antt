@@ -2,7 +2,7 @@
 use native.Mathlib.Omega.{arith}
 use Rattle.std.proofs.lemmas.Result.{err_from_is_err_and}
 use Rattle.book.proofs.Named.{book-of}
-use Rattle.syntax.proofs.Book.{all-trees}
+use Rattle.environment.proofs.Book.{all-trees}
 use Rattle.syntax.proofs.actor.OneService.{main-none, main-refused, main-found}
 use Rattle.syntax.proofs.actor.Resolver.main_alone.Goals as goal
 

@@ -1,6 +1,6 @@
 -- A walk over the nodes of an admitted book. Assumes nothing.
 use Rattle.book.proofs.Named.{book-of}
-use Rattle.syntax.proofs.Book.{all-trees}
+use Rattle.environment.proofs.Book.{all-trees}
 use Rattle.typing.proofs.types.Walk.new.Goals as goal
 
 pub invariant_of-result-clause-trees : goal.invariant_of-result-clause-trees
