@@ -2,17 +2,14 @@
 use Rattle.std.specs.Prelude.{◌≡◌, List, ◌∷◌, ℕ, ◌<◌, length}
 use Rattle.format.specs.Book.{Definition}
 use Rattle.judgement.specs.Aliases.{circle, chain, alias_end, name_type}
-use Rattle.environment.specs.Tables.{Nodes, Roots, Binds}
+use Rattle.environment.specs.declared.scope.Scope.{Scope}
+use Rattle.environment.specs.Scopes.{IsBy}
 
 -- The chain of name n ends, and crosses n and these names, so many together.
-pub record Crossing (ns roots : List ℕ) (n crossed : ℕ) (ms : List ℕ) : Type 0 where
-  pub names : ℕ
-  pub count : ℕ
-  pub nodes : Nodes ns names count
-  pub table : Roots roots count
-  pub inside : n < names
+pub record Crossing (s : Scope) (n crossed : ℕ) (ms : List ℕ) : Type 0 where
+  pub inside : n < s.names
   pub definitions : List Definition
-  pub binds : Binds ns roots definitions
+  pub binds : IsBy s definitions
   pub ended : alias_end definitions (name_type n) ≡ circle → ⊥
   pub is : (chain definitions (name_type n)).crossed ≡ n ∷ ms
   pub counted : crossed ≡ length (n ∷ ms)

@@ -6,18 +6,18 @@ ghost use Rattle.passed.specs.Alias.{Crossing};
 ghost use Rattle.passed.specs.Checked.{Passes};
 
 use crate::CheckedBook;
-use book::read::Entry;
-use format::Limits;
+use book::admitted::AdmittedBook;
+use environment::scope::Scope;
 use refusals::{AliasAnswer, Crossed, Refusal};
 
 // The last of the `crossed` names that the chain of name n crosses.
-fn last_crossed(rows: &[u8], roots: &[u16], n: u16, crossed: u16) -> u16
-    requires { (ms : List ℕ) × Crossing rows.now roots.now n crossed ms }
-    ensures { (ms : List ℕ) → Crossing rows.now roots.now n crossed ms → result ≡ last_of n ms }
+fn last_crossed(scope: Scope, n: u16, crossed: u16) -> u16
+    requires { (ms : List ℕ) × Crossing scope n crossed ms }
+    ensures { (ms : List ℕ) → Crossing scope.entry n crossed ms → result ≡ last_of n ms }
 {
     let mut last = n as usize;
     for k in 1..crossed {
-        let Some(link) = environment::step(rows, roots, last) else {
+        let Some(link) = scope.step(last) else {
             unreachable!();
         };
         let Some(next) = link.next else {
@@ -34,12 +34,13 @@ impl CheckedBook<'_, '_> {
         ensures { (b : Passes self.now) → result ≡ alias_answer (alias b.admitted.book name) }
     {
         let n = name as usize;
-        if Limits::NAMES <= n || self.roots[n] == Entry::NO_ROOT {
+        if environment::root_of(self.roots, n).is_none() {
             return Err(Refusal::Unbound(name));
         }
         let names = environment::names_crossed(self.ends, n);
-        let rows = self.passed.contents.nodes(self.bytes);
-        let last = last_crossed(rows, self.roots, name, names);
+        let book = AdmittedBook::new(self.bytes, self.passed.contents);
+        let scope = Scope::of(book, self.roots);
+        let last = last_crossed(scope, name, names);
         Ok(Crossed { names, last })
     }
 }

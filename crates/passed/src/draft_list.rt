@@ -4,6 +4,7 @@ ghost use Rattle.book.specs.Reading.{Admitted, EntryWithin};
 ghost use Rattle.listing.specs.DraftList.{draft_list};
 ghost use Rattle.passed.specs.Drafts.{OwnAs, MainWritten};
 
+use book::admitted::AdmittedBook;
 use book::kinds::Contents;
 use book::read::{Entry, Node};
 use format::Limits;
@@ -30,7 +31,7 @@ fn draft_list_written(book: &[u8], c: Contents, root: u16, out: &mut [u16]) -> A
     let entries = c.definitions(book);
     let own = own_definitions(entries, c.definitions);
     let mut roots = [Entry::NO_ROOT; Limits::NAMES];
-    environment::enter(entries, c.names, c.nodes, 0, own, &mut roots)?;
+    environment::enter(AdmittedBook::new(book, c), 0, own, &mut roots)?;
     let rows = c.nodes(book);
     let n = root as usize;
     let t = Node::at(rows, n);

@@ -11,9 +11,9 @@ use Rattle.refusals.specs.declared.Refusal.TheVariants.{Unbound}
 use Rattle.std.specs.Prelude.{Ok, Err}
 use Rattle.refusals.specs.Handed.{alias_answer}
 use Rattle.refusals.proofs.Outcomes.{after-passed}
-use Rattle.format.specs.Forest.{Forest, count}
+use Rattle.format.specs.Forest.{Forest}
 use Rattle.format.specs.Node.{Node}
-use Rattle.format.specs.Book.{Definition, trees}
+use Rattle.format.specs.Book.{Definition}
 use Rattle.format.specs.Layout.{nodes_part}
 use Rattle.format.specs.Whole.{tree_at}
 use Rattle.book.specs.declared.kinds.Contents.{Contents}
@@ -27,6 +27,8 @@ use Rattle.judgement.proofs.Chains.{Run, stops, loses, crosses}
 use Rattle.judgement.proofs.Lengths.{ended, crossed-first}
 use Rattle.judgement.proofs.Books.{main-definitions-fit}
 use Rattle.environment.specs.declared.Link.{Link}
+use Rattle.environment.specs.declared.scope.Scope.{Scope}
+use Rattle.book.proofs.Opened.{names-count}
 use Rattle.environment.specs.Tables.{link_of, crossed_in}
 use Rattle.std.specs.Prelude.{Option, Some, None}
 use Rattle.environment.proofs.Links.{found-none, found-some, Bound, LinkSays, link-says}
@@ -49,22 +51,22 @@ crossed-one ds {e = e} (crosses {u = u} {n = k} {ns = ks} s r) n ms q =
     (u, s.is-name ∙ ap named i, sym (ap (find_type ds) i) ∙ s.is-type, subst (λ (l : List ℕ). Run ds u l e) j r)
 
 -- ---- The loop: from name m the chain crosses m and `rest`, and ends with the same name
-pub record Left {ns roots : List ℕ} {n crossed : ℕ} {ms : List ℕ} (c : Crossing ns roots n crossed ms) (m k : ℕ) : Type 0 where
-  pub inside : m < c.names
+pub record Left {s : Scope} {n crossed : ℕ} {ms : List ℕ} (c : Crossing s n crossed ms) (m k : ℕ) : Type 0 where
+  pub inside : m < s.names
   pub rest : List ℕ
   pub end : End
   pub run : Run c.definitions (name_type m) (m ∷ rest) end
   pub left : length rest + k ≡ crossed
   pub same : last_of m rest ≡ last_of n ms
 
-pub record Going (ns roots : List ℕ) (n crossed m k : ℕ) : Type 0 where
+pub record Going (s : Scope) (n crossed m k : ℕ) : Type 0 where
   pub some : 1 ≤ k
-  pub left : (ms : List ℕ) (c : Crossing ns roots n crossed ms) → Left c m k
+  pub left : (ms : List ℕ) (c : Crossing s n crossed ms) → Left c m k
 
-pub going-start : (ns roots : List ℕ) (n crossed : ℕ) → Going ns roots n crossed n 1
-going-start ns roots n crossed = record { some = omega arith; left = λ ms c. start c }
+pub going-start : (s : Scope) (n crossed : ℕ) → Going s n crossed n 1
+going-start s n crossed = record { some = omega arith; left = λ ms c. start c }
   where
-    start : {ms : List ℕ} (c : Crossing ns roots n crossed ms) → Left c n 1
+    start : {ms : List ℕ} (c : Crossing s n crossed ms) → Left c n 1
     start {ms} c =
         let t = name_type n in
         record {
@@ -76,9 +78,9 @@ going-start ns roots n crossed = record { some = omega arith; left = λ ms c. st
           same = refl;
         }
 
-module _ {ns roots : List ℕ} {n crossed m k : ℕ} (g : Going ns roots n crossed m k) {ms : List ℕ} (c : Crossing ns roots n crossed ms) where
+module _ {s : Scope} {n crossed m k : ℕ} (g : Going s n crossed m k) {ms : List ℕ} (c : Crossing s n crossed ms) where
   pub name-small : m < 1024
-  name-small = omega (arith, (g.left ms c).inside, c.nodes.few_names)
+  name-small = omega (arith, (g.left ms c).inside, s.whole.few_names)
 
   pub going-end : crossed ≤ k → m ≡ last_of n ms
   unfolding last_of
@@ -96,22 +98,22 @@ module _ {ns roots : List ℕ} {n crossed m k : ℕ} (g : Going ns roots n cross
     goes : link.next ≡ Some next
     left : Left c next (k + 1)
 
-  onward : k < crossed → (o : Option Link) → LinkSays ns roots c.names c.count m o → Onward o
+  onward : k < crossed → (o : Option Link) → LinkSays s.rows.now s.roots.now s.names s.nodes m o → Onward o
   unfolding last_of head head_kind
   onward h o says = two l.rest l.run l.left l.same o says
     where
       l : Left c m k
       l = g.left ms c
 
-      named-on : (s : Link) → Bound ns roots c.names c.count m s → (x : ℕ) (rest : List ℕ) {v : Forest Node} → head (tree_at ns s.root) ≡ named x →
+      named-on : (z : Link) → Bound s.rows.now s.roots.now s.names s.nodes m z → (x : ℕ) (rest : List ℕ) {v : Forest Node} → head (tree_at s.rows.now z.root) ≡ named x →
           find_type c.definitions x ≡ body v → Run c.definitions v rest l.end → suc (length rest) + k ≡ crossed → last_of x rest ≡ last_of n ms →
-          (y : Option ℕ) → s.next ≡ y → Onward (Some s)
-      named-on s i x rest q d run left same None e = absurd (other-named (i.stops e) q)
-      named-on s i x rest q d run left same (Some y) e =
+          (y : Option ℕ) → z.next ≡ y → Onward (Some z)
+      named-on z i x rest q d run left same None e = absurd (other-named (i.stops e) q)
+      named-on z i x rest q d run left same (Some y) e =
           let v : named x ≡ named y = sym q ∙ i.goes-on y e in
           let j : y ≡ x = cc in
           record {
-            link = s;
+            link = z;
             linked = refl;
             next = x;
             goes = e ∙ ap Some j;
@@ -127,33 +129,33 @@ module _ {ns roots : List ℕ} {n crossed m k : ℕ} (g : Going ns roots n cross
           }
 
       two : (rest : List ℕ) → Run c.definitions (name_type m) (m ∷ rest) l.end → length rest + k ≡ crossed → last_of m rest ≡ last_of n ms →
-          (o : Option Link) → LinkSays ns roots c.names c.count m o → Onward o
+          (o : Option Link) → LinkSays s.rows.now s.roots.now s.names s.nodes m o → Onward o
       two [] run left same o says = absurd (omega arith)
       two (x ∷ rest) run left same None says =
           let here = crossed-one c.definitions run m (x ∷ rest) refl in
           absurd (not-both-found (says.lacks.1 c.definitions c.binds) here.2)
-      two (x ∷ rest) run left same (Some s) says =
+      two (x ∷ rest) run left same (Some z) says =
           let here = crossed-one c.definitions run m (x ∷ rest) refl in
           let next = crossed-one c.definitions here.3 x rest refl in
           let i = says.bound in
-          let b : body here.0 ≡ body (tree_at ns s.root) = sym here.2 ∙ i.is c.definitions c.binds in
-          let u : here.0 ≡ tree_at ns s.root = cc in
-          named-on s i x rest (sym (ap head u) ∙ next.1) next.2 next.3 left same s.next refl
+          let b : body here.0 ≡ body (tree_at s.rows.now z.root) = sym here.2 ∙ i.is c.definitions c.binds in
+          let u : here.0 ≡ tree_at s.rows.now z.root = cc in
+          named-on z i x rest (sym (ap head u) ∙ next.1) next.2 next.3 left same z.next refl
 
-  step-on : k < crossed → {o : Option Link} → o ≡ link_of ns (get_or roots m 65535) → Onward o
-  step-on h {o} is = onward h o (link-says c.nodes c.table m o is)
+  step-on : k < crossed → {o : Option Link} → o ≡ link_of s.rows.now (get_or s.roots.now m 65535) → Onward o
+  step-on h {o} is = onward h o (link-says s.whole s.bound m o is)
 
-module _ {ns roots : List ℕ} {n crossed m k : ℕ} (g : Going ns roots n crossed m k) {ms : List ℕ} (c : Crossing ns roots n crossed ms) (h : k < crossed)
-    {o : Option Link} (is : o ≡ link_of ns (get_or roots m 65535)) where
+module _ {s : Scope} {n crossed m k : ℕ} (g : Going s n crossed m k) {ms : List ℕ} (c : Crossing s n crossed ms) (h : k < crossed)
+    {o : Option Link} (is : o ≡ link_of s.rows.now (get_or s.roots.now m 65535)) where
   -- there is a definition, and it is a name
   pub step-links : o ≡ None → ⊥
   step-links e = let z = sym e ∙ (step-on g c h is).linked in cc
 
-  pub step-names : {s : Link} → o ≡ Some s → s.next ≡ None → ⊥
+  pub step-names : {z : Link} → o ≡ Some z → z.next ≡ None → ⊥
   step-names e f = let w = step-on g c h is in let z = sym e ∙ w.linked in let y = w.goes in cc
 
-pub going-on : {ns roots : List ℕ} {n crossed m k : ℕ} (g : Going ns roots n crossed m k) → k < crossed →
-    {o : Option Link} → o ≡ link_of ns (get_or roots m 65535) → {s : Link} → o ≡ Some s → {x : ℕ} → s.next ≡ Some x → Going ns roots n crossed x (k + 1)
+pub going-on : {s : Scope} {n crossed m k : ℕ} (g : Going s n crossed m k) → k < crossed →
+    {o : Option Link} → o ≡ link_of s.rows.now (get_or s.roots.now m 65535) → {z : Link} → o ≡ Some z → {x : ℕ} → z.next ≡ Some x → Going s n crossed x (k + 1)
 going-on {k = k} g h is e {x} f = record {
   some = omega (arith, g.some);
   left = λ ms c.
@@ -179,29 +181,24 @@ module _ {bs : List ℕ} {c : Contents} {a : Admitted bs c} {roots ends' : List 
     found : FoundIn ds n (tree_at (nodes_part bs) (get_or roots n 65535))
     found = find-body ds n _ (x.checked.env.binds n ∙ found-some (nodes_part bs) (get_or roots n 65535) some)
 
-    small : n < length a.book.names
+    pub small : n < length a.book.names
     small = rw (← found.of-name) ((main-definitions-fit a.book (fits x)).exists found.definition found.listed)
 
     pub first : (ms : List ℕ) × ((chain ds (name_type n)).crossed ≡ n ∷ ms)
     unfolding head head_kind
     first = crossed-first ds (name_type n) n refl (listed-defined found.listed found.of-name)
 
-    pub alias-crossing : {rows : List ℕ} → rows ≡ nodes_part bs → {k : ℕ} → k ≡ crossed_in ends' n → Crossing rows roots n k first.0
+    pub alias-crossing : {s : Scope} → s.rows.now ≡ nodes_part bs → s.roots.now ≡ roots → s.names ≡ c.names → {k : ℕ} → k ≡ crossed_in ends' n → Crossing s n k first.0
     unfolding alias_length
-    alias-crossing here is =
-        rw here
-        (record {
-          names = length a.book.names;
-          count = count (trees a.book);
-          nodes = x.all.nodes;
-          table = x.checked.table;
-          inside = small;
+    alias-crossing here table many is =
+        record {
+          inside = omega (arith, small, many, names-count a);
           definitions = ds;
-          binds = x.checked.env.binds;
+          binds = rw (here, table) x.checked.env.binds;
           ended = name-ended ds n _ (x.chains n small);
           is = first.1;
           counted = is ∙ (x.chains n small).crossed ∙ ap length first.1;
-        })
+        }
 
     pub alias-here : {k last : ℕ} → k ≡ crossed_in ends' n → last ≡ last_of n first.0 → Ok (record { names = k; last = last }) ≡ alias_answer (alias a.book n)
     unfolding alias alias_of crossed_by alias_answer alias_length

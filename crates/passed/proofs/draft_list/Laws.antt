@@ -20,7 +20,7 @@ use Rattle.format.proofs.Admitted.{trees-whole}
 use Rattle.format.proofs.Stored.{tree-opens, actor-none, actor-some}
 use Rattle.book.specs.declared.kinds.Contents.{Contents}
 use Rattle.book.specs.Reading.{EntryWithin, Admitted}
-use Rattle.book.proofs.Opened.{names-count, nodes-count, definitions-count}
+use Rattle.book.proofs.Opened.{nodes-count, definitions-count}
 use Rattle.judgement.specs.Environment.{keep}
 use Rattle.judgement.specs.Actor.{main_actor}
 use Rattle.judgement.specs.Check.{once_verdict}
@@ -108,14 +108,12 @@ module _ {bs : List ℕ} {c : Contents} (a : Admitted bs c) where
       draft-entries = entries-known bs a.laid 0 k (omega arith) s.within
 
       -- what `enter` asks
-      pub entered : Entries es c.names c.nodes 0 k × (c.names ≤ 1024) × (c.nodes ≤ 4096)
-      entered =
-          let n = book-trees.nodes in
-          (rw (here, names-count a, nodes-count a) draft-entries, omega (arith, names-count a, n.few_names), omega (arith, nodes-count a, n.few_nodes))
+      pub within : k ≤ c.definitions
+      within = own.within
 
-      module _ {roots : List ℕ} {v : Verdict} (found : DefinesAs es c.nodes 0 k roots v) where
+      module _ {roots : List ℕ} {v : Verdict} (found : DefinesAs entries c.nodes 0 k roots v) where
         d : DefinesAs entries (count (trees b)) 0 k roots v
-        d = rw (← here, ← nodes-count a) found
+        d = rw (← nodes-count a) found
 
         once-is : v ≡ once_verdict [] (draft_definitions b)
         once-is = defined-once rows draft-entries d ∙ sym (ap (once_verdict []) draft-definitions-are)

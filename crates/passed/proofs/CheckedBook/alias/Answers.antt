@@ -1,37 +1,39 @@
--- `alias::alias_passed` meets its contract. Assumes nothing.
-use mathlib.Core.Path.{◌≡◌, sym, ◌∙◌}
-use mathlib.Core.List.{List}
-use Prim.Native.Nat.{ℕ, ◌<◌}
+-- `CheckedBook::alias` meets its contract. Assumes nothing.
+use mathlib.Core.Path.{refl, ap, ◌∙◌}
 use native.Mathlib.Omega.{arith}
-use Rattle.environment.specs.Tables.{Roots}
-use lib.ListN.{get_or, get_or-eq_default}
-use Rattle.environment.proofs.Links.{in-table}
-use Rattle.passed.proofs.alias.Laws.{alias-lacks, alias-crossing, alias-here}
-use Rattle.passed.proofs.CheckedBook.alias.Goals.{then-n-ge-NAMES-via-then-n-ge-NAMES, then-n-ge-NAMES-via-else-n-ge-NAMES+then-self-n}
+use Rattle.book.specs.declared.kinds.Contents.{Contents}
+use Rattle.book.proofs.Opened.{nodes-count}
+use Rattle.environment.proofs.Links.{rooted, unrooted}
+use Rattle.passed.proofs.alias.Laws.{alias-lacks, alias-crossing, alias-here, small}
 use Rattle.passed.proofs.CheckedBook.alias.Goals as goal
 
-pub returns-then-n-ge-NAMES : goal.returns-then-n-ge-NAMES
-returns-then-n-ge-NAMES c =
-    let n = c.args.name in
-    λ b. elim c.then-n-ge-NAMES.branch [
-      | then-n-ge-NAMES-via-then-n-ge-NAMES w ↦ alias-lacks b.passed n (get_or-eq_default c.args.self.now.roots.now 65535 {n = n} (omega (arith, b.passed.checked.table.long, w.if-n-ge-NAMES.true)))
-      | then-n-ge-NAMES-via-else-n-ge-NAMES+then-self-n w ↦ alias-lacks b.passed _ (sym (in-table b.passed.checked.table (omega (arith, w.if-n-ge-NAMES.false))) ∙ w.if-self-n.true)
-    ]
-
-pub bounds-self-n : goal.bounds-self-n
-bounds-self-n c = omega (arith, c.requires.passed.checked.table.long, c.if-n-ge-NAMES.false)
+pub returns-then-is_none : goal.returns-then-is_none
+returns-then-is_none c = λ b. alias-lacks b.passed _ (unrooted c.root_of.result c.root_of.ensures.none c.if-is_none.ensures)
 
 pub names_crossed-names-requires : goal.names_crossed-names-requires
-names_crossed-names-requires c = (c.requires.passed.checked.ended.long, omega (arith, c.if-n-ge-NAMES.false))
+names_crossed-names-requires c =
+    let x = c.requires.passed in
+    (x.checked.ended.long, omega (arith, small x _ (rooted c.root_of.result c.root_of.ensures.some c.if-is_none.ensures), x.all.nodes.few_names))
 
--- The name has a definition.
-some : {roots : List ℕ} {nodes n : ℕ} → Roots roots nodes → n < 1024 → (get_or roots n 0 ≡ 65535 → ⊥) → get_or roots n 65535 ≡ 65535 → ⊥
-some y small found z = found (in-table y small ∙ z)
+pub new-book-requires : goal.new-book-requires
+new-book-requires c = c.requires.admitted
+
+pub of-scope-requires : goal.of-scope-requires
+of-scope-requires c =
+    let a = c.requires.admitted in
+    rw (c.new-book.ensures.contents, nodes-count a) c.requires.passed.checked.table
 
 pub last_crossed-last-requires : goal.last_crossed-last-requires
-last_crossed-last-requires c = (_, alias-crossing c.requires.passed _ (some c.requires.passed.checked.table (omega (arith, c.if-n-ge-NAMES.false)) c.if-self-n.false) c.nodes-rows.ensures c.names_crossed-names.ensures)
+last_crossed-last-requires c =
+    let o = c.of-scope.ensures in
+    (_, alias-crossing c.requires.passed _ (rooted c.root_of.result c.root_of.ensures.some c.if-is_none.ensures) (rw c.new-book.ensures.bytes at o.rows) (rw o.roots refl)
+    (o.names ∙ ap (λ (d : Contents). d.names) c.new-book.ensures.contents) c.names_crossed-names.ensures)
 
 pub returns : goal.returns
 returns c =
-    λ b. alias-here b.passed _ (some b.passed.checked.table (omega (arith, c.if-n-ge-NAMES.false)) c.if-self-n.false) c.names_crossed-names.ensures
-    (c.last_crossed-last.ensures _ (alias-crossing b.passed _ (some b.passed.checked.table (omega (arith, c.if-n-ge-NAMES.false)) c.if-self-n.false) c.nodes-rows.ensures c.names_crossed-names.ensures))
+    let o = c.of-scope.ensures in
+    λ b.
+    let some = rooted c.root_of.result c.root_of.ensures.some c.if-is_none.ensures in
+    alias-here b.passed _ some c.names_crossed-names.ensures
+    (c.last_crossed-last.ensures _
+    (alias-crossing b.passed _ some (rw c.new-book.ensures.bytes at o.rows) (rw o.roots refl) (o.names ∙ ap (λ (d : Contents). d.names) c.new-book.ensures.contents) c.names_crossed-names.ensures))

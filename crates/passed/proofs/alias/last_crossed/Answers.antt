@@ -4,10 +4,10 @@ use Rattle.passed.proofs.alias.Laws.{going-start, name-small, going-end, step-li
 use Rattle.passed.proofs.alias.last_crossed.Goals as goal
 
 pub loop-k-init : goal.loop-k-init
-loop-k-init c = going-start _ _ _ _
+loop-k-init c = going-start _ _ _
 
 pub step-requires : goal.step-requires
-step-requires c = let p = c.requires in (_, _, p.1.nodes, p.1.table, (c.loop-k.invariant.left _ p.1).inside)
+step-requires c = (c.loop-k.invariant.left _ c.requires.1).inside
 
 pub unreachable-requires : goal.unreachable-requires
 unreachable-requires c = step-links c.loop-k.invariant c.requires.1 c.loop-k-test.true c.step.ensures c.in_default.is

@@ -4,7 +4,7 @@ use Rattle.book.specs.Tables.{blank_table}
 use Rattle.book.proofs.Opened.{definitions-count}
 use Rattle.typing.proofs.Handing.{handed-on}
 use Rattle.passed.proofs.Asking.{handed-refused, handed-as}
-use Rattle.passed.proofs.draft_list.Laws.{entered, draft-twice, written, draft-says}
+use Rattle.passed.proofs.draft_list.Laws.{within, draft-twice, written, draft-says}
 use mathlib.Core.Path.{refl, ap}
 use native.Mathlib.Omega.{arith}
 use Rattle.format.specs.Encode.{Row}
@@ -17,39 +17,44 @@ own_definitions-own-requires c = let a = c.requires.0 in rw (c.definitions-entri
 
 pub enter-requires : goal.enter-requires
 unfolding blank_table
-enter-requires c = let e = entered c.requires.0 c.requires.1 c.definitions-entries.ensures c.own_definitions-own.ensures in (e.0, e.1, e.2, refl)
+enter-requires c =
+    record {
+      ordered = omega arith;
+      within = rw c.new.ensures.contents (within c.requires.0 c.requires.1 c.definitions-entries.ensures c.own_definitions-own.ensures);
+      empty = refl;
+    }
 
 pub returns-in_err-enter : goal.returns-in_err-enter
 returns-in_err-enter c =
     rw (handed-on c.from_residual.result c.from_residual.ensures)
-    (λ a. handed-refused _ (draft-twice a c.requires.1 c.definitions-entries.ensures c.own_definitions-own.ensures c.enter.ensures c.in_err-enter.was))
+    (λ a. handed-refused _ (draft-twice a c.requires.1 c.definitions-entries.ensures c.own_definitions-own.ensures (rw (c.new.ensures.bytes, c.new.ensures.contents) at c.enter.ensures) c.in_err-enter.was))
 
 pub at-t-requires : goal.at-t-requires
 at-t-requires c =
-    let ready = written c.requires.0 c.requires.1 c.definitions-entries.ensures c.own_definitions-own.ensures c.enter.ensures c.in_ok-enter.was c.nodes-rows.ensures in
+    let ready = written c.requires.0 c.requires.1 c.definitions-entries.ensures c.own_definitions-own.ensures (rw (c.new.ensures.bytes, c.new.ensures.contents) at c.enter.ensures) c.in_ok-enter.was c.nodes-rows.ensures in
     here-within ready.0.rooted ready.0.node
 
 pub overflow_add-n : goal.overflow_add-n
 overflow_add-n c =
-    let ready = written c.requires.0 c.requires.1 c.definitions-entries.ensures c.own_definitions-own.ensures c.enter.ensures c.in_ok-enter.was c.nodes-rows.ensures in
+    let ready = written c.requires.0 c.requires.1 c.definitions-entries.ensures c.own_definitions-own.ensures (rw (c.new.ensures.bytes, c.new.ensures.contents) at c.enter.ensures) c.in_ok-enter.was c.nodes-rows.ensures in
     omega (arith, here-small ready.0.rooted ready.0.node (ap (λ (q : Row). q.size) c.at-t.ensures))
 
 pub chase_types-requires : goal.chase_types-requires
 chase_types-requires c =
-    let ready = written c.requires.0 c.requires.1 c.definitions-entries.ensures c.own_definitions-own.ensures c.enter.ensures c.in_ok-enter.was c.nodes-rows.ensures in
+    let ready = written c.requires.0 c.requires.1 c.definitions-entries.ensures c.own_definitions-own.ensures (rw (c.new.ensures.bytes, c.new.ensures.contents) at c.enter.ensures) c.in_ok-enter.was c.nodes-rows.ensures in
     (here-readable ready.0.rooted ready.0.node (ap (λ (q : Row). q.size) c.at-t.ensures), ready.1)
 
 pub returns-in_err-w : goal.returns-in_err-w
 returns-in_err-w c =
-    let ready = written c.requires.0 c.requires.1 c.definitions-entries.ensures c.own_definitions-own.ensures c.enter.ensures c.in_ok-enter.was c.nodes-rows.ensures in
+    let ready = written c.requires.0 c.requires.1 c.definitions-entries.ensures c.own_definitions-own.ensures (rw (c.new.ensures.bytes, c.new.ensures.contents) at c.enter.ensures) c.in_ok-enter.was c.nodes-rows.ensures in
     rw (handed-on c.from_residual-in_err-w.result c.from_residual-in_err-w.ensures)
-    (λ a. handed-refused _ (draft-says a c.requires.1 c.definitions-entries.ensures c.own_definitions-own.ensures c.enter.ensures c.in_ok-enter.was c.nodes-rows.ensures _
+    (λ a. handed-refused _ (draft-says a c.requires.1 c.definitions-entries.ensures c.own_definitions-own.ensures (rw (c.new.ensures.bytes, c.new.ensures.contents) at c.enter.ensures) c.in_ok-enter.was c.nodes-rows.ensures _
     (walked-same ready.1 _ (written-is _ _ _ c.at-t.ensures) c.in_err-w.ensures)))
 
 pub returns : goal.returns
 returns c =
-    let ready = written c.requires.0 c.requires.1 c.definitions-entries.ensures c.own_definitions-own.ensures c.enter.ensures c.in_ok-enter.was c.nodes-rows.ensures in
+    let ready = written c.requires.0 c.requires.1 c.definitions-entries.ensures c.own_definitions-own.ensures (rw (c.new.ensures.bytes, c.new.ensures.contents) at c.enter.ensures) c.in_ok-enter.was c.nodes-rows.ensures in
     λ a. handed-as
-    (draft-says a c.requires.1 c.definitions-entries.ensures c.own_definitions-own.ensures c.enter.ensures c.in_ok-enter.was c.nodes-rows.ensures _
+    (draft-says a c.requires.1 c.definitions-entries.ensures c.own_definitions-own.ensures (rw (c.new.ensures.bytes, c.new.ensures.contents) at c.enter.ensures) c.in_ok-enter.was c.nodes-rows.ensures _
     (walked-same ready.1 _ (written-is _ _ _ c.at-t.ensures) c.in_ok-w.ensures))
     (rw c.as_slice.ensures.value at c.hand.ensures)
