@@ -219,9 +219,11 @@ class SmallCrates(InFolder):
     def test_named(self):
         source = "pub fn alias_end(n: u64) -> u64 { n }\npub fn no_end() { }\n"
         crate(self.root, "environment", source)
-        self.is_wrong("environment::step has to be a loop and is not there")
-        write(os.path.join(self.root, "crates", "environment", "src", "lib.rt"), source + "pub fn step(n: u64) -> u64 { n }\n")
-        self.is_wrong("environment::no_ends has to be a loop and is not there")
+        self.is_wrong("environment::scope::Scope::step has to be a loop and is not there")
+        folder = os.path.join(self.root, "crates", "environment", "src")
+        write(os.path.join(folder, "lib.rt"), source + "pub mod scope;\n")
+        write(os.path.join(folder, "scope.rt"), "pub struct Scope;\nimpl Scope {\n    pub fn step(self, n: u64) -> u64 { n }\n}\n")
+        self.is_wrong("environment::scope::Scope::alias_end has to be a loop and is not there")
 
     def test_usage(self):
         for arguments in (["--stacks"], [self.root, self.root]):
@@ -377,13 +379,13 @@ class Modules(unittest.TestCase):
 
 
 LAST_NAME = """
-fn last_name(rows: &[u8], roots: &[u16], n: usize, k: usize) -> usize {
+fn last_name(scope: %s, n: usize, k: usize) -> usize {
     if k == 0 {
         return n;
     }"""
 
 # The name after n, in what comes behind.
-NEXT_NAME = """    let Some(link) = %s else {
+NEXT_NAME = """    let Some(link) = scope.step(n) else {
         return n;
     };
     let Some(next) = link.next else {
@@ -463,22 +465,6 @@ class Planted(InFolder):
     def test_find_ends(self):
         """From a function that it calls back to it."""
         self.copy("environment")
-        with open(os.path.join(self.root, "crates", "environment", "src", "lib.rt"), encoding="utf-8") as file:
-            signature = re.search(r"\bfn find_ends\(([^()]*)\)", file.read())[1]
-        arguments = ", ".join(part.split(":")[0].strip() for part in signature.split(",") if part.strip())
-
-        def with_turn(text):
-            signature = re.search(r"pub (fn find_ends\(.*?\n\)[^\n]*\n)", text, re.DOTALL)[1].replace("find_ends", "turn")
-            return f"{text}\n{signature}{{\n    find_ends({arguments})\n}}\n"
-
-        self.edit("environment/src/lib.rt", with_turn)
-        self.plant("environment/src/lib.rt", "find_ends", f"let _ = turn({arguments})")
-        self.in_cycle("environment/src/lib.rt", "find_ends", "turn")
-        self.goes("environment::find_ends", "environment::turn", "environment::find_ends")
-
-    def test_find_ends_of_scope(self):
-        """The method that has the loop, from one that it calls."""
-        self.copy("environment")
         self.plant("environment/src/scope.rt", "note", "let _ = self.find_ends(0, ends)")
         self.in_cycle("environment/src/scope.rt", "find_ends", "note")
         self.goes("environment::scope::Scope::find_ends", "environment::scope::Scope::note", "environment::scope::Scope::find_ends")
@@ -509,19 +495,16 @@ class Planted(InFolder):
 
     def test_follower(self):
         """Whoever calls `step`, wherever it is."""
-        for module, step in (
-            ("passed::alias", "environment::step(rows, roots, n)"), ("environment::merge", "crate::step(rows, roots, n)"),
-            ("environment::merge", "crate::scope::Scope::new(rows, roots, 1024, 4096).step(n)"),
-        ):
-            with self.subTest(step):
+        for module, scope in (("passed::alias", "Scope"), ("environment::merge", "crate::scope::Scope")):
+            with self.subTest(module):
                 self.setUp()
-                self.last_name(module, [LAST_NAME, NEXT_NAME % step, "    last_name(rows, roots, next, k - 1)", "}"])
+                self.last_name(module, [LAST_NAME % scope, NEXT_NAME, "    last_name(scope, next, k - 1)", "}"])
 
     def test_follower_through_another(self):
         """Each level has another function call `step`, which is a loop."""
         self.last_name("passed::alias", [
-            LAST_NAME, "    last_name(rows, roots, next_name(rows, roots, n), k - 1)", "}",
-            "fn next_name(rows: &[u8], roots: &[u16], n: usize) -> usize {", NEXT_NAME % "environment::step(rows, roots, n)", "    next", "}"])
+            LAST_NAME % "Scope", "    last_name(scope, next_name(scope, n), k - 1)", "}",
+            "fn next_name(scope: Scope, n: usize) -> usize {", NEXT_NAME, "    next", "}"])
 
     def test_between_definitions(self):
         """Where names lead to definitions all is a loop, whether it follows aliases or not."""
@@ -545,7 +528,7 @@ class Planted(InFolder):
 
     def test_last_crossed(self):
         self.copy("passed")
-        self.plant("passed/src/alias.rt", "last_crossed", "last_crossed(rows, roots, n, crossed)")
+        self.plant("passed/src/alias.rt", "last_crossed", "last_crossed(scope, n, crossed)")
         self.goes("passed::alias::last_crossed", "passed::alias::last_crossed")
 
     def test_below(self):

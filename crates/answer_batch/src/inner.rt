@@ -7,6 +7,7 @@ ghost use Rattle.passed.specs.Checked.{Passes};
 use crate::asking::Asking;
 use crate::lines::Lines;
 use crate::tally::Given;
+use book::admitted::AdmittedBook;
 use book::kinds::Contents;
 use book::read::Entry;
 use environment::scope::Scope;
@@ -33,21 +34,14 @@ impl Asking<'_> {
         requires { Admitted self.old.book.now c }
     {
         let definitions = c.definitions(self.book);
-        let rows = c.nodes(self.book);
+        let book = AdmittedBook::new(self.book, c);
         let mut roots = [Entry::NO_ROOT; Limits::NAMES];
-        let entered = environment::enter(
-            definitions,
-            c.names,
-            c.nodes,
-            0,
-            c.definitions,
-            &mut roots,
-        );
+        let entered = environment::enter(book, 0, c.definitions, &mut roots);
         if let Err(why) = entered {
             self.refuse(why);
             return;
         }
-        let scope = Scope::new(rows, &roots, c.names, c.nodes);
+        let scope = Scope::of(book, &roots);
         self.lines.count(b"given ", c.definitions);
         for d in 0..c.definitions {
             let root = Entry::at(definitions, d).root as usize;
