@@ -5,5 +5,6 @@ pub mod Files
 pub mod Classes
 pub mod Interfaces
 pub mod Resolving
+pub mod Resolvers
 pub mod Buckets
 pub mod Hashed

@@ -4,17 +4,15 @@ ghost use Rattle.std.specs.Prelude.{◌≡◌, List, [], Option, ℕ, ◌+◌, �
 ghost use Rattle.std.proofs.Props.{props};
 ghost use Rattle.format.specs.Book.{Definition};
 ghost use Rattle.format.specs.Layout.{nodes_part, files_part};
-ghost use Rattle.format.specs.Whole.{Within, tree_at};
+ghost use Rattle.format.specs.Whole.{Within};
 ghost use Rattle.book.specs.Reading.{Admitted};
-ghost use Rattle.judgement.specs.Aliases.{alias_end, alias_length};
-ghost use Rattle.judgement.specs.Resolve.{methods_of};
-ghost use Rattle.judgement.specs.Check.{service_verdict, hashes_verdict};
+ghost use Rattle.judgement.specs.Check.{hashes_verdict};
 ghost use Rattle.environment.specs.Tables.{Roots, EndNodes, Chains, Tabled};
 ghost use Rattle.environment.specs.Trees.{AllTrees};
-ghost use Rattle.syntax.specs.Files.{Listed, listed_files, FilesPassed};
+ghost use Rattle.syntax.specs.Files.{Listed, FilesPassed};
 ghost use Rattle.syntax.specs.Classes.{tree_of};
 ghost use Rattle.syntax.specs.Interfaces.{IsService, methods_in, ActorAs};
-ghost use Rattle.syntax.specs.Resolving.{service_at, ServiceAs, MainAs, MainService, ServicesAs, MergedActorAs, ResolvedAs};
+ghost use Rattle.syntax.specs.Resolving.{service_at, MergedActorAs, ResolvedAs};
 
 use crate::by_file::ByFile;
 use crate::files::Files;
@@ -58,13 +56,12 @@ struct Resolver<'a, 'b> {
 }
 
 impl Resolver<'_, '_> {
+    ghost use Rattle.syntax.specs.Resolvers.{ServiceFrom, MainServes, MainFrom, ServicesFrom};
+
     // The service at the end of the chain from a node: `chase_service`.
     fn chase_service(&self, node: usize, other: Refusal) -> Service
         requires { node < self.now.book.contents.nodes }
-        ensures { ServiceAs (nodes_part self.now.book.bytes.now) self.now.roots.now self.now.book.contents.nodes self.now.main
-            (λ ds. service_verdict other (alias_end ds (tree_at (nodes_part self.now.book.bytes.now) node)))
-            (λ ds. methods_of ds (tree_at (nodes_part self.now.book.bytes.now) node))
-            (λ ds. alias_length ds (tree_at (nodes_part self.now.book.bytes.now) node)) result }
+        ensures { ServiceFrom self.now node other result }
     {
         let c = self.book.contents;
         let scope = Scope::new(self.book.nodes(), self.roots, c.names, c.nodes);
@@ -83,7 +80,7 @@ impl Resolver<'_, '_> {
     // Main's actor alone as a merged one, of this root: its class's arguments, and the service below its top; neither where there is none.
     fn main_alone(&self, root: Option<usize>) -> Result<Interface, Refusal>
         requires { IfSome root (λ n. n < self.now.book.contents.nodes) }
-        ensures { MainAs (nodes_part self.now.book.bytes.now) self.now.roots.now self.now.book.contents.nodes self.now.main root result }
+        ensures { MainFrom self.now root result }
     {
         let Some(n) = root else {
             return Ok(Interface {
@@ -105,11 +102,8 @@ impl Resolver<'_, '_> {
 
     // The service of each import in file order (3, 13), behind main's.
     fn import_services(&self, imports: ByFile, main: ByFile) -> Result<ByFile, Refusal>
-        requires { Listed (files_part self.now.book.bytes.now) self.now.book.contents.files imports ×
-            ((root : Option ℕ) × MainService (nodes_part self.now.book.bytes.now) self.now.roots.now self.now.book.contents.nodes self.now.main root main) }
-        ensures { (root : Option ℕ) → MainService (nodes_part self.now.book.bytes.now) self.now.roots.now self.now.book.contents.nodes self.now.main root main →
-            ServicesAs (nodes_part self.now.book.bytes.now) self.now.roots.now self.now.book.contents.nodes self.now.main root
-            (listed_files (nodes_part self.now.book.bytes.now) (files_part self.now.book.bytes.now) imports) result }
+        requires { Listed (files_part self.now.book.bytes.now) self.now.book.contents.files imports × ((root : Option ℕ) × MainServes self.now root main) }
+        ensures { (root : Option ℕ) → MainServes self.now root main → ServicesFrom self.now root imports result }
     {
         let table = self.book.files();
         let mut services = main;

@@ -1,6 +1,5 @@
 // A class's arguments and what stands below its top, cut here alone.
 ghost use Rattle.std.specs.Prelude.{ℕ, ◌+◌, ◌<◌};
-ghost use Rattle.format.specs.Whole.{Whole};
 ghost use Rattle.environment.specs.Trees.{AllTrees};
 ghost use Rattle.syntax.specs.Classes.{LastAs, TopAs};
 
@@ -17,13 +16,13 @@ pub struct Top {
     pub below: usize,
 }
 
-// The last of the trees from node `from` up to node `until`, of which there is one at least.
-fn last_child(rows: &[u8], from: usize, until: usize) -> usize
-    requires { Whole rows.now from until × (from < until) }
-    ensures { LastAs rows.now from until result }
+// The last of these trees, of which there is one at least: `Iterator::last` would say so again, by an Option.
+fn last_child(trees: Siblings) -> usize
+    requires { trees.at < trees.until }
+    ensures { LastAs trees.entry.rows.now trees.entry.at trees.entry.until result }
 {
-    let mut last = from;
-    for (n, _) in Siblings::new(rows, from, until) {
+    let mut last = trees.at;
+    for (n, _) in trees {
         last = n;
     }
     last
@@ -42,7 +41,7 @@ pub fn top_of(rows: &[u8], root: usize) -> Top
             below: root,
         };
     }
-    let last = last_child(rows, root + 1, root + t.size);
+    let last = last_child(Siblings::new(rows, root + 1, root + t.size));
     Top {
         from: root + 1,
         until: last,

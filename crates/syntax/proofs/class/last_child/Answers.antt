@@ -1,4 +1,5 @@
 -- `last_child` meets its contract. Assumes nothing.
+use mathlib.Core.Path.{refl}
 use Rattle.book.proofs.Walking.{here, at, over-next, last}
 use Rattle.syntax.proofs.class.Laws.{last-start, last-on}
 use Rattle.syntax.proofs.class.last_child.Goals as goal
@@ -6,7 +7,7 @@ use Rattle.syntax.proofs.class.last_child.Goals as goal
 pub loop-n-init : goal.loop-n-init
 loop-n-init c =
     rw c.into_iter-n-iterator.ensures.into_iter_gives
-    (record { over = c.new-n-items.ensures.over; left = rw c.new-n-items.ensures.at (last-start c.requires.0 c.requires.1) })
+    (record { over = record { rows = refl; until = refl }; left = last-start c.args.trees.whole c.requires })
 
 pub loop-n-preserved : goal.loop-n-preserved
 loop-n-preserved c =
@@ -18,4 +19,4 @@ pub returns : goal.returns
 returns c =
     let e = last c.loop-n.invariant.over c.in-None.ensures.steps in
     let l = rw e at c.loop-n.invariant.left in
-    l.last c.requires.1
+    l.last c.requires

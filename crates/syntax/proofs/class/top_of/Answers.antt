@@ -6,11 +6,15 @@ use Rattle.syntax.proofs.class.top_of.Goals as goal
 pub returns-then-t : goal.returns-then-t
 returns-then-t c = λ names nodes a h. top-other a h _ c.at-t.ensures c.if-t.true
 
+pub new-requires : goal.new-requires
+new-requires c = let p = c.requires in kids-of (top p.2 p.3) _ c.at-t.ensures c.if-t.false
+
 pub last_child-last-requires : goal.last_child-last-requires
 last_child-last-requires c =
     let p = c.requires in
-    let t = top p.2 p.3 in
-    (kids-of t _ c.at-t.ensures c.if-t.false, kids-some t _ c.at-t.ensures c.if-t.false)
+    rw (c.new.ensures.at, c.new.ensures.over.until) (kids-some (top p.2 p.3) _ c.at-t.ensures c.if-t.false)
 
 pub returns : goal.returns
-returns c = λ names nodes a h. top-class a h _ c.at-t.ensures c.if-t.false c.last_child-last.ensures
+returns c =
+    let n = c.new.ensures in
+    λ names nodes a h. top-class a h _ c.at-t.ensures c.if-t.false (rw (n.over.rows, n.at, n.over.until) at c.last_child-last.ensures)
