@@ -92,10 +92,7 @@ pub fn main_definitions(entries: &[u8], count: usize, init: usize) -> usize
     requires { EntryWithin entries.now count }
     ensures { SplitAs entries.now count init result }
 {
-    for d in 0..count {
-        if Entry::at(entries, d).owner as usize == init {
-            return d;
-        }
-    }
-    count
+    (0..count)
+        .find(|d| Entry::at(entries, *d).owner as usize == init)
+        .unwrap_or(count)
 }
