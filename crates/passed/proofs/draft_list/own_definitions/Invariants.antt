@@ -1,7 +1,0 @@
-use Prim.Native.Nat.{ℕ, ◌<◌}
-use mathlib.Core.Path.{◌≡◌}
-use Rattle.format.specs.Layout.{entry_at}
-use Rattle.passed.proofs.draft_list.own_definitions.Given as goal
-
-abbrev pub invariant-loop-d : goal.invariant-loop-d
-invariant-loop-d l = (k : ℕ) → k < l.d → (entry_at l.entries k).owner ≡ 0
