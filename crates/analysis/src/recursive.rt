@@ -1,6 +1,5 @@
-// The names to be boxed: `infer_rec`. Asks for a book's nodes and its table of roots. Marks go by value, once a walk. A definition's rows are
-// gone through in order, in the loop over the list itself, so nothing recurses. A name listed again is passed over: all that its
-// definition refers to is seen by then.
+// The names to be boxed: `infer_rec`. Asks for a book's nodes and its table of roots. A definition's rows are gone through in order, in the loop
+// over the list itself. A name listed again is passed over: all that its definition refers to is seen by then.
 ghost use Rattle.std.specs.Prelude.{◌≡◌, length, get_or};
 ghost use Rattle.analysis.specs.Book.{Rooted};
 ghost use Rattle.analysis.specs.Marking.{nothing_marked, Begun, InferredAs};
@@ -21,7 +20,7 @@ pub struct Marks {
 impl Marks {
     // Marks before any name is listed.
     #[tactic(auto, unfolding(crate::specs::Marking::nothing_marked, book::specs::Tables::no_flags))]
-    pub fn new() -> Marks
+    fn new() -> Marks
         ensures { result ≡ nothing_marked }
     {
         Marks {
@@ -33,14 +32,11 @@ impl Marks {
 
 // Name by name of the list: what its definition refers to is marked, save what was seen, that is, listed before or marked already.
 // The first listed name without definition stops it.
-pub fn infer_rec(rows: &[u8], roots: &[u16], list: &[u16], marks: Marks) -> Result<Marks, Refusal>
-    requires { Rooted rows.now roots.now × Begun rows.now roots.now marks }
-    ensures { InferredAs rows.now roots.now list.now marks result }
+pub fn infer_rec(rows: &[u8], roots: &[u16], list: &[u16]) -> Result<Marks, Refusal>
+    requires { Rooted rows.now roots.now × Begun rows.now roots.now nothing_marked }
+    ensures { InferredAs rows.now roots.now list.now nothing_marked result }
 {
-    let Marks {
-        mut seen,
-        mut marked,
-    } = marks;
+    let mut marks = Marks::new();
     let mut done: Flags = [0; Limits::NAMES];
     for name in list {
         let n = *name as usize;
@@ -59,13 +55,13 @@ pub fn infer_rec(rows: &[u8], roots: &[u16], list: &[u16], marks: Marks) -> Resu
                 continue;
             }
             let met = row.value as usize;
-            if seen[met] != 1 {
-                seen[met] = 1;
-                marked[met] = 1;
+            if marks.seen[met] != 1 {
+                marks.seen[met] = 1;
+                marks.marked[met] = 1;
             }
         }
-        seen[n] = 1;
+        marks.seen[n] = 1;
         done[n] = 1;
     }
-    Ok(Marks { seen, marked })
+    Ok(marks)
 }

@@ -4,7 +4,6 @@ ghost use Rattle.listing.specs.Marks.{marks_over};
 ghost use Rattle.passed.specs.Checked.{Passes};
 
 use crate::CheckedBook;
-use analysis::recursive::Marks;
 use refusals::Answer;
 
 impl CheckedBook<'_, '_> {
@@ -14,7 +13,7 @@ impl CheckedBook<'_, '_> {
     {
         let c = self.passed.contents;
         let rows = c.nodes(self.bytes);
-        let marks = analysis::recursive::infer_rec(rows, self.roots, list, Marks::new())?;
+        let marks = analysis::recursive::infer_rec(rows, self.roots, list)?;
         refusals::hand(
             analysis::hand::names_of(&marks.marked, c.names).as_slice(),
             out,

@@ -1,5 +1,5 @@
 -- A tree is gone through by its rows, one after the other. Assumes nothing.
---     held, GoneThrough, NodeIn    what the loop holds, and what is said of a tree
+--     GoneThrough, NodeIn          what is said of a tree
 --     agrees-set, agrees-again     one name more in a set, by its flag
 --     tree-each                    a tree is gone through by its references
 --     GoLeft, go-..                the loop over a definition's rows
@@ -33,11 +33,7 @@ use Rattle.analysis.specs.Book.{Agrees}
 use Rattle.analysis.specs.Marking.{Flagged, MarksHold, nothing_marked}
 use Rattle.analysis.proofs.BookNodes.{untabled, here-leafy, row_names, names-none, names-name, names-other}
 
--- ---- What is held
--- The flags of a loop, as its answer has them.
-abbrev pub held : List ℕ → List ℕ → Marks
-held seen set' = record { seen = seen; marked = set' }
-
+-- ---- What is said of a tree
 -- From m, whatever it holds, a tree was gone through.
 abbrev pub GoneThrough : Forest Node → Marks → Marks → Type 0
 GoneThrough t m r = (s : listing.Marks) → MarksHold s (Ok m) → MarksHold (go t s) (Ok r)

@@ -6,12 +6,12 @@ use Rattle.std.proofs.Common.{◌≡◌, get_or}
 use Rattle.book.specs.Tables.{no_flags}
 use Rattle.analysis.proofs.recursive.Rows.{go-end, go-other, go-again, go-anew}
 use Rattle.analysis.proofs.recursive.Laws.{infer-start, infer-end, infer-stop, root-node, infer-again, infer-on}
-use Rattle.analysis.proofs.recursive.infer_rec.Goals.{then-seen-met-ne1, else-seen-met-ne1}
+use Rattle.analysis.proofs.recursive.infer_rec.Goals.{then-marks-met-ne1, else-marks-met-ne1}
 use Rattle.analysis.proofs.recursive.infer_rec.Goals as goal
 
 pub loop-name-init : goal.loop-name-init
 unfolding no_flags
-loop-name-init c = infer-start refl
+loop-name-init c = rw c.new-marks.ensures (infer-start refl)
 
 pub returns-then-root : goal.returns-then-root
 returns-then-root c =
@@ -30,9 +30,9 @@ pub loop-k-preserved : goal.loop-k-preserved
 loop-k-preserved c =
     let r : c.unwrap_or-root.result ≡ get_or c.args.roots.now (get_or c.args.list.now c.loop-name.name-index 0) 65535 = cc (c.get.ensures.lookup.4 (omega arith) 65535) in
     let node = root-node c.loop-name.invariant c.loop-name-test.true _ refl _ r c.requires.0 c.if-root.false in
-    elim c.if-seen-met-ne1.branch [
-      | then-seen-met-ne1 w ↦ rw (w.seen-is, w.marked-is) (go-anew c.loop-k.invariant c.loop-k-test.true _ c.at-row.ensures node c.if-row.false w.if-seen-met-ne1.true)
-      | else-seen-met-ne1 w ↦ rw (w.seen-is, w.marked-is) (go-again c.loop-k.invariant c.loop-k-test.true _ c.at-row.ensures node c.if-row.false w.if-seen-met-ne1.false)
+    elim c.if-marks-met-ne1.branch [
+      | then-marks-met-ne1 w ↦ rw w.marks-is (go-anew c.loop-k.invariant c.loop-k-test.true _ c.at-row.ensures node c.if-row.false w.if-marks-met-ne1.true)
+      | else-marks-met-ne1 w ↦ rw w.marks-is (go-again c.loop-k.invariant c.loop-k-test.true _ c.at-row.ensures node c.if-row.false w.if-marks-met-ne1.false)
     ]
 
 pub loop-name-preserved : goal.loop-name-preserved
