@@ -15,7 +15,9 @@ use Rattle.environment.specs.Tables.{Nodes, EndNodes, EndAt, Chains, Ended}
 use Rattle.refusals.specs.Handed.{Use, numbers}
 use Rattle.listing.specs.Sites.{Site}
 use Rattle.listing.specs.Uses.{kept, entry_of}
-use Rattle.analysis.specs.declared.def_use.Uses.{Uses}
+use Rattle.analysis.specs.declared.places.Places.{Places}
+use Rattle.analysis.specs.declared.def_use.Side.{Side}
+use Rattle.analysis.specs.declared.def_use.Side.TheVariants as side
 
 -- ---- Which entries
 
@@ -26,6 +28,11 @@ Test = Forest Node → Bool
 -- Those of the sites whose type passes the test, in their order.
 unfoldable pub uses_by : Test → List Site → List Use
 uses_by used ss = map entry_of (kept (λ (s : Site). used s.type) ss)
+
+-- A function's arguments and results by number.
+abbrev pub side_number : Side → ℕ
+side_number side.Argument = 0
+side_number side.Result = 1
 
 -- ---- Entries in a lent slice
 
@@ -48,10 +55,10 @@ pub record AtMost (most k : ℕ) (old new : List ℕ) (next : ℕ) : Type 0 wher
   pub long : length new ≡ length old
 
 -- The same of what the code holds: the slice, and how many entries there are.
-abbrev pub Adds : List Use → Uses → Uses → Type 0
+abbrev pub Adds : List Use → Places → Places → Type 0
 Adds es old new = Puts (length old.out.now / 3) old.count es old.out.now new.out.now new.count
 
-abbrev pub AddsAtMost : ℕ → Uses → Uses → Type 0
+abbrev pub AddsAtMost : ℕ → Places → Places → Type 0
 AddsAtMost most old new = AtMost most old.count old.out.now new.out.now new.count
 
 -- ---- Which trees use the name

@@ -3,5 +3,6 @@ pub mod Book
 pub mod Walking
 pub mod Marking
 pub mod Reaching
+pub mod Places
 pub mod Entries
 pub mod Projecting

@@ -1,44 +1,38 @@
 // The uses of a name: `chase_def_use` of analysis.rs, for one name. Its entries are put by one traversal, which its caller runs twice: with no
 // places it counts them, and with places it writes them too. Functions ask of their caller what an admitted book gives (specs/Entries.antt), and
 // the numbers `near`, by which the trees from node i up to node e use the name exactly if near[i] < e.
-ghost use Rattle.std.specs.Prelude.{◌≡◌, [], ◌∷◌, ◌++◌, ◌+◌, ◌-◌, ◌/◌, ◌%◌, ◌≤◌, ◌<◌, length};
+ghost use Rattle.std.specs.Prelude.{◌≡◌, ◌++◌, ◌+◌, ◌-◌, ◌/◌, ◌%◌, ◌≤◌, ◌<◌, length};
 ghost use Rattle.format.specs.Forest.{breadth};
 ghost use Rattle.format.specs.Layout.{row_at, siblings};
 ghost use Rattle.format.specs.Whole.{Whole, WholeAt};
 ghost use Rattle.syntax.specs.Interfaces.{methods_in};
 ghost use Rattle.listing.specs.Sites.{class_sites, func_sites, end_sites, method_sites};
 ghost use Rattle.listing.specs.Offers.{indexed};
-ghost use Rattle.analysis.specs.Entries.{uses_by, Puts, Adds, AtMost, AddsAtMost, Tested, SkipsTo, EndTested, Served, Offered};
+ghost use Rattle.analysis.specs.Entries.{uses_by, side_number, Puts, Adds, AtMost, AddsAtMost, Tested, SkipsTo, EndTested, Served, Offered};
 
+use crate::places::Places;
 use crate::reaching::Near;
 use book::kinds::Kind;
 use book::read::Node;
 use book::walks::Siblings;
+use syntax::interface::Interface;
 
 // An entry's method where it is an argument of the actor's class: a number, as the C interface has it, since entries are handed over as numbers.
 const CLASS: u16 = 65535;
 
-// The entries so far: each is counted, and written where there is a place for it.
-#[derive(Drop)]
-struct Uses<'a> {
-    out: &'a mut [u16],
-    count: usize,
+// Where a function has a type: among its arguments or its results.
+#[derive(Clone, Copy, PartialEq, Eq, PartialOrd, Ord, Debug)]
+enum Side {
+    Argument,
+    Result,
 }
 
-impl Uses<'_> {
-    // One entry more.
-    fn put(&mut self, method: u16, res: u16, index: u16)
-        requires { self.old.count < 4294967295 }
-        ensures same { self.new.out.ghost_name ≡ self.old.out.ghost_name }
-        ensures adds { Adds (record { method = method; result = res; index = index } ∷ []) self.old self.new }
+impl Side {
+    // The number that an entry has for it, as the C interface wants it.
+    fn number(self) -> u16
+        ensures { result ≡ side_number self }
     {
-        let at = 3 * self.count;
-        if at + 3 <= self.out.len() {
-            self.out[at] = method;
-            self.out[at + 1] = res;
-            self.out[at + 2] = index;
-        }
-        self.count += 1;
+        self as u16
     }
 }
 
@@ -56,30 +50,30 @@ fn skip(rows: &[u8], from: usize, until: usize, count: usize) -> usize
 
 // Where uses are looked for: a book's rows, where the chains of its aliases end, and the numbers that tell a use.
 #[derive(Clone, Copy)]
-struct Searched<'a> {
-    rows: &'a [u8],
-    ends: &'a [u32],
-    near: &'a Near,
+pub struct Searched<'a> {
+    pub rows: &'a [u8],
+    pub ends: &'a [u32],
+    pub near: &'a Near,
 }
 
 impl Searched<'_> {
-    // The entries of the trees from node `from` up to node `until` that use the name.
-    fn put_trees(&self, from: usize, until: usize, method: u16, res: u16, uses: &mut Uses<'_>)
-        requires { Whole self.now.rows.now from until × Tested self.now.rows.now self.now.near.now from until × (uses.old.count + (until - from) ≤ 4294967295) }
+    // The entries of trees that use the name, as arguments or results of a method.
+    fn put_trees(&self, trees: Siblings<'_>, method: u16, side: Side, uses: &mut Places<'_>)
+        requires { Tested trees.rows.now self.now.near.now trees.at trees.until × (uses.old.count + (trees.until - trees.at) ≤ 4294967295) }
         ensures same { uses.new.out.ghost_name ≡ uses.old.out.ghost_name }
-        ensures most { AddsAtMost (until - from) uses.old uses.new }
-        ensures adds { (x : Tested self.now.rows.now self.now.near.now from until) →
-            Adds (uses_by x.used (indexed method res 0 (siblings self.now.rows.now from until))) uses.old uses.new }
+        ensures most { AddsAtMost (trees.entry.until - trees.entry.at) uses.old uses.new }
+        ensures adds { (x : Tested trees.entry.rows.now self.now.near.now trees.entry.at trees.entry.until) →
+            Adds (uses_by x.used (indexed method (side_number side) 0 (siblings trees.entry.rows.now trees.entry.at trees.entry.until))) uses.old uses.new }
     {
-        for (index, (i, t)) in Siblings::new(self.rows, from, until).enumerate() {
+        for (index, (i, t)) in trees.enumerate() {
             if (self.near[i] as usize) < i + t.size {
-                uses.put(method, res, index as u16);
+                uses.put(&[method, side.number(), index as u16]);
             }
         }
     }
 
     // The entries of the function at node f: its arguments, and then its results.
-    fn put_func(&self, f: usize, method: u16, uses: &mut Uses<'_>)
+    fn put_func(&self, f: usize, method: u16, uses: &mut Places<'_>)
         requires { WholeAt self.now.rows.now f × Tested self.now.rows.now self.now.near.now f (f + (row_at self.now.rows.now f).size) × (uses.old.count + 4096 ≤ 4294967295) }
         ensures same { uses.new.out.ghost_name ≡ uses.old.out.ghost_name }
         ensures most { AddsAtMost 4096 uses.old uses.new }
@@ -91,12 +85,12 @@ impl Searched<'_> {
         let until = f + t.size;
         let arguments = (t.value % Node::HALF) as usize;
         let results = skip(self.rows, f + 1, until, arguments);
-        self.put_trees(f + 1, results, method, 0, uses);
-        self.put_trees(results, until, method, 1, uses);
+        self.put_trees(Siblings::new(self.rows, f + 1, results), method, Side::Argument, uses);
+        self.put_trees(Siblings::new(self.rows, results, until), method, Side::Result, uses);
     }
 
     // The entries of a method whose chain ends at node e: none where there is none, or where that is no function.
-    fn put_end(&self, e: Option<u16>, method: u16, uses: &mut Uses<'_>)
+    fn put_end(&self, e: Option<u16>, method: u16, uses: &mut Places<'_>)
         requires { EndTested self.now.rows.now self.now.near.now e × (uses.old.count + 4096 ≤ 4294967295) }
         ensures same { uses.new.out.ghost_name ≡ uses.old.out.ghost_name }
         ensures most { AddsAtMost 4096 uses.old uses.new }
@@ -113,7 +107,7 @@ impl Searched<'_> {
 
     // The entries of the methods of a service, whose first one has position `first`. Gives the position after them, so that it is counted: a walk
     // that is numbered keeps its count to itself.
-    fn put_methods(&self, service: usize, first: usize, uses: &mut Uses<'_>) -> usize
+    fn put_methods(&self, service: usize, first: usize, uses: &mut Places<'_>) -> usize
         requires { Served self.now.rows.now self.now.ends.now self.now.near.now service × (first ≤ 61440) × (uses.old.count + 16777216 ≤ 4294967295) }
         ensures position { result ≡ first + breadth (siblings self.now.rows.now (service + 1) (service + (row_at self.now.rows.now service).size)) }
         ensures same { uses.new.out.ghost_name ≡ uses.old.out.ghost_name }
@@ -131,32 +125,23 @@ impl Searched<'_> {
         }
         m
     }
-}
 
-// The entries of an interface: of its class's arguments, which are the trees from node `from` up to node `until`, and then of the methods of the
-// services, in order. Gives how many there are; those that have a place are written.
-pub fn put_uses(
-    rows: &[u8],
-    ends: &[u32],
-    near: &Near,
-    from: usize,
-    until: usize,
-    services: &[u16],
-    out: &mut [u16],
-) -> usize
-    requires { Offered rows.now ends.now near.now from until services.now }
-    ensures most { AtMost 268439552 0 out.old out.new result }
-    ensures puts { (x : Offered rows.now ends.now near.now from until services.now) →
-        Puts (length out.old / 3) 0
-        (uses_by x.used (class_sites 0 (siblings rows.now from until) ++ method_sites x.definitions 0 (methods_in rows.now services.now)))
-        out.old out.new result }
-{
-    let book = Searched { rows, ends, near };
-    let mut uses = Uses { out, count: 0 };
-    book.put_trees(from, until, CLASS, 0, &mut uses);
-    let mut m = 0;
-    for s in services {
-        m = book.put_methods(*s as usize, m, &mut uses);
+    // The entries of an interface: of its class's arguments, and then of the methods of the services, in order. Gives how many there are; those that
+    // have a place are written.
+    pub fn put_uses(&self, offer: Interface, out: &mut [u16]) -> usize
+        requires { Offered self.now.rows.now self.now.ends.now self.now.near.now offer.from offer.until offer.services }
+        ensures most { AtMost 268439552 0 out.old out.new result }
+        ensures puts { (x : Offered self.now.rows.now self.now.ends.now self.now.near.now offer.from offer.until offer.services) →
+            Puts (length out.old / 3) 0
+            (uses_by x.used (class_sites 0 (siblings self.now.rows.now offer.from offer.until) ++ method_sites x.definitions 0 (methods_in self.now.rows.now offer.services)))
+            out.old out.new result }
+    {
+        let mut uses = Places { out, count: 0 };
+        self.put_trees(Siblings::new(self.rows, offer.from, offer.until), CLASS, Side::Argument, &mut uses);
+        let mut m = 0;
+        for s in offer.services.as_slice() {
+            m = self.put_methods(*s as usize, m, &mut uses);
+        }
+        uses.count
     }
-    uses.count
 }

@@ -5,6 +5,7 @@
 pub mod chase;
 pub mod def_use;
 pub mod hand;
+pub mod places;
 pub mod project;
 pub mod reaching;
 pub mod recursive;

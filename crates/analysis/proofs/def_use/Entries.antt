@@ -1,4 +1,5 @@
 -- Laws of entries in a lent slice, and of the sites that pass a test. Assumes nothing.
+--     puts-one                                      an entry by its numbers
 --     put-append, put-length, put-none, put-flat    entries after entries; without places; and where there is a place for each
 --     Leads                                         what is left to put, in a loop
 --     puts-all, puts-counts                         what a caller has of them
@@ -8,9 +9,11 @@ use mathlib.Core.Bool.{Bool, true, false, cond}
 use mathlib.Core.List.{List, [], ◌∷◌, ◌++◌, map, append_assoc}
 use Prim.Native.Nat.{ℕ, suc, ◌+◌, ◌*◌, ◌/◌, ◌≤◌, ◌<◌}
 use native.Mathlib.Nat.{add-zero, add-suc, suc-add, zero-add}
+use native.Mathlib.Decide.{dec_lt}
 use native.Mathlib.Omega.{arith}
 use borrow.Author.Tests.{lt-ltb, le-ltb}
 use lib.Dec.{ltb}
+use Rattle.std.proofs.lemmas.Bool.{le-leb, lt-leb}
 use lib.ListN.{length, set, drop, length-append}
 use lib.Seq.{sets, length-sets, sets-eq}
 use Rattle.refusals.specs.Lists.{flat}
@@ -18,6 +21,7 @@ use Rattle.refusals.specs.Handed.{Use, numbers}
 use Rattle.listing.specs.Sites.{Site}
 use Rattle.listing.specs.Uses.{kept, entry_of}
 use Rattle.listing.proofs.Delivered.{flat-length}
+use Rattle.analysis.specs.Places.{put_at}
 use Rattle.analysis.specs.Entries.{Test, uses_by, put, put_all, Puts}
 
 -- ---- One entry
@@ -29,14 +33,14 @@ pub put-out : (places k : ℕ) (e : Use) (old : List ℕ) → places ≤ k → p
 unfolding put
 put-out places k e old h = rw (le-ltb k places h)
 
--- As the code stores it.
-pub put-stored : (places k : ℕ) (e : Use) (old : List ℕ) → k < places →
-    put places k e old ≡ set (set (set old (3 * k) e.method) (3 * k + 1) e.result) (3 * k + 2) e.index
-unfolding numbers
-put-stored places k e old h =
-    let second : suc (3 * k) ≡ 3 * k + 1 = omega arith in
-    let third : suc (suc (3 * k)) ≡ 3 * k + 2 = omega arith in
-    put-in places k e old h ∙ ap₂ (λ (i j : ℕ). set (set (set old (3 * k) e.method) i e.result) j e.index) second third
+-- As numbers are put.
+put-stored : (k : ℕ) (e : Use) (old : List ℕ) → put_at k (numbers e) old ≡ put (length old / 3) k e old
+unfolding put_at numbers
+put-stored k e old =
+    elim (dec_lt k (length old / 3)) [
+      | yes h ↦ rw (le-leb (3 * k + 3) (length old) (omega arith)) (sym (put-in (length old / 3) k e old h))
+      | no h ↦ rw (lt-leb (3 * k + 3) (length old) (omega arith)) (sym (put-out (length old / 3) k e old (omega arith)))
+    ]
 
 put-keeps : (places k : ℕ) (e : Use) (old : List ℕ) → length (put places k e old) ≡ length old
 unfolding put
@@ -105,6 +109,12 @@ puts-long {places} {k} {es = es} {old = old} p = ap length p.written ∙ put-len
 -- Places are as many in a slice that keeps its length.
 pub puts-places : (a b : List ℕ) → length a ≡ length b → {k next : ℕ} {es : List Use} {old new : List ℕ} → Puts (length a / 3) k es old new next → Puts (length b / 3) k es old new next
 puts-places a b e {k} {next} {es} {old} {new} p = subst (λ (n : ℕ). Puts (n / 3) k es old new next) e p
+
+-- one entry, by its numbers
+pub puts-one : {k next m r q i : ℕ} {old new : List ℕ} → new ≡ put_at k (m ∷ r ∷ i ∷ []) old → next ≡ k + 1 → r ≡ q → Puts (length old / 3) k (record { method = m; result = q; index = i } ∷ []) old new next
+unfolding put_all numbers
+puts-one {k} {next} {m} {r} {q} {i} {old} {new} e n is =
+    record { counted = n; written = e ∙ ap (λ (j : ℕ). put_at k (m ∷ j ∷ i ∷ []) old) is ∙ put-stored k (record { method = m; result = q; index = i }) old }
 
 -- First without places, which counts; then with them.
 pub puts-counts : {places k next : ℕ} {es : List Use} {old new : List ℕ} → Puts places k es old new next → places ≡ 0 → new ≡ old

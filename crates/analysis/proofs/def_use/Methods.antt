@@ -334,15 +334,25 @@ module _ {ns ends' near services : List ℕ} {from until k : ℕ} {old mid : Lis
               (puts-places _ _ l.long (p (offered-service x h)));
         }
 
-  -- ---- and before them the class's arguments
-  pub uses-end : length services ≤ s → {first : List ℕ} →
+  -- ---- and before them the class's arguments, for a caller's own list of services
+  uses-all : length services ≤ s → {first : List ℕ} →
       ((x : Tested ns near from until) → Puts (length first / 3) 0 (uses_by x.used (indexed 65535 0 0 (siblings ns from until))) first old k) →
       (x : Offered ns ends' near from until services) →
       Puts (length first / 3) 0 (uses_by x.used (class_sites 0 (siblings ns from until) ++ method_sites x.definitions 0 (methods_in ns services))) first mid at
-  uses-end h {first} p x =
+  uses-all h {first} p x =
       let used = x.used in
       let arguments = class_sites 0 (siblings ns from until) in
       let methods = method_sites x.definitions 0 (methods_in ns services) in
       let before = subst (λ (q : List Site). Puts (length first / 3) 0 (uses_by used q) first old k) (sym (class-indexed 0 (siblings ns from until))) (p (offered-arguments x)) in
       subst (λ (es : List Use). Puts (length first / 3) 0 es first mid at) (sym (uses-append used arguments methods))
       (puts-then before (puts-places _ _ (puts-long before) (services-end h x)))
+
+  pub uses-end : length services ≤ s → {own : List ℕ} → services ≡ own → {first : List ℕ} →
+      ((x : Tested ns near from until) → Puts (length first / 3) 0 (uses_by x.used (indexed 65535 0 0 (siblings ns from until))) first old k) →
+      (x : Offered ns ends' near from until own) →
+      Puts (length first / 3) 0 (uses_by x.used (class_sites 0 (siblings ns from until) ++ method_sites x.definitions 0 (methods_in ns own))) first mid at
+  uses-end h {own} e {first} p =
+      subst
+      (λ (l : List ℕ). (x : Offered ns ends' near from until l) →
+      Puts (length first / 3) 0 (uses_by x.used (class_sites 0 (siblings ns from until) ++ method_sites x.definitions 0 (methods_in ns l))) first mid at)
+      e (uses-all h p)

@@ -2,6 +2,7 @@
 use mathlib.Core.Path.{◌∙◌}
 use native.Mathlib.Omega.{arith}
 use Rattle.book.proofs.Walking.{last, over-next}
+use Rattle.analysis.proofs.def_use.Entries.{puts-one}
 use Rattle.analysis.proofs.def_use.Trees.{tree-out, tree-in, trees-end, trees-on}
 use Rattle.analysis.proofs.def_use.Searched.put_trees.Goals as goal
 
@@ -12,7 +13,7 @@ loop-index-preserved-then-self-i c =
     record {
       same = c.put.ensures.same ∙ l.same;
       over = over-next l.over x.0;
-      left = trees-on l.over l.left x.0 x.1 x.2 (tree-in c.args.self.now.near.now c.in-Some.i _ _ c.if-self-i.true c.put.ensures.adds);
+      left = trees-on l.over l.left x.0 x.1 x.2 (tree-in c.args.self.now.near.now c.in-Some.i _ _ c.if-self-i.true (puts-one c.put.ensures.put c.put.ensures.count c.number.ensures));
     }
 
 pub loop-index-preserved : goal.loop-index-preserved

@@ -1,19 +1,22 @@
--- `put_uses` meets its contract. Assumes nothing.
+-- `Searched::put_uses` meets its contract. Assumes nothing.
 use mathlib.Core.Path.{◌∙◌}
 use native.Mathlib.Omega.{arith}
 use Rattle.std.proofs.Common.{rules}
+use Rattle.analysis.specs.Entries.{Offered}
 use Rattle.analysis.proofs.def_use.Methods.{offered-service, services-on, uses-end}
-use Rattle.analysis.proofs.def_use.put_uses.Goals as goal
+use Rattle.analysis.proofs.def_use.Searched.put_uses.Goals as goal
 
 pub put_methods-m-requires : goal.put_methods-m-requires
 put_methods-m-requires c =
-    let o = c.requires in
+    let a = c.args in
+    let o : Offered a.self.now.rows.now a.self.now.ends.now a.self.now.near.now a.offer.from a.offer.until c.as_slice-s-items.result.now = rw c.as_slice-s-items.ensures.all c.requires in
     let l = c.loop-s.invariant.left in
     (offered-service o c.loop-s-test.true, omega (arith, l.position, o.few, c.loop-s-test.true), omega (arith, l.few, o.few, c.loop-s-test.true, c.put_trees.ensures.most.few, o.arguments.within.held, o.arguments.within.few))
 
 pub loop-s-preserved : goal.loop-s-preserved
 loop-s-preserved c =
-    let o = c.requires in
+    let a = c.args in
+    let o : Offered a.self.now.rows.now a.self.now.ends.now a.self.now.near.now a.offer.from a.offer.until c.as_slice-s-items.result.now = rw c.as_slice-s-items.ensures.all c.requires in
     let l = c.loop-s.invariant in
     let e = c.put_methods-m.ensures in
     record {
@@ -22,6 +25,8 @@ loop-s-preserved c =
     }
 
 pub returns-clause-puts : goal.returns-clause-puts
-returns-clause-puts c = λ x.
-    let p = uses-end c.loop-s.invariant.left c.loop-s-test.false c.put_trees.ensures.adds x in
-    record { counted = p.counted; written = search rules }
+returns-clause-puts c =
+    let trees = rw (c.new.ensures.over.rows, c.new.ensures.over.until, c.new.ensures.at) at c.put_trees.ensures.adds in
+    λ x.
+        let p = uses-end c.loop-s.invariant.left c.loop-s-test.false c.as_slice-s-items.ensures.all trees x in
+        record { counted = p.counted; written = search rules }
