@@ -9,6 +9,7 @@ use Rattle.environment.specs.Trees.{AllTrees}
 use Rattle.syntax.specs.Interfaces.{IsService}
 use Rattle.listing.specs.Project.{times, without, Projection, project_from}
 use Rattle.refusals.specs.Outcome.{Outcome, refused, given}
+use Rattle.analysis.specs.declared.places.Places.{Places}
 use Rattle.analysis.specs.declared.project.Taking.{Taking}
 
 -- ---- The names still asked for
@@ -74,8 +75,8 @@ unfoldable pub comes_to : ℕ → Underway → Projection → Come
 comes_to places w p = record { taken = w.taken + length p.taken; out = place_all places w.taken p.taken w.out; left = p.left }
 
 -- As the code has it.
-abbrev pub way : Taking → Underway
-way p = record { at = p.at; taken = p.taken; left = p.left.now; out = p.out.now }
+abbrev pub way : Taking → Places → Underway
+way p t = record { at = p.at; taken = t.count; left = p.left.now; out = t.out.now }
 
 -- From w with the methods f it comes to the same as from v with the methods e, whatever methods follow: l are the names left at v.
 pub record Same (places : ℕ) (far : Option ℕ) (f : Forest Node) (w : Underway) (e : Forest Node) (v : Underway) (l : List ℕ) : Type 0 where

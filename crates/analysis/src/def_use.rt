@@ -83,10 +83,11 @@ impl Searched<'_> {
     {
         let t = Node::at(self.rows, f);
         let until = f + t.size;
-        let arguments = (t.value % Node::HALF) as usize;
-        let results = skip(self.rows, f + 1, until, arguments);
-        self.put_trees(Siblings::new(self.rows, f + 1, results), method, Side::Argument, uses);
-        self.put_trees(Siblings::new(self.rows, results, until), method, Side::Result, uses);
+        let from = skip(self.rows, f + 1, until, (t.value % Node::HALF) as usize);
+        let arguments = Siblings::new(self.rows, f + 1, from);
+        let results = Siblings::new(self.rows, from, until);
+        self.put_trees(arguments, method, Side::Argument, uses);
+        self.put_trees(results, method, Side::Result, uses);
     }
 
     // The entries of a method whose chain ends at node e: none where there is none, or where that is no function.
@@ -137,7 +138,8 @@ impl Searched<'_> {
             out.old out.new result }
     {
         let mut uses = Places { out, count: 0 };
-        self.put_trees(Siblings::new(self.rows, offer.from, offer.until), CLASS, Side::Argument, &mut uses);
+        let arguments = Siblings::new(self.rows, offer.from, offer.until);
+        self.put_trees(arguments, CLASS, Side::Argument, &mut uses);
         let mut m = 0;
         for s in offer.services.as_slice() {
             m = self.put_methods(*s as usize, m, &mut uses);

@@ -5,7 +5,7 @@
 pub mod chase;
 pub mod def_use;
 pub mod hand;
-pub mod places;
+mod places;
 pub mod project;
 pub mod reaching;
 pub mod recursive;

@@ -4,9 +4,9 @@ ghost use Rattle.analysis.specs.Places.{put_at};
 
 // The entries so far: each is counted, and written where there is a place for it. So a list without places is what they are counted with.
 #[derive(Drop)]
-pub struct Places<'a> {
-    pub out: &'a mut [u16],
-    pub count: usize,
+pub(crate) struct Places<'a> {
+    pub(crate) out: &'a mut [u16],
+    pub(crate) count: usize,
 }
 
 impl Places<'_> {

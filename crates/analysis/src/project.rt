@@ -8,6 +8,7 @@ ghost use Rattle.listing.specs.Project.{times, project_from, projected};
 ghost use Rattle.refusals.specs.Handed.{HandedAs};
 ghost use Rattle.analysis.specs.Projecting.{AskedBy, LowestFar, FirstLeft, way, Room, MethodTaken, MethodsTaken, Services, AllProjected};
 
+use crate::places::Places;
 use book::read::Node;
 use book::walks::Siblings;
 use format::Limits;
@@ -47,44 +48,40 @@ fn first_left(left: &Counts) -> Option<u16>
     left.iter().position(|often| *often != 0).map(|n| n as u16)
 }
 
-// A projection on its way: the next position, how many positions are taken, the names left over, and the list that takes those positions that
-// have a place.
+// A projection on its way: the next position, and the names left over.
 #[derive(Drop)]
 struct Taking<'a> {
     at: usize,
-    taken: usize,
     left: &'a mut Counts,
-    out: &'a mut [u16],
 }
 
 impl Taking<'_> {
     // The method at the next position, with name n: it takes the position where that is still asked for.
-    fn take(&mut self, n: usize)
-        requires { Room 1 (way self.old) × (n < 1024) }
+    fn take(&mut self, n: usize, taken: &mut Places<'_>)
+        requires { Room 1 (way self.old taken.old) × (n < 1024) }
         ensures left { self.new.left.ghost_name ≡ self.old.left.ghost_name }
-        ensures out { self.new.out.ghost_name ≡ self.old.out.ghost_name }
-        ensures taken { MethodTaken n (way self.old) (way self.new) }
+        ensures out { taken.new.out.ghost_name ≡ taken.old.out.ghost_name }
+        ensures taken { MethodTaken n (way self.old taken.old) (way self.new taken.new) }
     {
         if self.left[n] != 0 {
             self.left[n] -= 1;
-            if self.taken < self.out.len() {
-                self.out[self.taken] = self.at as u16;
-            }
-            self.taken += 1;
+            taken.put(&[self.at as u16]);
         }
         self.at += 1;
     }
-}
 
-// The methods from node `from` up to node `until`.
-fn take_methods(rows: &[u8], from: usize, until: usize, w: &mut Taking<'_>)
-    requires { ((roots ends : List ℕ) × Methods rows.now roots ends from until) × Room (until - from) (way w.old) }
-    ensures left { w.new.left.ghost_name ≡ w.old.left.ghost_name }
-    ensures out { w.new.out.ghost_name ≡ w.old.out.ghost_name }
-    ensures taken { MethodsTaken (until - from) (siblings rows.now from until) (way w.old) (way w.new) }
-{
-    for (_, t) in Siblings::new(rows, from, until) {
-        w.take(t.label as usize);
+    // Methods that stand beside each other.
+    fn take_methods(&mut self, methods: Siblings<'_>, taken: &mut Places<'_>)
+        requires { ((roots ends : List ℕ) × Methods methods.rows.now roots ends methods.at methods.until) ×
+            Room (methods.until - methods.at) (way self.old taken.old) }
+        ensures left { self.new.left.ghost_name ≡ self.old.left.ghost_name }
+        ensures out { taken.new.out.ghost_name ≡ taken.old.out.ghost_name }
+        ensures taken { MethodsTaken (methods.entry.until - methods.entry.at) (siblings methods.entry.rows.now methods.entry.at methods.entry.until)
+            (way self.old taken.old) (way self.new taken.new) }
+    {
+        for (_, t) in methods {
+            self.take(t.label as usize, taken);
+        }
     }
 }
 
@@ -93,22 +90,19 @@ fn project_methods(rows: &[u8], services: &[u16], left: &mut Counts, out: &mut [
     requires { Services rows.now services.now × AskedBy left.old }
     ensures { AllProjected (methods_in rows.now services.now) left.old out.old left.new out.new result }
 {
-    let mut w = Taking {
-        at: 0,
-        taken: 0,
-        left,
-        out,
-    };
+    let mut taking = Taking { at: 0, left };
+    let mut taken = Places { out, count: 0 };
     for s in services {
         let s = *s as usize;
         let t = Node::at(rows, s);
-        take_methods(rows, s + 1, s + t.size, &mut w);
+        taking.take_methods(Siblings::new(rows, s + 1, s + t.size), &mut taken);
     }
-    w.taken
+    taken.count
 }
 
 // The positions of the methods of the services that take the asked names. 15: the lowest name left over; 16: the lent list is too short. A
-// refusal leaves the lent list as it is: positions are counted, with no list, before they are written.
+// refusal leaves the lent list as it is: positions are counted, with no list, before they are written. There may be 65,536 of them, of 16
+// services with 4,096 methods each, for which fixed memory has no room.
 pub fn project(rows: &[u8], services: &[u16], list: &[u16], out: &mut [u16]) -> Answer
     requires { Services rows.now services.now }
     ensures { HandedAs (projected (project_from 0 (methods_in rows.now services.now) list.now)) out.old out.new result }

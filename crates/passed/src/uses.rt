@@ -7,23 +7,23 @@ ghost use Rattle.passed.specs.Checked.{Passes};
 ghost use Rattle.passed.specs.Uses.{UsesHanded};
 
 use crate::CheckedBook;
+use analysis::def_use::Searched;
 use analysis::reaching::Near;
 use format::Limits;
 use refusals::{Answer, Refusal};
 use syntax::interface::Interface;
 
-// The entries of an interface: counted first, with no places, and written where there are places for all.
-fn hand_uses(rows: &[u8], ends: &[u32], near: &Near, offer: Interface, out: &mut [u16]) -> Answer
-    requires { Offered rows.now ends.now near.now offer.from offer.until offer.services }
-    ensures { UsesHanded rows.now ends.now near.now offer out.old out.new result }
+// The entries of an interface: counted first, with no places, and written where there are places for all. There may be millions of them, for which
+// fixed memory has no room.
+fn hand_uses(book: Searched<'_>, offer: Interface, out: &mut [u16]) -> Answer
+    requires { Offered book.rows.now book.ends.now book.near.now offer.from offer.until offer.services }
+    ensures { UsesHanded book.entry.rows.now book.entry.ends.now book.entry.near.now offer out.old out.new result }
 {
-    let services = offer.services.as_slice();
-    let (from, until) = (offer.from, offer.until);
-    let needed = analysis::def_use::put_uses(rows, ends, near, from, until, services, &mut []);
+    let needed = book.put_uses(offer, &mut []);
     if out.len() / 3 < needed {
         return Err(Refusal::Short(needed as u32));
     }
-    Ok(analysis::def_use::put_uses(rows, ends, near, from, until, services, out))
+    Ok(book.put_uses(offer, out))
 }
 
 impl CheckedBook<'_, '_> {
@@ -44,6 +44,11 @@ impl CheckedBook<'_, '_> {
         let entries = c.definitions(self.bytes);
         let mut near: Near = [0; Limits::NODES + 1];
         analysis::reaching::find_nearest(entries, rows, c.nodes, p.main, wanted, &mut near);
-        hand_uses(rows, self.ends, &near, p.interface, out)
+        let book = Searched {
+            rows,
+            ends: self.ends,
+            near: &near,
+        };
+        hand_uses(book, p.interface, out)
     }
 }

@@ -1,4 +1,5 @@
 -- Projection on its way over the methods of services, and the places where positions are written. Assumes nothing.
+--     place-stored                               a position as numbers are put
 --     place-append, place-enough                 positions in places: two lists, and a list that fits
 --     method-left, method-taken                  a method's name is asked for, or not
 --     methods-start, methods-on, methods-end     the methods of a service
@@ -10,7 +11,9 @@ use mathlib.Core.Bool.{Bool, true, false, cond}
 use mathlib.Core.List.{List, [], ◌∷◌, ◌++◌, append_assoc}
 use Prim.Native.Nat.{ℕ, suc, ◌+◌, ◌-◌, ◌*◌, ◌≤◌, ◌<◌}
 use native.Mathlib.Numerals.{add-one}
+use native.Mathlib.Decide.{dec_lt}
 use native.Mathlib.Omega.{arith}
+use Rattle.std.proofs.lemmas.Bool.{le-leb, lt-leb}
 use borrow.Author.Tests.{lt-ltb, le-ltb}
 use lib.Dec.{ltb}
 use lib.ListN.{length, get_or, set, drop, length-set, length-append, length-drop}
@@ -35,7 +38,7 @@ use Rattle.syntax.specs.Interfaces.{methods_in, InterfaceAs}
 use Rattle.environment.proofs.Trees.{opened, ends-inside, one-at-least, method-label, rest-methods, kids-methods}
 use Rattle.listing.specs.Project.{times, without, Projection, take', project_from, projected}
 use Rattle.refusals.specs.Outcome.{given}
-use Rattle.analysis.specs.declared.project.Taking.{Taking}
+use Rattle.analysis.specs.Places.{put_at}
 use Rattle.analysis.specs.Projecting.{Asking, AskedBy, LowestFar, FirstLeft, outcome_of, place_at, place_all, Underway, Come, comes_to, Projects, Room, MethodTaken, MethodsTaken, Services, ProjectedAs, AllProjected}
 use Rattle.syntax.specs.declared.interface.Interface.{Interface}
 use Rattle.refusals.specs.Handed.{Answer, HandedAs}
@@ -56,6 +59,15 @@ place-in places k x old h = rw (lt-ltb k places h)
 pub place-out : (places k x : ℕ) (old : List ℕ) → places ≤ k → old ≡ place_at places k x old
 unfolding place_at
 place-out places k x old h = rw (le-ltb k places h)
+
+-- as numbers are put
+pub place-stored : (k x : ℕ) (old : List ℕ) → put_at k (x ∷ []) old ≡ place_at (length old) k x old
+unfolding put_at place_at
+place-stored k x old =
+    elim (dec_lt k (length old)) [
+      | yes h ↦ rw (le-leb (1 * k + 1) (length old) (omega arith), lt-ltb k (length old) h) (let z : 1 * k ≡ k = omega arith in ap (λ (j : ℕ). set old j x) z)
+      | no h ↦ rw (lt-leb (1 * k + 1) (length old) (omega arith), le-ltb k (length old) (omega arith)) refl
+    ]
 
 place-length : (places k x : ℕ) (old : List ℕ) → length (place_at places k x old) ≡ length old
 unfolding place_at
@@ -103,10 +115,6 @@ unfolding beside
 besides n kids next g = refl
 
 -- ---- One method
--- where the code is after it, with the next position still to come
-abbrev pub next : Taking → Underway
-next p = record { at = p.at + 1; taken = p.taken; left = p.left.now; out = p.out.now }
-
 module _ {n : ℕ} (v : Underway) (r : Room 1 v) (h : n < 1024) where
   pub method-left : get_or v.left n 0 ≡ 0 → MethodTaken n v (record { at = v.at + 1; taken = v.taken; left = v.left; out = v.out })
   method-left e =

@@ -5,7 +5,7 @@ use Rattle.analysis.proofs.project.project_methods.Given as goal
 
 abbrev pub invariant-loop-s : goal.invariant-loop-s
 invariant-loop-s l = record {
-  names : l.w.left.ghost_name ≡ l.initial.w.left.ghost_name;
-  list : l.w.out.ghost_name ≡ l.initial.w.out.ghost_name;
-  left : ServicesLeft l.rows l.services (outset l.initial.w.left.now l.initial.w.out.now) l.s-index (way l.w);
+  names : l.taking.left.ghost_name ≡ l.initial.taking.left.ghost_name;
+  list : l.taken.out.ghost_name ≡ l.initial.taken.out.ghost_name;
+  left : ServicesLeft l.rows l.services (outset l.initial.taking.left.now l.initial.taken.out.now) l.s-index (way l.taking l.taken);
 }

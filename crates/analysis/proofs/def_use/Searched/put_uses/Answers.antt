@@ -26,7 +26,7 @@ loop-s-preserved c =
 
 pub returns-clause-puts : goal.returns-clause-puts
 returns-clause-puts c =
-    let trees = rw (c.new.ensures.over.rows, c.new.ensures.over.until, c.new.ensures.at) at c.put_trees.ensures.adds in
+    let trees = rw (c.new-arguments.ensures.over.rows, c.new-arguments.ensures.over.until, c.new-arguments.ensures.at) at c.put_trees.ensures.adds in
     λ x.
-        let p = uses-end c.loop-s.invariant.left c.loop-s-test.false c.as_slice-s-items.ensures.all trees x in
-        record { counted = p.counted; written = search rules }
+    let p = uses-end c.loop-s.invariant.left c.loop-s-test.false c.as_slice-s-items.ensures.all trees x in
+    record { counted = p.counted; written = search rules }

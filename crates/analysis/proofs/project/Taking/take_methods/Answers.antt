@@ -1,9 +1,9 @@
--- `take_methods` meets its contract: the methods that are left come to the same. Assumes nothing.
+-- `Taking::take_methods` meets its contract: the methods that are left come to the same. Assumes nothing.
 use mathlib.Core.Path.{◌∙◌}
 use native.Mathlib.Omega.{arith}
 use Rattle.book.proofs.Walking.{last, over-next}
 use Rattle.analysis.proofs.project.Laws.{method-name, method-room, methods-on, methods-end}
-use Rattle.analysis.proofs.project.take_methods.Goals as goal
+use Rattle.analysis.proofs.project.Taking.take_methods.Goals as goal
 
 pub take-requires : goal.take-requires
 take-requires c =
