@@ -129,12 +129,12 @@ impl Searched<'_> {
 
     // The entries of an interface: of its class's arguments, and then of the methods of the services, in order. Gives how many there are; those that
     // have a place are written.
-    pub fn put_uses(&self, offer: Interface, out: &mut [u16]) -> usize
-        requires { Offered self.now.rows.now self.now.ends.now self.now.near.now offer.from offer.until offer.services }
+    pub fn put_uses(&self, offer: &Interface, out: &mut [u16]) -> usize
+        requires { Offered self.now.rows.now self.now.ends.now self.now.near.now offer.now.from offer.now.until offer.now.services }
         ensures most { AtMost 268439552 0 out.old out.new result }
-        ensures puts { (x : Offered self.now.rows.now self.now.ends.now self.now.near.now offer.from offer.until offer.services) →
+        ensures puts { (x : Offered self.now.rows.now self.now.ends.now self.now.near.now offer.now.from offer.now.until offer.now.services) →
             Puts (length out.old / 3) 0
-            (uses_by x.used (class_sites 0 (siblings self.now.rows.now offer.from offer.until) ++ method_sites x.definitions 0 (methods_in self.now.rows.now offer.services)))
+            (uses_by x.used (class_sites 0 (siblings self.now.rows.now offer.now.from offer.now.until) ++ method_sites x.definitions 0 (methods_in self.now.rows.now offer.now.services)))
             out.old out.new result }
     {
         let mut uses = Places { out, count: 0 };

@@ -15,9 +15,9 @@ use syntax::interface::Interface;
 
 // The entries of an interface: counted first, with no places, and written where there are places for all. There may be millions of them, for which
 // fixed memory has no room.
-fn hand_uses(book: Searched<'_>, offer: Interface, out: &mut [u16]) -> Answer
-    requires { Offered book.rows.now book.ends.now book.near.now offer.from offer.until offer.services }
-    ensures { UsesHanded book.entry.rows.now book.entry.ends.now book.entry.near.now offer out.old out.new result }
+fn hand_uses(book: &Searched<'_>, offer: &Interface, out: &mut [u16]) -> Answer
+    requires { Offered book.now.rows.now book.now.ends.now book.now.near.now offer.now.from offer.now.until offer.now.services }
+    ensures { UsesHanded book.now.rows.now book.now.ends.now book.now.near.now offer.now out.old out.new result }
 {
     let needed = book.put_uses(offer, &mut []);
     if out.len() / 3 < needed {
@@ -49,6 +49,6 @@ impl CheckedBook<'_, '_> {
             ends: self.ends,
             near: &near,
         };
-        hand_uses(book, p.interface, out)
+        hand_uses(&book, &p.interface, out)
     }
 }

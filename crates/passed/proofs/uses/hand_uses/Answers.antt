@@ -2,14 +2,8 @@
 use Rattle.passed.proofs.uses.Laws.{hands-short, hands-given}
 use Rattle.passed.proofs.uses.hand_uses.Goals as goal
 
-pub put_uses-needed-requires : goal.put_uses-needed-requires
-put_uses-needed-requires c = rw c.as_slice-services.ensures.all c.requires
-
 pub returns-then-out-needed : goal.returns-then-out-needed
-returns-then-out-needed c = record { handed = λ x. hands-short ((rw c.as_slice-services.ensures.all at c.put_uses-needed.ensures).puts x) c.if-out-needed.true }
+returns-then-out-needed c = record { handed = λ x. hands-short (c.put_uses-needed.ensures.puts x) c.if-out-needed.true }
 
 pub returns : goal.returns
-returns c =
-    record {
-      handed = λ x. hands-given ((rw c.as_slice-services.ensures.all at c.put_uses-needed.ensures).puts x) c.if-out-needed.false ((rw c.as_slice-services.ensures.all at c.put_uses.ensures).puts x);
-    }
+returns c = record { handed = λ x. hands-given (c.put_uses-needed.ensures.puts x) c.if-out-needed.false (c.put_uses.ensures.puts x) }

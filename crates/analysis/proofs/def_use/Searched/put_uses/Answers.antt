@@ -9,14 +9,14 @@ use Rattle.analysis.proofs.def_use.Searched.put_uses.Goals as goal
 pub put_methods-m-requires : goal.put_methods-m-requires
 put_methods-m-requires c =
     let a = c.args in
-    let o : Offered a.self.now.rows.now a.self.now.ends.now a.self.now.near.now a.offer.from a.offer.until c.as_slice-s-items.result.now = rw c.as_slice-s-items.ensures.all c.requires in
+    let o : Offered a.self.now.rows.now a.self.now.ends.now a.self.now.near.now a.offer.now.from a.offer.now.until c.as_slice-s-items.result.now = rw c.as_slice-s-items.ensures.all c.requires in
     let l = c.loop-s.invariant.left in
     (offered-service o c.loop-s-test.true, omega (arith, l.position, o.few, c.loop-s-test.true), omega (arith, l.few, o.few, c.loop-s-test.true, c.put_trees.ensures.most.few, o.arguments.within.held, o.arguments.within.few))
 
 pub loop-s-preserved : goal.loop-s-preserved
 loop-s-preserved c =
     let a = c.args in
-    let o : Offered a.self.now.rows.now a.self.now.ends.now a.self.now.near.now a.offer.from a.offer.until c.as_slice-s-items.result.now = rw c.as_slice-s-items.ensures.all c.requires in
+    let o : Offered a.self.now.rows.now a.self.now.ends.now a.self.now.near.now a.offer.now.from a.offer.now.until c.as_slice-s-items.result.now = rw c.as_slice-s-items.ensures.all c.requires in
     let l = c.loop-s.invariant in
     let e = c.put_methods-m.ensures in
     record {
