@@ -13,6 +13,7 @@ pub fn names_of(flags: &[u8], names: usize) -> Names
     requires { (length flags.now ≡ 1024) × (names ≤ 1024) }
     ensures { result.items ≡ flagged flags.now 0 names }
 {
+    // Pushed one by one: what collects into an ArrayVec takes an allocator, and there is no heap.
     let mut list = ArrayVec::new();
     for n in 0..names {
         if flags[n] == 1 {

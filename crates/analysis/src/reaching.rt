@@ -1,13 +1,15 @@
 // Which names reach a name by references, and which rows tell one that does. The rows that are a name are linked once, each to the one
 // before it, so that the definitions that refer to a name are found without going through all rows again.
-// Functions ask of their caller what an admitted book gives (specs/Reaching.antt). Tables of rows are lent, since a copy of one costs more
-// than all else does on a small book.
-ghost use Rattle.std.specs.Prelude.{◌≡◌, ◌↔◌, ◌+◌, ◌<◌, ℕ, IsTrue};
+// Functions ask of their caller what an admitted book gives (specs/Reaching.antt); the private ones take its parts, which are read once. Tables of rows
+// are lent, since a copy of one costs more than all else does on a small book.
+ghost use Rattle.std.specs.Prelude.{◌≡◌, ◌↔◌, ◌+◌, ◌≤◌, ◌<◌, ℕ, IsTrue};
+ghost use Rattle.format.specs.Layout.{nodes_part, definitions_part};
 ghost use Rattle.environment.specs.Tables.{definitions_in};
 ghost use Rattle.book.specs.Tables.{zero_table};
 ghost use Rattle.analysis.specs.Reaching.{BookRows, ReachAs, Hit, NearAs, Defining, OwnersAs, no_rows, no_places, LinksAs, KeptFrom, KeptElse, Linked, NearestAs};
 
 use arrayvec::ArrayVec;
+use book::admitted::AdmittedBook;
 use book::kinds::Kind;
 use book::read::{Entry, Node};
 use book::tables::{ByName, Flags};
@@ -16,7 +18,8 @@ use format::Limits;
 // For each row the first row from it on that tells; the number of rows where there is none, so that one comparison says whether trees tell.
 pub type Near = [u16; Limits::NODES + 1];
 
-// A number for each row, one more than a name, or 0 for none: an Option takes twice the memory, and zeros are made fastest.
+// A number for each row, one more than a name, or 0 for none: an Option would take twice the memory, of which there is a fixed amount, and zeros are
+// made fastest.
 type ByRow = [u16; Limits::NODES];
 
 // Whether row i is a name with its flag set.
@@ -100,21 +103,16 @@ fn reaching(owner: &ByRow, head: &ByName, next: &Near, wanted: usize) -> Flags
     flagged
 }
 
-// Finds for each row the first row from it on that is a name which is the wanted one or reaches it by references; `nodes` where there is
-// none. The table is lent with nothing in it, and has the links of the rows before.
-pub fn find_nearest(
-    entries: &[u8],
-    rows: &[u8],
-    nodes: usize,
-    definitions: usize,
-    wanted: usize,
-    near: &mut Near,
-)
-    requires { ((names : ℕ) × Defining rows.now entries.now names nodes definitions) × (wanted < 1024) × (near.old ≡ no_places) }
-    ensures { NearestAs rows.now entries.now nodes definitions wanted near.new }
+// Finds for each row the first row from it on that is a name which is the wanted one or reaches it by references of main's definitions; the number of
+// rows where there is none. The table is lent with nothing in it, and has the links of the rows before.
+pub fn find_nearest(book: AdmittedBook<'_>, main: usize, wanted: usize, near: &mut Near)
+    requires { (main ≤ book.contents.definitions) × (wanted < 1024) × (near.old ≡ no_places) }
+    ensures { NearestAs (nodes_part book.entry.bytes.now) (definitions_part book.entry.bytes.now) book.entry.contents.nodes main wanted near.new }
 {
+    let rows = book.nodes();
+    let nodes = book.contents.nodes;
     let mut owner = [0; Limits::NODES];
-    owners(entries, rows, definitions, &mut owner);
+    owners(book.definitions(), rows, main, &mut owner);
     let mut head = [0; Limits::NAMES];
     link(rows, nodes, &mut head, near);
     let flags = reaching(&owner, &head, near, wanted);

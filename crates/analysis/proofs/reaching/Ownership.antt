@@ -1,7 +1,7 @@
 -- The loops that write for each row the name whose definition it lies in, and what an admitted book gives them. Assumes nothing.
 --     owned-inside, owner-small    a row that a name owns is a row of the book, and the name is one of the book
 --     owners-start, ..             the loop over definitions
---     admitted-defining            an admitted book's definitions lie apart
+--     admitted-defining, book-defining    an admitted book's definitions lie apart
 use mathlib.Core.Path.{◌≡◌, sym, ap, subst, ◌∙◌}
 use mathlib.Core.List.{List, [], ◌∷◌}
 use Prim.Native.Nat.{ℕ, zero, suc, ◌+◌, ◌-◌, ◌≤◌, ◌<◌}
@@ -23,6 +23,10 @@ use Rattle.format.proofs.References.{everywhere}
 use Rattle.format.proofs.Stored.{tree-count}
 use Rattle.format.proofs.Encoded.{definitions-run}
 use Rattle.format.proofs.Admitted.{admitted-parts, definitions-body, definition-stored}
+use Rattle.book.specs.declared.kinds.Contents.{Contents}
+use Rattle.book.specs.declared.admitted.AdmittedBook.{AdmittedBook}
+use Rattle.book.specs.Reading.{contents_of}
+use Rattle.book.proofs.Named.{book-of}
 use Rattle.environment.proofs.Book.{nodes-known, entries-known}
 use Rattle.analysis.specs.Reaching.{Apart, Defining, OwnedBy, OwnersAs, no_rows}
 
@@ -204,3 +208,13 @@ module _ (bs : List ℕ) {b : Book} (w : layout bs ≡ whole b) where
   pub admitted-defining : (definitions : ℕ) → definitions ≤ length b.definitions → Defining (nodes_part bs) (definitions_part bs) (length b.names) (count (trees b)) definitions
   admitted-defining definitions few =
       record { known = nodes-known bs w; entries = entries-known bs w 0 definitions (omega arith) few; bodies = admitted-apart definitions few }
+
+-- The same of a book as the code has it, and of its parts.
+pub book-defining : (b : AdmittedBook) (definitions : ℕ) → definitions ≤ b.contents.definitions → {ns es : List ℕ} → ns ≡ nodes_part b.bytes.now → es ≡ definitions_part b.bytes.now →
+    Defining ns es b.contents.names b.contents.nodes definitions
+unfolding contents_of
+book-defining b definitions few {ns} {es} rows entries =
+    let a = book-of b.bytes.now b.contents b.laid in
+    rw (rows, entries)
+    (subst (λ (c : Contents). Defining (nodes_part b.bytes.now) (definitions_part b.bytes.now) c.names c.nodes definitions) a.table
+    (admitted-defining b.bytes.now a.laid definitions (subst (λ (c : Contents). definitions ≤ c.definitions) (sym a.table) few)))
