@@ -9,21 +9,22 @@ ghost use Rattle.passed.specs.Uses.{UsesHanded};
 use crate::CheckedBook;
 use analysis::def_use::Searched;
 use analysis::reaching::Near;
+use book::admitted::AdmittedBook;
 use format::Limits;
 use refusals::{Answer, Refusal};
 use syntax::interface::Interface;
 
 // The entries of an interface: counted first, with no places, and written where there are places for all. There may be millions of them, for which
 // fixed memory has no room.
-fn hand_uses(book: &Searched<'_>, offer: &Interface, out: &mut [u16]) -> Answer
-    requires { Offered book.now.rows.now book.now.ends.now book.now.near.now offer.now.from offer.now.until offer.now.services }
-    ensures { UsesHanded book.now.rows.now book.now.ends.now book.now.near.now offer.now out.old out.new result }
+fn hand_uses(searched: &Searched<'_>, offer: &Interface, out: &mut [u16]) -> Answer
+    requires { Offered searched.now.rows.now searched.now.ends.now searched.now.near.now offer.now.from offer.now.until offer.now.services }
+    ensures { UsesHanded searched.now.rows.now searched.now.ends.now searched.now.near.now offer.now out.old out.new result }
 {
-    let needed = book.put_uses(offer, &mut []);
+    let needed = searched.put_uses(offer, &mut []);
     if out.len() / 3 < needed {
         return Err(Refusal::Short(needed as u32));
     }
-    Ok(book.put_uses(offer, out))
+    Ok(searched.put_uses(offer, out))
 }
 
 impl CheckedBook<'_, '_> {
@@ -39,16 +40,14 @@ impl CheckedBook<'_, '_> {
         if Limits::NAMES <= wanted {
             return Ok(0);
         }
-        let c = p.contents;
-        let rows = c.nodes(self.bytes);
-        let entries = c.definitions(self.bytes);
+        let book = AdmittedBook::new(self.bytes, p.contents);
         let mut near: Near = [0; Limits::NODES + 1];
-        analysis::reaching::find_nearest(entries, rows, c.nodes, p.main, wanted, &mut near);
-        let book = Searched {
-            rows,
+        analysis::reaching::find_nearest(book, p.main, wanted, &mut near);
+        let searched = Searched {
+            rows: book.nodes(),
             ends: self.ends,
             near: &near,
         };
-        hand_uses(&book, &p.interface, out)
+        hand_uses(&searched, &p.interface, out)
     }
 }

@@ -21,14 +21,14 @@ use Rattle.judgement.specs.Environment.{main_definitions}
 use Rattle.judgement.specs.Resolve.{resolve_actor}
 use Rattle.judgement.specs.WellFormed.{Defined}
 use Rattle.judgement.proofs.Lookup.{find-missing}
-use Rattle.environment.specs.Tables.{found_at, definitions_in}
+use Rattle.environment.specs.Tables.{found_at}
 use Rattle.syntax.specs.Interfaces.{methods_in, InterfaceAs, is_present}
 use Rattle.refusals.specs.Handed.{Answer, Use, numbers, answer_of, uses_left, UsesAs}
 use Rattle.listing.specs.Sites.{Site, class_sites, method_sites, sites}
 use Rattle.listing.specs.Uses.{kept, entry_of, uses}
 use Rattle.refusals.specs.Outcome.{Outcome, refused, given, fit}
 use Rattle.listing.proofs.Uses.{passed-walks, uses-row, uses-answered, uses-undefined}
-use Rattle.analysis.specs.Reaching.{ReachAs, NearAs, Defining}
+use Rattle.analysis.specs.Reaching.{ReachAs, NearAs, NearestAs}
 use Rattle.analysis.specs.Entries.{uses_by, Offered, Puts}
 use Rattle.syntax.specs.declared.interface.Interface.{Interface}
 use Rattle.analysis.proofs.def_use.Entries.{puts-all}
@@ -36,12 +36,11 @@ use Rattle.std.specs.Prelude.{Ok, Err}
 use Rattle.passed.specs.Uses.{UsesHanded}
 use Rattle.typing.specs.declared.prog.Passed.{Passed}
 use Rattle.typing.specs.Passing.{PassedAs}
-use Rattle.typing.proofs.prog.Book.{fits, tabled, names-are, nodes-are}
+use Rattle.typing.proofs.prog.Book.{fits, tabled, nodes-are}
 use Rattle.book.specs.declared.kinds.Contents.{Contents}
-use Rattle.book.specs.Reading.{Admitted}
+use Rattle.book.specs.Reading.{Admitted, contents_of}
 use Rattle.passed.proofs.Asking.{lacks-actor, uses-as}
 use Rattle.passed.proofs.uses.Sites.{followed, used_by, used-says, used-hits, kept-same}
-use Rattle.analysis.proofs.reaching.Ownership.{admitted-defining}
 
 module _ {bs : List ℕ} {c : Contents} {a : Admitted bs c} {roots ends' : List ℕ} {p : Passed} (x : PassedAs a roots ends' p) where
   abbrev rows : List ℕ
@@ -123,29 +122,26 @@ module _ {bs : List ℕ} {c : Contents} {a : Admitted bs c} {roots ends' : List 
       unfolding offered
       uses-handed h = uses-as uses-are (h.handed offered)
 
-  -- ---- As the code has it, by the parts of the book
-  module _ {ns : List ℕ} (here : ns ≡ rows) where
-    module _ {es : List ℕ} (there : es ≡ definitions_part bs) where
-      pub defining : Defining ns es p.contents.names p.contents.nodes p.main
-      defining = rw (here, there, names-are x, nodes-are x) (admitted-defining bs a.laid p.main x.within)
+  -- ---- As the code has it
+  pub main-within : p.main ≤ p.contents.definitions
+  unfolding contents_of
+  main-within = omega (arith, x.within, ap (λ (d : Contents). d.definitions) a.table, ap (λ (d : Contents). d.definitions) x.contents)
 
-      reached : {n : ℕ} {flags : List ℕ} → ReachAs (definitions_in ns es 0 p.main) n flags → ReachAs ds n flags
-      reached {n} {flags} h =
-          subst (λ (l : List Definition). ReachAs l n flags) (ap₂ (λ (ns es : List ℕ). definitions_in ns es 0 p.main) here there ∙ sym x.definitions) h
+  module _ (some : resolve_actor b ≡ end → ⊥) {n : ℕ} (few : n < 1024) {near : List ℕ} (t : NearestAs rows (definitions_part bs) p.contents.nodes p.main n near) where
+    reached : ReachAs ds n t.flags
+    reached = subst (λ (l : List Definition). ReachAs l n t.flags) (sym x.definitions) t.reach
 
-      module _ (some : resolve_actor b ≡ end → ⊥) {n : ℕ} (few : n < 1024) {flags near : List ℕ}
-          (reach : ReachAs (definitions_in ns es 0 p.main) n flags) (table : NearAs ns flags p.contents.nodes near) where
-        first-rows : NearAs rows flags (count (trees b)) near
-        first-rows = subst (λ (k : ℕ). NearAs rows flags k near) (nodes-are x) (subst (λ (l : List ℕ). NearAs l flags p.contents.nodes near) here table)
+    first-rows : NearAs rows t.flags (count (trees b)) near
+    first-rows = subst (λ (k : ℕ). NearAs rows t.flags k near) (nodes-are x) t.first
 
-        pub offered-here : Offered ns ends' near p.interface.from p.interface.until p.interface.services
-        offered-here =
-            subst (λ (l : List ℕ). Offered l ends' near p.interface.from p.interface.until p.interface.services) (sym here)
-            (offered some few (reached reach) first-rows)
+    module _ {ns : List ℕ} (here : ns ≡ rows) where
+      pub offered-here : Offered ns ends' near p.interface.from p.interface.until p.interface.services
+      offered-here =
+          subst (λ (l : List ℕ). Offered l ends' near p.interface.from p.interface.until p.interface.services) (sym here) (offered some few reached first-rows)
 
-        pub uses-here : {old new : List ℕ} {r : Answer} → UsesHanded ns ends' near p.interface old new r → UsesAs (uses b n) old new r
-        uses-here {old} {new} {r} h =
-            uses-handed some few (reached reach) first-rows (subst (λ (l : List ℕ). UsesHanded l ends' near p.interface old new r) here h)
+      pub uses-here : {old new : List ℕ} {r : Answer} → UsesHanded ns ends' near p.interface old new r → UsesAs (uses b n) old new r
+      uses-here {old} {new} {r} h =
+          uses-handed some few reached first-rows (subst (λ (l : List ℕ). UsesHanded l ends' near p.interface old new r) here h)
 
 -- ---- What is handed over
 module _ {o : Outcome (List Use)} {es : List Use} (is : o ≡ given es) {old : List ℕ} where
