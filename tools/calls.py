@@ -32,9 +32,8 @@ MARK, END = "<!-- calls -->\n", "<!-- end -->"
 # What follows a name to the next: the one function that does.
 STEPS = ("environment::scope::Scope::step",)
 # What these reach must reach itself nowhere: that step, the alias end, the tables of ends, the lookups, and who looks a service up.
-LOOPS = (*STEPS, "environment::scope::Scope::alias_end", "environment::no_ends", "environment::clear_ends",
-         "environment::scope::Scope::find_ends", "environment::end_of", "environment::names_crossed", "environment::as_func",
-         "environment::as_service", "syntax::actor::Resolver::chase_service")
+LOOPS = (*STEPS, "environment::scope::Scope::alias_end", "environment::scope::Scope::find_ends", "environment::end_of",
+         "environment::names_crossed", "environment::as_func", "environment::as_service", "syntax::actor::Resolver::chase_service")
 # And whatever else goes from name to definition, but for the comparison of trees.
 ALL_OF, BUT = ("environment::", "analysis::", "inhabitants::"), "environment::merge::"
 

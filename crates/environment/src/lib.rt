@@ -1,5 +1,5 @@
 // What names stand for: type_env.rs. A table from name number to definition is made once a call, and so is one of alias ends, with the length of
-// each chain; both are lent by the caller, from fixed memory, so that a number in them stands for nothing: Entry::NO_ROOT, and ChainEnd::NONE.
+// each chain; both are lent by the caller, from fixed memory, so that a number in them stands for nothing: Entry::NO_ROOT, and chain_end::NONE.
 // Functions ask of their caller what an admitted book gives: nodes that are whole trees with numbers in range (specs/Tables.antt).
 #![tactic(auto)]
 
@@ -8,6 +8,7 @@ ghost use Rattle.format.specs.Layout.{definitions_part};
 ghost use Rattle.book.specs.Tables.{blank_table, zero_table};
 ghost use Rattle.environment.specs.Tables.{DefinesAs, end_of, crossed_in, Ended, ReachedAs, LookupAs};
 
+pub mod chain_end;
 pub mod merge;
 pub mod scope;
 
@@ -16,75 +17,6 @@ use book::kinds::Kind;
 use book::read::{Entry, Node};
 use format::Limits;
 use refusals::{Refusal, Verdict};
-
-// For each of the 1,024 names how many names its alias chain crosses, itself among them, and the node where that ends, as one number.
-pub type EndByName = [u32; Limits::NAMES];
-
-// What a table of alias ends has for a name: CROSSED for each name crossed, and how far the node is below 65,535; or NONE or OPEN. So a table
-// that has nothing is 0 throughout, which is made fastest.
-#[derive(Clone, Copy)]
-pub(crate) struct ChainEnd(u32);
-
-impl ChainEnd {
-    pub(crate) const CROSSED: u32 = 65536;
-
-    // No node: of a name without definition, which crosses none.
-    pub(crate) const NONE: u32 = 0;
-
-    // An end that is not known yet, in a table that is being made. No node is so close to 65,535.
-    pub(crate) const OPEN: u32 = 1;
-
-    // Of a name whose definition stands at this root, and is no name.
-    pub(crate) fn at(root: usize) -> u32
-        requires { root < 4096 }
-        ensures { result ≡ 65535 - root + 65536 }
-    {
-        65535 - root as u32 + ChainEnd::CROSSED
-    }
-
-    // The node at which the chain ends.
-    fn node(self) -> Option<u16>
-        ensures { result ≡ end_of self.0 }
-    {
-        let below = self.0 % ChainEnd::CROSSED;
-        if below == 0 {
-            None
-        } else {
-            Some((65535 - below) as u16)
-        }
-    }
-
-    // How many names it crosses.
-    fn crossed(self) -> u16
-        ensures { result ≡ self.0 / 65536 }
-    {
-        (self.0 / ChainEnd::CROSSED) as u16
-    }
-}
-
-// A table of alias ends that has nothing.
-#[tactic(auto, unfolding(book::specs::Tables::zero_table))]
-pub fn no_ends() -> EndByName
-    ensures { result ≡ zero_table }
-{
-    [ChainEnd::NONE; Limits::NAMES]
-}
-
-// Takes all that a table of roots has out of it: a `fill` that promises the blank table.
-pub fn clear(table: &mut [u16])
-    requires { length table.old ≡ 1024 }
-    ensures { table.new ≡ blank_table }
-{
-    table.fill(Entry::NO_ROOT);
-}
-
-// The same of a table of alias ends.
-pub fn clear_ends(table: &mut [u32])
-    requires { length table.old ≡ 1024 }
-    ensures { table.new ≡ zero_table }
-{
-    table.fill(ChainEnd::NONE);
-}
 
 // Enters the definitions of entries `from` up to `to` in a table that has nothing: 2 with the first name defined twice. Then the table has
 // nothing, as it was lent.
@@ -162,10 +94,10 @@ pub fn end_of(rows: &[u8], ends: &[u32], node: usize) -> Reached
             crossed: 0,
         };
     }
-    let e = ChainEnd(ends[t.value as usize]);
+    let end = ends[t.value as usize];
     Reached {
-        node: e.node(),
-        crossed: e.crossed(),
+        node: chain_end::node(end),
+        crossed: chain_end::crossed(end),
     }
 }
 
@@ -174,7 +106,7 @@ pub fn names_crossed(ends: &[u32], n: usize) -> u16
     requires { (length ends.now ≡ 1024) × (n < 1024) }
     ensures { result ≡ crossed_in ends.now n }
 {
-    ChainEnd(ends[n]).crossed()
+    chain_end::crossed(ends[n])
 }
 
 // What a lookup finds: the end of a chain, whether it is of the kind that is looked for, and, found or not, how many names were crossed.

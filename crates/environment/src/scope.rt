@@ -2,7 +2,7 @@
 ghost use Rattle.environment.specs.Tables.{Nodes, Roots};
 ghost use Rattle.environment.specs.Props.{props};
 
-use crate::{Alias, ChainEnd, End, Link, root_of};
+use crate::{Alias, End, Link, chain_end, root_of};
 use book::admitted::AdmittedBook;
 use book::kinds::Kind;
 use book::read::Node;
@@ -125,7 +125,7 @@ impl<'b, 't> Scope<'b, 't> {
     {
         for n in 0..self.names {
             if root_of(self.roots, n).is_some() {
-                ends[n] = ChainEnd::OPEN;
+                ends[n] = chain_end::OPEN;
             }
         }
     }
@@ -142,7 +142,7 @@ impl<'b, 't> Scope<'b, 't> {
         let mut m = n;
         // Counted by hand: after a `for` over the names crossed the last one would have to be looked at again.
         let mut crossed = 0;
-        while ends[m] == ChainEnd::OPEN {
+        while ends[m] == chain_end::OPEN {
             if crossed == definitions as u32 {
                 return None;
             }
@@ -150,12 +150,12 @@ impl<'b, 't> Scope<'b, 't> {
                 unreachable!();
             };
             let Some(next) = s.next else {
-                return Some(ChainEnd::at(s.root) + crossed * ChainEnd::CROSSED);
+                return Some(chain_end::at(s.root) + crossed * chain_end::CROSSED);
             };
             crossed += 1;
             m = next;
         }
-        Some(ends[m] + crossed * ChainEnd::CROSSED)
+        Some(ends[m] + crossed * chain_end::CROSSED)
     }
 
     // Writes down what the table is to have for a name, and for each name on its chain, as far as the first whose end is known: each crosses one
@@ -168,7 +168,7 @@ impl<'b, 't> Scope<'b, 't> {
     {
         let mut m = n;
         let mut e = end;
-        while ends[m] == ChainEnd::OPEN {
+        while ends[m] == chain_end::OPEN {
             ends[m] = e;
             let Some(s) = self.step(m) else {
                 unreachable!();
@@ -176,7 +176,7 @@ impl<'b, 't> Scope<'b, 't> {
             let Some(next) = s.next else {
                 return;
             };
-            e -= ChainEnd::CROSSED;
+            e -= chain_end::CROSSED;
             m = next;
         }
     }
@@ -193,7 +193,7 @@ impl<'b, 't> Scope<'b, 't> {
         self.open_ends(ends);
         for n in 0..self.names {
             let Some(end) = self.follow(ends, definitions, n) else {
-                ends.fill(ChainEnd::NONE);
+                ends.fill(chain_end::NONE);
                 return Err(Refusal::Circle(n as u16));
             };
             self.note(n, end, ends);

@@ -41,28 +41,28 @@ below-service : (r : Row) → r.kind ≡ 24 → place_below (node_of r).kind ≡
 unfolding place_below node_of kind_of kinds
 below-service r k = rw k
 
-module _ {w : Walk} {n : ℕ} (h : n < w.nodes) where
+module _ {w : Walk} {n : ℕ} (h : n < w.scope.nodes) where
   -- what stands below it
-  pub kids-in : (methods : Bool) → (methods ≡ true → (row_at w.rows.now n).kind ≡ 24) → TreesIn w methods (n + 1) (n + (row_at w.rows.now n).size)
+  pub kids-in : (methods : Bool) → (methods ≡ true → (row_at w.scope.rows.now n).kind ≡ 24) → TreesIn w methods (n + 1) (n + (row_at w.scope.rows.now n).size)
   kids-in methods k =
       record {
         whole = kids-whole (w.trees.nodes.tree n h).whole;
         inside = (w.trees.nodes.tree n h).ends;
         methods_are = λ m.
-            let f = node-fits w.trees w.bound (table-ended w.nodes w.ends w.ended) h in
-            let t : Trees w.rows.now w.roots.now (ends_of w.ends) n (n + (row_at w.rows.now n).size) = record {
-              count = w.nodes;
+            let f = node-fits w.trees w.scope.bound (table-ended w.scope.nodes w.ends w.ended) h in
+            let t : Trees w.scope.rows.now w.scope.roots.now (ends_of w.ends) n (n + (row_at w.scope.rows.now n).size) = record {
+              count = w.scope.nodes;
               place = f.0;
-              walk = record { names = w.names; nodes = w.trees.nodes; bound = w.bound; ended = table-ended w.nodes w.ends w.ended };
+              walk = record { names = w.scope.names; nodes = w.trees.nodes; bound = w.scope.bound; ended = table-ended w.scope.nodes w.ends w.ended };
               whole = tree-whole (w.trees.nodes.tree n h).whole;
               inside = (w.trees.nodes.tree n h).ends;
               fits = f.1;
             } in
-            let some : n < n + (row_at w.rows.now n).size = omega (arith, (w.trees.nodes.tree n h).whole.one) in
-            subst (λ (p : Place). T (forest_fits w.names p (siblings w.rows.now (n + 1) (n + (row_at w.rows.now n).size)))) (below-service (row_at w.rows.now n) (k m)) (fit-parts t some).0.1;
+            let some : n < n + (row_at w.scope.rows.now n).size = omega (arith, (w.trees.nodes.tree n h).whole.one) in
+            subst (λ (p : Place). T (forest_fits w.scope.names p (siblings w.scope.rows.now (n + 1) (n + (row_at w.scope.rows.now n).size)))) (below-service (row_at w.scope.rows.now n) (k m)) (fit-parts t some).0.1;
       }
 
-pub kind-few : (w : Walk) {n : ℕ} → n < w.nodes → {r : Row} → r ≡ row_at w.rows.now n → r.kind < 27
+pub kind-few : (w : Walk) {n : ℕ} → n < w.scope.nodes → {r : Row} → r ≡ row_at w.scope.rows.now n → r.kind < 27
 kind-few w h is = rw is (w.trees.nodes.row _ h).kind
 
 -- ---- kinds 0 to 17

@@ -16,10 +16,10 @@ use syntax::interface::{Actor, Interface};
 
 // The children of a class, or another type.
 fn check_top(walk: &Walk, n: usize) -> Verdict
-    requires { n < walk.now.nodes }
-    ensures { Under walk.now (λ pre ds. result ≡ check_forest pre false ds (below_top (tree_at walk.now.rows.now n))) }
+    requires { n < walk.now.scope.nodes }
+    ensures { Under walk.now (λ pre ds. result ≡ check_forest pre false ds (below_top (tree_at walk.now.scope.rows.now n))) }
 {
-    let t = Node::at(walk.rows, n);
+    let t = Node::at(walk.scope.rows, n);
     if t.kind == Kind::Class as u8 {
         walk.check_types(false, n + 1, n + t.size)?;
         return Ok(());
@@ -31,7 +31,7 @@ fn check_top(walk: &Walk, n: usize) -> Verdict
 fn check_merged(walk: &Walk, interface: &Interface) -> Verdict
     requires { (ds : List Definition) × ActorOf walk.now interface.now ds × IsMerged interface.now.actor }
     ensures { IsSome walk.now.ends → Under walk.now (λ pre ds. ActorOf walk.now interface.now ds → IsMerged interface.now.actor →
-        result ≡ actor_verdict ds (interface_tree walk.now.rows.now interface.now)) }
+        result ≡ actor_verdict ds (interface_tree walk.now.scope.rows.now interface.now)) }
 {
     walk.check_types(false, interface.from, interface.until)?;
     for service in interface.services.as_slice() {
@@ -44,7 +44,7 @@ fn check_merged(walk: &Walk, interface: &Interface) -> Verdict
 pub(crate) fn check_actor(walk: &Walk, interface: &Interface) -> Verdict
     requires { (ds : List Definition) × ActorOf walk.now interface.now ds }
     ensures { IsSome walk.now.ends → Under walk.now (λ pre ds. ActorOf walk.now interface.now ds →
-        result ≡ actor_verdict ds (interface_tree walk.now.rows.now interface.now)) }
+        result ≡ actor_verdict ds (interface_tree walk.now.scope.rows.now interface.now)) }
 {
     match interface.actor {
         Actor::Absent => Ok(()),

@@ -4,6 +4,7 @@ ghost use Rattle.std.specs.Prelude.{◌≤◌};
 use crate::types::Walk;
 use book::admitted::AdmittedBook;
 use book::read::{Entry, Node};
+use environment::chain_end;
 use environment::scope::Scope;
 use refusals::{Refusal, Verdict};
 
@@ -55,7 +56,7 @@ impl<'a> Decs<'a> {
         let entries = self.book.definitions();
         for d in self.from..self.to {
             let root = Entry::at(entries, d).root as usize;
-            let size = Node::at(walk.rows, root).size;
+            let size = Node::at(walk.scope.rows, root).size;
             if !walk.services_fit(false, root, root + size) {
                 return false;
             }
@@ -75,7 +76,7 @@ impl<'a> Decs<'a> {
         if self.methods_fit(roots, ends) {
             return Ok(());
         }
-        environment::clear_ends(ends);
+        ends.fill(chain_end::NONE);
         Err(Refusal::NoFunction)
     }
 
@@ -88,7 +89,7 @@ impl<'a> Decs<'a> {
         environment::enter(self.book, self.from, self.to, roots)?;
         let checked = self.check_entered(roots, ends);
         if checked.is_err() {
-            environment::clear(roots);
+            roots.fill(Entry::NO_ROOT);
         }
         checked
     }

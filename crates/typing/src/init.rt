@@ -13,6 +13,7 @@ use crate::prog::Passed;
 use crate::types::Walk;
 use book::admitted::AdmittedBook;
 use book::read::{Entry, Node};
+use environment::chain_end;
 use environment::scope::Scope;
 use format::Limits;
 use refusals::{Refusal, Verdict};
@@ -33,7 +34,7 @@ fn check_own(book: AdmittedBook, main: usize, own: &mut [u16]) -> Verdict
     requires empty { own.old ≡ blank_table }
     ensures { OwnDecsAs book.entry.bytes.now book.entry.contents main own.new result }
 {
-    let mut ends = environment::no_ends();
+    let mut ends = [chain_end::NONE; Limits::NAMES];
     Decs::new(book, main, book.contents.definitions).check(own, &mut ends)
 }
 
@@ -75,7 +76,7 @@ fn check_arguments(
     ensures { (ds : List Definition) → Seen book.entry.bytes.now book.entry.contents both.now count ds → ArgumentsFound book.entry.bytes.now count root ds result }
 {
     let scope = Scope::of(book, both);
-    let mut ends = environment::no_ends();
+    let mut ends = [chain_end::NONE; Limits::NAMES];
     scope.find_ends(count, &mut ends)?;
     let from = root + 1;
     let until = root + Node::at(scope.rows, root).size;
@@ -130,7 +131,7 @@ pub fn check_init_args(
     environment::merge::merged(&own, roots, both);
     let args = check_seen(book, p, &own, init, both);
     if args.is_err() {
-        environment::clear(both);
+        both.fill(Entry::NO_ROOT);
     }
     args
 }

@@ -10,6 +10,8 @@ use crate::decs::Decs;
 use crate::types::Walk;
 use book::admitted::AdmittedBook;
 use book::kinds::Contents;
+use book::read::Entry;
+use environment::chain_end;
 use refusals::Refusal;
 use syntax::files::Files;
 use syntax::interface::Interface;
@@ -61,8 +63,8 @@ pub fn check_prog(
     Decs::new(admitted, 0, main).check(roots, ends)?;
     let found = check_resolved(admitted, files, main, roots, ends);
     if found.is_err() {
-        environment::clear(roots);
-        environment::clear_ends(ends);
+        roots.fill(Entry::NO_ROOT);
+        ends.fill(chain_end::NONE);
     }
     found
 }

@@ -11,8 +11,9 @@ ghost use Rattle.typing.specs.Walk.{bound_verdict, value_verdict, type_verdict};
 
 use book::admitted::AdmittedBook;
 use book::kinds::{Kind, Mode};
-use book::read::{Entry, Node};
+use book::read::Node;
 use book::walks::Siblings;
+use environment::scope::Scope;
 use refusals::{Answer, Refusal, Verdict};
 
 // A function's modes: at most one, and oneway without results.
@@ -33,19 +34,14 @@ fn check_modes(value: u32, kids: usize) -> Verdict
     Ok(())
 }
 
-// What a walk reads: the nodes of a book, how many they and the names are, the table of roots and that of alias ends. While the bodies of
-// definitions are walked there is none of alias ends yet, and no method is tested for being a function. Two lifetimes, which an
-// `environment::Scope` as a field does not have: tables are lent for less long than the book, and with one no proof is generated.
+// What a walk reads: the nodes of a book beside its table of roots, and the table of alias ends. While the bodies of definitions are walked there
+// is none of alias ends yet, and no method is tested for being a function.
 #[derive(Clone, Copy)]
 pub(crate) struct Walk<'b, 't> {
-    pub(crate) rows: &'b [u8],
-    pub(crate) names: usize,
-    pub(crate) nodes: usize,
-    pub(crate) roots: &'t [u16],
+    pub(crate) scope: Scope<'b, 't>,
     pub(crate) ends: Option<&'t [u32]>,
-    ghost trees: { AllTrees rows.now names nodes } by { Prim.hlevel props },
-    ghost bound: { Roots roots.now nodes } by { Prim.hlevel props },
-    ghost ended: { IfSome ends (λ e. EndNodes e.now nodes) } by { Prim.hlevel props },
+    ghost trees: { AllTrees scope.rows.now scope.names scope.nodes } by { Prim.hlevel props },
+    ghost ended: { IfSome ends (λ e. EndNodes e.now scope.nodes) } by { Prim.hlevel props },
 }
 
 impl<'b, 't> Walk<'b, 't> {
@@ -62,10 +58,7 @@ impl<'b, 't> Walk<'b, 't> {
         ensures { Reads book.entry.bytes.now book.entry.contents roots.entry.now ends.entry result }
     {
         Walk {
-            rows: book.nodes(),
-            names: book.contents.names,
-            nodes: book.contents.nodes,
-            roots,
+            scope: Scope::of(book, roots),
             ends,
         }
     }
@@ -73,23 +66,23 @@ impl<'b, 't> Walk<'b, 't> {
     // A name has to have a definition.
     #[tactic(auto, unfolding(crate::specs::Walk::bound_verdict))]
     fn check_var(&self, v: u32) -> Verdict
-        requires { v < self.now.names }
-        ensures { result ≡ bound_verdict v (get_or self.now.roots.now v 65535) }
+        requires { v < self.now.scope.names }
+        ensures { result ≡ bound_verdict v (get_or self.now.scope.roots.now v 65535) }
     {
-        if self.roots[v as usize] == Entry::NO_ROOT {
-            return Err(Refusal::Unbound(v as u16));
+        match environment::root_of(self.scope.roots, v as usize) {
+            Some(_) => Ok(()),
+            None => Err(Refusal::Unbound(v as u16)),
         }
-        Ok(())
     }
 
     // Whether a method may stand.
     fn method_fits(&self, n: usize) -> bool
-        requires { n < self.now.nodes }
-        ensures { result ≡ (is_none self.now.ends || end_is 23 self.now.rows.now (ends_of self.now.ends) n) }
+        requires { n < self.now.scope.nodes }
+        ensures { result ≡ (is_none self.now.ends || end_is 23 self.now.scope.rows.now (ends_of self.now.ends) n) }
     {
         match self.ends {
             None => true,
-            Some(ends) => environment::as_func(self.rows, ends, n).found,
+            Some(ends) => environment::as_func(self.scope.rows, ends, n).found,
         }
     }
 
@@ -97,10 +90,10 @@ impl<'b, 't> Walk<'b, 't> {
     #[cycle(types)]
     #[inline(always)]
     pub(crate) fn check_type(&self, n: usize) -> Verdict
-        requires { n < self.now.nodes }
-        ensures { Under self.now (λ pre ds. result ≡ type_verdict pre ds self.now.rows.now n) }
+        requires { n < self.now.scope.nodes }
+        ensures { Under self.now (λ pre ds. result ≡ type_verdict pre ds self.now.scope.rows.now n) }
     {
-        let t = Node::at(self.rows, n);
+        let t = Node::at(self.scope.rows, n);
         if t.kind < Kind::Var as u8 {
             return Ok(());
         }
@@ -123,10 +116,10 @@ impl<'b, 't> Walk<'b, 't> {
     pub(crate) fn check_types(&self, methods: bool, from: usize, until: usize) -> Answer
         requires { TreesIn self.now methods from until }
         ensures { Under self.now (λ pre ds.
-            result ≡ so_many (check_forest pre (not pre && methods) ds (siblings self.now.rows.now from until)) (breadth (siblings self.now.rows.now from until))) }
+            result ≡ so_many (check_forest pre (not pre && methods) ds (siblings self.now.scope.rows.now from until)) (breadth (siblings self.now.scope.rows.now from until))) }
     {
         let mut kids: usize = 0;
-        for (n, t) in Siblings::new(self.rows, from, until) {
+        for (n, t) in Siblings::new(self.scope.rows, from, until) {
             self.check_type(n)?;
             if methods && !self.method_fits(n) {
                 return Err(Refusal::MethodNoFunction(t.label as u16));
@@ -139,9 +132,9 @@ impl<'b, 't> Walk<'b, 't> {
     // Whether each method of each service in the trees from node `from` up to node `until`, which may be `methods`, is a function.
     pub(crate) fn services_fit(&self, methods: bool, from: usize, until: usize) -> bool
         requires { TreesIn self.now false from until }
-        ensures { IsSome self.now.ends → Under self.now (λ pre ds. result ≡ methods_fit ds methods (siblings self.now.rows.now from until)) }
+        ensures { IsSome self.now.ends → Under self.now (λ pre ds. result ≡ methods_fit ds methods (siblings self.now.scope.rows.now from until)) }
     {
-        for (n, t) in Siblings::new(self.rows, from, until) {
+        for (n, t) in Siblings::new(self.scope.rows, from, until) {
             if methods && !self.method_fits(n) {
                 return false;
             }

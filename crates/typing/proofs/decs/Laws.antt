@@ -4,12 +4,13 @@
 --     fits-stop, fits-on, ..           the loop over their methods
 --     decs-body, decs-circle, ..       the verdict
 use mathlib.Core.Path.{◌≡◌, refl, sym, ap, ◌∙◌}
-use mathlib.Core.Bool.{Bool, true, false, true≢false}
+use mathlib.Core.Bool.{Bool, true, false, true≢false, false≢true}
 use mathlib.Core.List.{List, [], ◌∷◌}
 use Prim.Native.Nat.{ℕ, suc, ◌+◌, ◌-◌, ◌≤◌, ◌<◌}
 use native.Mathlib.Omega.{arith}
 use lib.ListN.{length}
-use Rattle.std.specs.Prelude.{None, Some, IsSome, Err}
+use Rattle.std.specs.Prelude.{None, Some, IsSome, Ok, Err}
+use Rattle.std.specs.Result.{is_err}
 use denote.Bor.{Bor}
 use Rattle.format.specs.Book.{Definition}
 use Rattle.format.specs.Encode.{Entry}
@@ -21,7 +22,7 @@ use Rattle.refusals.specs.declared.Refusal.TheVariants.{NoFunction}
 use Rattle.refusals.specs.Verdict.{Verdict, passes, and_then, unless}
 use Rattle.judgement.specs.Check.{once_verdict, bodies_verdict, check_forest, methods_fit, bodies_fit, decs_verdict}
 use Rattle.book.specs.Reading.{EntryWithin, Admitted}
-use Rattle.book.specs.Tables.{zero_table}
+use Rattle.book.specs.Tables.{blank_table, zero_table}
 use Rattle.book.proofs.Named.{book-of}
 use Rattle.environment.specs.Tables.{Nodes, Entries, Roots, Binds, Tabled, DefinesAs, AliasEndsAs, definitions_in}
 use Rattle.environment.proofs.Definitions.{defined-length, defined-binds, defined-once}
@@ -100,7 +101,7 @@ module _ (d : Decs) where
       env-pre = rw (r.rows-are, r.roots-are, r.ends-are) (record { binds = binds; func = λ e. absurd (true≢false e) })
 
       module _ {k : ℕ} (b : d.from ≤ k) (h : k < d.to) {e : Entry} (is : e ≡ entry_at es k) (left : bodies_verdict ds (definitions_in ns es k d.to) ≡ bodies_verdict ds ds)
-          {v : Verdict} (u : Under w (λ pre ds. v ≡ type_verdict pre ds w.rows.now e.root)) where
+          {v : Verdict} (u : Under w (λ pre ds. v ≡ type_verdict pre ds w.scope.rows.now e.root)) where
         body-says : v ≡ check_forest true false ds (tree_at ns (entry_at es k).root)
         body-says =
             (rw (r.rows-are, r.ends-are) at (u ds env-pre)) ∙ tree-verdict true ds (body-in b h is).whole
@@ -111,10 +112,10 @@ module _ (d : Decs) where
         bodies-here = rw body-says (sym (ap (bodies_verdict ds) (definitions-cons ns es h))) ∙ left
 
       module _ {k : ℕ} (b : d.from ≤ k) (h : k < d.to) {e : Entry} (is : e ≡ entry_at es k) (left : bodies_verdict ds (definitions_in ns es k d.to) ≡ bodies_verdict ds ds) where
-        pub bodies-stop : {x : Refusal} → Under w (λ pre ds. Err x ≡ type_verdict pre ds w.rows.now e.root) → Err x ≡ bodies_verdict ds ds
+        pub bodies-stop : {x : Refusal} → Under w (λ pre ds. Err x ≡ type_verdict pre ds w.scope.rows.now e.root) → Err x ≡ bodies_verdict ds ds
         bodies-stop u = bodies-here b h is left u
 
-        pub bodies-on : Under w (λ pre ds. passes ≡ type_verdict pre ds w.rows.now e.root) → bodies_verdict ds (definitions_in ns es (k + 1) d.to) ≡ bodies_verdict ds ds
+        pub bodies-on : Under w (λ pre ds. passes ≡ type_verdict pre ds w.scope.rows.now e.root) → bodies_verdict ds (definitions_in ns es (k + 1) d.to) ≡ bodies_verdict ds ds
         bodies-on u = bodies-here b h is left u
 
     pub bodies-end : {k : ℕ} → d.to ≤ k → bodies_verdict ds (definitions_in ns es k d.to) ≡ bodies_verdict ds ds → passes ≡ bodies_verdict ds ds
@@ -137,7 +138,7 @@ module _ (d : Decs) where
 
         module _ {k : ℕ} (b : d.from ≤ k) (h : k < d.to) {e : Entry} (is : e ≡ entry_at es k) (left : bodies_fit ds (definitions_in ns es k d.to) ≡ bodies_fit ds ds)
             {fit : Bool} {size : ℕ} (size-is : size ≡ (row_at ns e.root).size)
-            (u : IsSome w.ends → Under w (λ pre ds. fit ≡ methods_fit ds false (siblings w.rows.now e.root (e.root + size)))) where
+            (u : IsSome w.ends → Under w (λ pre ds. fit ≡ methods_fit ds false (siblings w.scope.rows.now e.root (e.root + size)))) where
           body-fits : fit ≡ methods_fit ds false (tree_at ns (entry_at es k).root)
           body-fits =
               (rw r.rows-are at (u (rw r.ends-are refl) ds env-ends)) ∙ ap (λ (i : ℕ). methods_fit ds false (siblings ns e.root (e.root + i))) size-is
@@ -187,3 +188,7 @@ module _ (d : Decs) where
         entered = record { verdict = sym (rw (← defined-once ns entries t) refl); checked = tt; chains = tt; beyond = tt; left = z };
         left = t.left;
       }
+
+  pub decs-cleared : (v : Verdict) → is_err v ≡ true → {roots after ends' : List ℕ} → EnteredOf d v roots ends' → after ≡ blank_table → DecsOf d v after ends'
+  decs-cleared (Ok u) h e z = absurd (false≢true h)
+  decs-cleared (Err x) h e z = record { entered = record { verdict = e.verdict; checked = tt; chains = tt; beyond = tt; left = e.left }; left = z }

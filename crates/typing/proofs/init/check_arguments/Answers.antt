@@ -3,6 +3,7 @@ use mathlib.Core.Path.{refl, ap}
 use native.Mathlib.Omega.{arith}
 use Rattle.format.specs.Encode.{Row}
 use Rattle.format.proofs.Rows.{node-within}
+use Rattle.book.specs.Tables.{zero_table}
 use Rattle.book.proofs.Named.{book-of}
 use Rattle.environment.proofs.Book.{all-trees}
 use Rattle.typing.proofs.Handing.{handed-on}
@@ -10,10 +11,11 @@ use Rattle.typing.proofs.init.Laws.{arguments-stop, arguments-end}
 use Rattle.typing.proofs.init.check_arguments.Goals as goal
 
 pub find_ends-requires : goal.find_ends-requires
+unfolding zero_table
 find_ends-requires c =
     let s = c.requires.seen.1 in
     let o = c.of-scope.ensures in
-    record { ends = c.no_ends-ends.ensures; defined = rw (o.rows, o.roots) (_, (s.binds, s.counted)); few = omega (arith, s.few) }
+    record { ends = refl; defined = rw (o.rows, o.roots) (_, (s.binds, s.counted)); few = omega (arith, s.few) }
 
 pub at-requires : goal.at-requires
 at-requires c = rw c.of-scope.ensures.rows (node-within ((all-trees (book-of _ _ c.args.book.laid)).nodes.tree _ c.requires.inside).whole)

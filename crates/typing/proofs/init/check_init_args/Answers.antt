@@ -2,6 +2,7 @@
 use mathlib.Core.Path.{refl, sym, ◌∙◌}
 use Rattle.book.specs.Tables.{blank_table}
 use Rattle.book.proofs.Blank.{blank-length}
+use Rattle.environment.proofs.BlankTable.{blank-filled}
 use Rattle.typing.proofs.Handing.{handed-on}
 use Rattle.typing.proofs.init.Laws.{init-none, own-here, own-refused, own-table, main-table, init-differs, init-found, init-cleared}
 use Rattle.typing.proofs.init.check_init_args.Goals as goal
@@ -54,7 +55,7 @@ returns-then-is_err c =
     λ ends x.
     let o = own-here x.admitted (rw (c.new-admitted.ensures.bytes, c.new-admitted.ensures.contents) at c.init_file-init.ensures) c.if-init-c.false x.passed (rw (c.new-admitted.ensures.bytes, c.new-admitted.ensures.contents) at c.in_ok-check_own.ensures) in
     init-cleared _ (c.check_seen-args.ensures _ ends x o (record { passed = (rw (c.new-admitted.ensures.bytes, c.new-admitted.ensures.contents) at c.in_ok-merge.ensures) x.admitted; table = c.merged-2.ensures }))
-    (sym c.is_err.ensures.value ∙ c.if-is_err.true) c.clear.ensures
+    (sym c.is_err.ensures.value ∙ c.if-is_err.true) (blank-filled c.merged-2.ensures.long (c.fill.ensures.after (λ y e. e)))
 
 pub returns-else-is_err : goal.returns-else-is_err
 returns-else-is_err c =

@@ -1,6 +1,7 @@
 -- `check_prog` meets its contract. Assumes nothing.
 use mathlib.Core.Path.{sym, ◌∙◌}
 use Rattle.environment.proofs.Book.{entries-held}
+use Rattle.environment.proofs.BlankTable.{blank-filled, zero-filled}
 use Rattle.typing.proofs.Handing.{handed-on}
 use Rattle.typing.proofs.prog.Laws.{imports-refused, split-files, decs-refused, defined, left-blank, left-whole}
 use Rattle.typing.proofs.prog.check_prog.Goals as goal
@@ -27,7 +28,7 @@ returns-then-is_err c =
     λ a.
     let s = split-files a x (rw c.new-admitted.ensures.bytes at c.definitions.ensures) c.main_definitions-main.ensures in
     let o = defined a s x (rw (c.new.ensures.book, c.new.ensures.from, c.new.ensures.to, c.new-admitted.ensures.bytes, c.new-admitted.ensures.contents) at c.in_ok-check.ensures) in
-    left-blank a _ (sym c.is_err.ensures.value ∙ c.if-is_err.true) ((rw (c.new-admitted.ensures.bytes, c.new-admitted.ensures.contents) at c.check_resolved-found.ensures) a x o) c.clear.ensures c.clear_ends.ensures
+    left-blank a _ (sym c.is_err.ensures.value ∙ c.if-is_err.true) ((rw (c.new-admitted.ensures.bytes, c.new-admitted.ensures.contents) at c.check_resolved-found.ensures) a x o) (blank-filled c.in_ok-check.ensures.entered.checked.table.long (c.fill.ensures.after (λ y e. e))) (zero-filled c.in_ok-check.ensures.entered.checked.ended.long (c.fill-then-is_err.ensures.after (λ y e. e)))
 
 pub returns-else-is_err : goal.returns-else-is_err
 returns-else-is_err c =

@@ -1,4 +1,5 @@
 -- `check_entered` meets its contract. Assumes nothing.
+use Rattle.environment.proofs.BlankTable.{zero-filled}
 use Rattle.typing.proofs.Handing.{handed-on}
 use Rattle.typing.proofs.decs.Laws.{nodes, few, tabled, table, decs-body, decs-circle, decs-unfit, decs-passed}
 use Rattle.typing.proofs.decs.Decs.check_entered.Goals as goal
@@ -36,4 +37,4 @@ pub returns : goal.returns
 returns c =
     let o = c.of-scope.ensures in
     decs-unfit c.args.self c.requires.defined c.in_ok-check_bodies.ensures (rw (o.rows, o.roots, o.names, o.nodes) at c.in_ok-find_ends.ensures)
-    (rw c.if-methods_fit.false at c.methods_fit.ensures) c.clear_ends.ensures
+    (rw c.if-methods_fit.false at c.methods_fit.ensures) (zero-filled c.in_ok-find_ends.ensures.nodes.long (c.fill.ensures.after (λ y e. e)))
