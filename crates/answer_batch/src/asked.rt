@@ -5,7 +5,7 @@ use arrayvec::ArrayVec;
 use format::Limits;
 use refusals::Refusal;
 
-// Name numbers to ask with: at most as many as a book has names.
+// Name numbers to ask with: at most as many as a book has names, and none of what is beyond.
 type Numbers = ArrayVec<u16, { Limits::NAMES }>;
 
 // The first and the last number outside every table.
@@ -21,23 +21,17 @@ const FIRST_AND_LAST: u16 = 8;
 
 // The numbers of a list, the last first.
 fn turned(numbers: &[u16]) -> Numbers {
-    let mut back = Numbers::new();
-    for number in numbers.iter().rev() {
-        let _ = back.try_push(*number);
-    }
+    let mut back = Numbers::try_from(numbers).unwrap_or_default();
+    back.reverse();
     back
 }
 
 // The numbers of a book's names that are wanted.
-fn numbers_where<F: Fn(u16) -> bool>(names: u16, is_wanted: F) -> Numbers
-    requires { F.IsAlwaysCallable is_wanted }
+fn numbers_where<F: FnMut(u16) -> bool>(names: u16, mut is_wanted: F) -> Numbers
+    requires pre { (f : _) (x : _) → F.pre f x }
 {
     let mut numbers = Numbers::new();
-    for number in 0..names {
-        if is_wanted(number) {
-            let _ = numbers.try_push(number);
-        }
-    }
+    let _ = numbers.extend((0..names).filter(|number| is_wanted(*number)));
     numbers
 }
 
@@ -85,8 +79,7 @@ impl Asking<'_> {
     // no name's. Answers whether any is listed.
     fn ask_list(&mut self) -> bool {
         let mut out = [0; ROOM];
-        let end = self.ask_both(b"list", None, Question::MainList, &mut out);
-        let list = out.get(..end).unwrap_or(&[]);
+        let list = self.ask_both(b"list", None, Question::MainList, &mut out);
         self.ask_again(b"marks", None, Question::Marks(list));
         let back = turned(list);
         self.ask_marks(b"marks-back", &back);
@@ -95,7 +88,7 @@ impl Asking<'_> {
             let _ = more.try_push(number);
             self.ask_marks(word, &more);
         }
-        0 < end
+        !list.is_empty()
     }
 
     // The questions about each name and about numbers that are no name's; the methods projected for none, for all names that have one, and for
@@ -110,12 +103,7 @@ impl Asking<'_> {
                 || number < FIRST_AND_LAST
                 || names - FIRST_AND_LAST <= number
         };
-        let mut taken = Numbers::new();
-        for number in &numbers_where(names, is_asked) {
-            if self.ask_of(*number) {
-                let _ = taken.try_push(*number);
-            }
-        }
+        let taken = numbers_where(names, |number| is_asked(number) && self.ask_of(number));
         self.ask_outside();
         self.ask_again(b"project-all", None, Question::Projection(&turned(&taken)));
         let every = numbers_where(names, |_| true);

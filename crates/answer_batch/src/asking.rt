@@ -1,4 +1,6 @@
 // How a question is asked and its answer printed and counted.
+ghost use Rattle.std.specs.Prelude.{◌≤◌, length};
+
 use crate::lines::Lines;
 use crate::tally::{Given, Tally};
 use format::Limits;
@@ -120,19 +122,21 @@ impl Asking<'_> {
         }
     }
 
-    // Asks a question into a lent list. Answers how many numbers were given.
-    fn ask_into(
+    // Asks a question into a lent list. Answers the numbers that were given.
+    fn ask_into<'o>(
         &mut self,
         word: &[u8],
         about: Option<u16>,
         question: Question,
-        out: &mut [u16],
-    ) -> usize {
+        out: &'o mut [u16],
+    ) -> &'o [u16]
+        ensures { length result.now ≤ length out.old }
+    {
         self.begin(word, b"", about);
         match question.reply(self.book, self.limits, out) {
             Err(why) => {
                 self.refuse(why);
-                0
+                &[]
             }
             Ok(entries) => {
                 let numbers = entries.saturating_mul(question.width());
@@ -140,7 +144,7 @@ impl Asking<'_> {
                 self.lines.count(b"given ", entries);
                 question.print(self.lines, self.book, given);
                 self.tally.give_entries(question.given(), entries);
-                given.len()
+                given
             }
         }
     }
@@ -148,7 +152,7 @@ impl Asking<'_> {
     // Asks a question by this word. Answers how many numbers were given.
     pub(crate) fn ask(&mut self, word: &[u8], about: Option<u16>, question: Question) -> usize {
         let mut out = [0; ROOM];
-        self.ask_into(word, about, question, &mut out)
+        self.ask_into(word, about, question, &mut out).len()
     }
 
     // Marks over a list.
@@ -161,24 +165,21 @@ impl Asking<'_> {
         self.ask(word, about, Question::Projection(names))
     }
 
-    // Asks a question into a lent list and, where there are entries, once more with one place less, after the entries needed.
-    pub(crate) fn ask_both(
+    // Asks a question into a lent list and, where there are entries, once more with one place less, after the entries needed. Answers the numbers
+    // that were given first.
+    pub(crate) fn ask_both<'o>(
         &mut self,
         word: &[u8],
         about: Option<u16>,
         question: Question,
-        out: &mut [u16],
-    ) -> usize {
-        let end = self.ask_into(word, about, question, out);
+        out: &'o mut [u16],
+    ) -> &'o [u16] {
+        let end = self.ask_into(word, about, question, out).len();
         let Some(places) = end.checked_sub(question.width()) else {
-            return 0;
+            return &[];
         };
         self.begin(word, b"-short", about);
-        match question.reply(
-            self.book,
-            self.limits,
-            out.get_mut(..places).unwrap_or(&mut []),
-        ) {
+        match question.reply(self.book, self.limits, &mut out[..places]) {
             Err(why) => {
                 self.lines.count(b"needs ", why.needed() as usize);
                 self.lines.write(b" ");
@@ -186,7 +187,7 @@ impl Asking<'_> {
             }
             Ok(entries) => self.lines.count(b"given ", entries),
         }
-        end
+        &out[..end]
     }
 
     // The same where the numbers themselves are not asked for.

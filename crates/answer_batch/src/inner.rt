@@ -1,19 +1,17 @@
 // Lines of functions inside the crates, whose answers no question hands out: `alias_end` on an admitted book, with the definitions of all files
 // as one environment; `as_func` and `as_service` on a book that passed. They ask for such books, so this file counts on what admission, the
 // check and `enter` promise.
-ghost use Rattle.book.specs.Reading.{Admitted};
 ghost use Rattle.passed.specs.Checked.{Passes};
 
 use crate::asking::Asking;
 use crate::lines::Lines;
 use crate::tally::Given;
-use book::admitted::AdmittedBook;
-use book::kinds::Contents;
 use book::read::Entry;
 use environment::scope::Scope;
 use environment::{End, Lookup};
 use format::Limits;
 use passed::{CheckedBook, Tables};
+use refusals::Answer;
 
 impl Asking<'_> {
     pub(crate) fn ask_inner(&mut self) {
@@ -23,33 +21,10 @@ impl Asking<'_> {
 
     fn ask_chains(&mut self) {
         self.begin_word(b"chains");
-        match admission::admit(self.book, self.limits) {
+        match say_chains(self.lines, self.book, self.limits) {
             Err(why) => self.refuse(why),
-            Ok(book) => self.say_chains(book.contents),
+            Ok(definitions) => self.tally.give_entries(Given::Chains, definitions),
         }
-    }
-
-    // The chain from each definition's body, in order; 2 where a name is defined twice, be it in two files.
-    fn say_chains(&mut self, c: Contents)
-        requires { Admitted self.old.book.now c }
-    {
-        let definitions = c.definitions(self.book);
-        let book = AdmittedBook::new(self.book, c);
-        let mut roots = [Entry::NO_ROOT; Limits::NAMES];
-        let entered = environment::enter(book, 0, c.definitions, &mut roots);
-        if let Err(why) = entered {
-            self.refuse(why);
-            return;
-        }
-        let scope = Scope::of(book, &roots);
-        self.lines.count(b"given ", c.definitions);
-        for d in 0..c.definitions {
-            let root = Entry::at(definitions, d).root as usize;
-            let found = scope.alias_end(c.definitions, root);
-            print_end(self.lines, self.book, found.end, found.crossed);
-        }
-        self.lines.write(b"\n");
-        self.tally.give_entries(Given::Chains, c.definitions);
     }
 
     fn ask_lookups(&mut self) {
@@ -64,6 +39,24 @@ impl Asking<'_> {
             }
         }
     }
+}
+
+// The chain from each definition's body, in order; 2 where a name is defined twice, be it in two files. Answers how many definitions there are.
+fn say_chains(lines: Lines, bytes: &[u8], limits: Limits) -> Answer {
+    let book = admission::admit(bytes, limits)?;
+    let c = book.contents;
+    let definitions = book.definitions();
+    let mut roots = [Entry::NO_ROOT; Limits::NAMES];
+    environment::enter(book, 0, c.definitions, &mut roots)?;
+    let scope = Scope::of(book, &roots);
+    lines.count(b"given ", c.definitions);
+    for d in 0..c.definitions {
+        let root = Entry::at(definitions, d).root as usize;
+        let found = scope.alias_end(c.definitions, root);
+        print_end(lines, bytes, found.end, found.crossed);
+    }
+    lines.write(b"\n");
+    Ok(c.definitions)
 }
 
 fn print_end(lines: Lines, book: &[u8], end: End, crossed: usize) {

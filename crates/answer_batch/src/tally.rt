@@ -2,7 +2,7 @@
 use crate::lines::Lines;
 use refusals::Refusal;
 
-// What is counted where it is given: a place of the tally and its word.
+// What is counted where it is given.
 #[derive(Clone, Copy)]
 pub(crate) enum Given {
     Layout,
@@ -24,22 +24,22 @@ pub(crate) enum Given {
 impl Given {
     const COUNT: usize = 14;
 
-    // In the order of the variants.
-    const WORDS: [&'static [u8]; Given::COUNT] = [
-        b"layout",
-        b"name",
-        b"check",
-        b"init-check",
-        b"list",
-        b"marks",
-        b"init",
-        b"draft",
-        b"empty",
-        b"chains",
-        b"lookups",
-        b"uses",
-        b"alias",
-        b"project",
+    // Each with its word, in the order in which they are printed.
+    const ALL: [(Given, &'static [u8]); Given::COUNT] = [
+        (Given::Layout, b"layout"),
+        (Given::Name, b"name"),
+        (Given::Check, b"check"),
+        (Given::InitCheck, b"init-check"),
+        (Given::List, b"list"),
+        (Given::Marks, b"marks"),
+        (Given::InitList, b"init"),
+        (Given::DraftList, b"draft"),
+        (Given::Emptiness, b"empty"),
+        (Given::Chains, b"chains"),
+        (Given::Lookups, b"lookups"),
+        (Given::Uses, b"uses"),
+        (Given::Alias, b"alias"),
+        (Given::Projection, b"project"),
     ];
 }
 
@@ -89,12 +89,12 @@ impl Tally {
                 is_complete &= 0 < *count;
             }
         }
-        for (word, count) in Given::WORDS.iter().zip(self.given.iter()) {
-            lines.write(b"tally given ");
-            lines.write(word);
-            lines.count(b" ", *count as usize);
+        for (what, word) in Given::ALL {
+            let count = self.given[what as usize];
+            lines.words(&[b"tally given ", word]);
+            lines.count(b" ", count as usize);
             lines.write(b"\n");
-            is_complete &= 0 < *count;
+            is_complete &= 0 < count;
         }
         if is_complete {
             lines.write(b"tally complete\n");
