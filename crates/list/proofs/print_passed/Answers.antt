@@ -2,7 +2,7 @@
 use mathlib.Core.Path.{refl, sym, ◌∙◌}
 use native.Mathlib.Omega.{arith}
 use lib.Seq.{length-take-le}
-use Rattle.typing.proofs.Handing.{handed-on}
+use Rattle.refusals.proofs.Handing.{handed-on}
 use Rattle.print.proofs.Lays.{wider}
 use Rattle.list.proofs.Answered.{given-within}
 use Rattle.list.proofs.Listed.{prints-none, list-handed, list-refused, list-given, marks-handed, marks-refused}
