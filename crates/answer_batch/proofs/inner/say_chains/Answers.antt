@@ -3,23 +3,19 @@ use mathlib.Core.Path.{refl}
 use native.Mathlib.Omega.{arith}
 use Rattle.book.specs.Tables.{blank_table}
 use Rattle.book.proofs.Named.{book-of}
-use Rattle.syntax.proofs.Book.{all-trees, entries-of}
 use Rattle.answer_batch.proofs.Laws.{definition-within, body-inside}
 use Rattle.answer_batch.proofs.inner.say_chains.Goals as goal
 
 pub enter-requires : goal.enter-requires
 unfolding blank_table
-enter-requires c =
-    let a = book-of _ _ c.in_ok-book.book.laid in
-    let t = (all-trees a).nodes in
-    rw c.definitions-definitions.ensures (entries-of a (omega arith) (omega arith), t.few_names, t.few_nodes, refl)
+enter-requires c = record { ordered = omega arith; within = omega arith; empty = refl }
 
-pub new-scope-requires : goal.new-scope-requires
-new-scope-requires c = rw c.nodes.ensures ((all-trees (book-of _ _ c.in_ok-book.book.laid)).nodes, rw c.in_ok-enter.was at c.enter.ensures.table)
+pub of-scope-requires : goal.of-scope-requires
+of-scope-requires c = rw c.in_ok-enter.was at c.enter.ensures.table
 
 pub at-root-requires : goal.at-root-requires
 at-root-requires c = rw c.definitions-definitions.ensures (definition-within (book-of _ _ c.in_ok-book.book.laid) c.loop-d-test.true)
 
 pub alias_end-found-requires : goal.alias_end-found-requires
 alias_end-found-requires c =
-    rw c.new-scope.ensures.nodes (body-inside (book-of _ _ c.in_ok-book.book.laid) c.loop-d-test.true (rw c.definitions-definitions.ensures at c.at-root.ensures))
+    rw c.of-scope.ensures.nodes (body-inside (book-of _ _ c.in_ok-book.book.laid) c.loop-d-test.true (rw c.definitions-definitions.ensures at c.at-root.ensures))
