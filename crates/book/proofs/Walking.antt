@@ -7,17 +7,25 @@
 --     at o x, over-next o x       the place that the walk goes on to, and the invariant there
 -- After it, with x = c.in-None.ensures.steps:
 --     last o x                    it came to the end
-use mathlib.Core.Path.{◌≡◌, refl, ap, ◌∙◌, subst}
+-- Where the walk's nth tree is asked for, with x = c.in-Some.ensures.ran or c.in-None.ensures.ran:
+--     nth-some o x                how many trees and nodes stand before that tree
+--     nth-none o x                there are no more trees than n
+use mathlib.Core.Path.{◌≡◌, refl, sym, ap, ◌∙◌, subst}
 use mathlib.Core.List.{List, [], ◌∷◌}
-use Prim.Native.Nat.{ℕ, ◌+◌, ◌<◌, min}
+use Prim.Native.Nat.{ℕ, ◌+◌, ◌≤◌, ◌<◌, min}
+use native.Mathlib.Nat.{add-zero}
 use native.Mathlib.Omega.{arith}
 use Rattle.format.specs.Encode.{Row}
 use Rattle.std.proofs.lemmas.List.{take_min, drop_min, length-drop}
 use lib.ListN.{length, take, drop}
-use Rattle.format.specs.Layout.{row_at, names_of}
+use Rattle.format.specs.Forest.{breadth}
+use Rattle.format.specs.Layout.{row_at, siblings, names_of}
 use Rattle.format.proofs.Names.{names-fuel}
+use Rattle.format.proofs.Rows.{opens, siblings-none, siblings-opens, count-siblings}
+use Rattle.format.proofs.Numbered.{nodes_before}
 use Rattle.format.specs.Whole.{Whole}
-use Rattle.std.specs.Prelude.{None}
+use Rattle.std.specs.Prelude.{None, Some}
+use Rattle.std.specs.Iterator.{Yields, SkipsThenYields}
 use Rattle.book.specs.declared.read.Node.{Node}
 use Rattle.book.specs.declared.walks.Siblings.{Siblings}
 use Rattle.book.specs.Reading.{as_row}
@@ -53,6 +61,43 @@ module _ {ns : List ℕ} {e : ℕ} {s : Siblings} (o : Over ns e s) where
 
     pub over-next : Over ns e t
     over-next = record { rows = ap (λ r. r.now) x.rows ∙ o.rows; until = x.until ∙ o.until }
+
+-- ---- The nth tree of a walk
+-- where n trees were walked, and how many are left
+record Walked (ns : List ℕ) (e : ℕ) (s t : Siblings) (n : ℕ) : Type 0 where
+  over : Over ns e t
+  at : t.at ≡ s.at + nodes_before n (siblings ns s.at e)
+  left : breadth (siblings ns s.at e) ≡ n + breadth (siblings ns t.at e)
+
+walked : {ns : List ℕ} {e : ℕ} {s t : Siblings} (xs : List (ℕ × Node)) → Yields Walks s xs t → Over ns e s → Walked ns e s t (length xs)
+unfolding breadth nodes_before
+walked {ns} {e} {s} [] y o = subst (λ (t : Siblings). Walked ns e s t 0) y (record { over = o; at = sym (add-zero s.at); left = omega arith })
+walked {ns} {e} {s} (x ∷ xs) (j, x', y) o =
+    let rest = walked xs y (over-next o x') in
+    let k = length xs in
+    let first = opens (whole o) (here o x') in
+    let size = count-siblings ns (s.at + 1) (s.at + (row_at ns s.at).size) in
+    record {
+      over = rest.over;
+      at = rest.at ∙ ap (λ (i : ℕ). i + nodes_before k (siblings ns i e)) (at o x') ∙ rw (siblings-opens first) (omega (arith, first.here.one, size));
+      left = rw (siblings-opens first) (omega (arith, rest.left, ap (λ (i : ℕ). breadth (siblings ns i e)) (at o x')));
+    }
+
+module _ {ns : List ℕ} {e : ℕ} {s : Siblings} (o : Over ns e s) {n : ℕ} where
+  pub nth-some : {k : ℕ} {node : Node} {u : Siblings} → SkipsThenYields Walks s n (Some (k, node)) u →
+      (k ≡ s.at + nodes_before n (siblings ns s.at e)) × (n < breadth (siblings ns s.at e))
+  unfolding breadth
+  nth-some (xs, (t, y, x), long) =
+      let w = walked xs y o in
+      let more = ap breadth (siblings-opens (opens (whole w.over) (here w.over x))) in
+      (x.place ∙ subst (λ (m : ℕ). t.at ≡ s.at + nodes_before m (siblings ns s.at e)) long w.at, omega (arith, w.left, more, long))
+
+  pub nth-none : {u : Siblings} → SkipsThenYields Walks s n None u → breadth (siblings ns s.at e) ≤ n
+  unfolding breadth
+  nth-none (xs, (t, y, x), long) =
+      let w = walked xs y o in
+      let none = ap breadth (siblings-none ns t.at e (omega (arith, last w.over x))) in
+      omega (arith, w.left, none, long)
 
 -- ---- A walk over names
 -- a name that begins the bytes, and those that are left after it

@@ -2,12 +2,13 @@
 --     method-key, field-key, name-key   what a row's key is
 --     keys-length, keys-at              those of siblings, one for each
 use mathlib.Core.Path.{◌≡◌, refl, sym, ap, ◌∙◌}
-use mathlib.Core.Bool.{Bool, true, false}
 use mathlib.Core.List.{List}
 use Prim.Native.Nat.{ℕ, zero, suc, ◌<◌}
 use native.Mathlib.Omega.{arith}
 use lib.ListN.{length, get_or}
 use Rattle.labels.specs.Number.{label_number}
+use Rattle.format.specs.declared.Place.{Place}
+use Rattle.format.specs.declared.Place.TheVariants.{Root, Field, Method, Inner}
 use Rattle.format.specs.Forest.{Forest, end, tree, breadth}
 use Rattle.format.specs.Node.{Labelled, Node, label_value}
 use Rattle.format.specs.Encode.{Row, row_of}
@@ -23,12 +24,15 @@ module _ {n : ℕ} {r : Row} (f : RowFits n r) where
   unfolding row_of
   stored = ap (λ (q : Row). q.label) f.same
 
-  pub method-key : (names : List (List ℕ)) {fields : Bool} → fields ≡ false → r.label ≡ key_of fields names (node_of r).label
-  method-key names e = rw e (sym stored)
+  pub method-key : (names : List (List ℕ)) (p : Place) → (p ≡ Field → ⊥) → r.label ≡ key_of p names (node_of r).label
+  method-key names Field h = absurd (h refl)
+  method-key names Method h = sym stored
+  method-key names Root h = sym stored
+  method-key names Inner h = sym stored
 
-  pub field-key : (names : List (List ℕ)) {fields : Bool} → fields ≡ true → (r.lkind ≡ 2 → ⊥) → r.label ≡ key_of fields names (node_of r).label
+  pub field-key : (names : List (List ℕ)) → (r.lkind ≡ 2 → ⊥) → r.label ≡ key_of Field names (node_of r).label
   unfolding node_of label_of label_id label_value
-  field-key names e h = rw e (sym (go r.lkind r.label f.lkind h ∙ stored))
+  field-key names h = sym (go r.lkind r.label f.lkind h ∙ stored)
     where
       go : (k v : ℕ) → k < 4 → (k ≡ 2 → ⊥) → label_id names (label_of k v) ≡ label_value (label_of k v)
       go zero v l h = refl
@@ -37,10 +41,10 @@ module _ {n : ℕ} {r : Row} (f : RowFits n r) where
       go (suc (suc (suc zero))) v l h = refl
       go (suc (suc (suc (suc k)))) v l h = absurd (omega arith)
 
-pub name-key : (bs : List ℕ) (r : Row) {fields : Bool} → layout bs ≡ whole (read bs) → fields ≡ true → r.lkind ≡ 2 →
-    label_number (name_in bs r.label) ≡ key_of fields (read bs).names (node_of r).label
+pub name-key : (bs : List ℕ) (r : Row) → layout bs ≡ whole (read bs) → r.lkind ≡ 2 →
+    label_number (name_in bs r.label) ≡ key_of Field (read bs).names (node_of r).label
 unfolding node_of label_of label_id name_in
-name-key bs r w e h = rw (w, e, h)
+name-key bs r w h = rw (w, h)
 
 -- ---- Of siblings
 pub keys-length : (key : Labelled → ℕ) (f : Forest Node) → length (keys_of key f) ≡ breadth f

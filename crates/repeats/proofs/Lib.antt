@@ -2,7 +2,6 @@
 mod Tables
 mod Keys
 mod Gathered
-mod Reached
 mod Labelled
 mod Repeated
 mod Searched

@@ -18,6 +18,7 @@ use Rattle.format.specs.Forest.{Forest, count, breadth}
 use Rattle.format.specs.Node.{Labelled, Node}
 use Rattle.format.specs.Book.{trees}
 use Rattle.format.specs.Layout.{nodes_part, row_at, node_of, siblings, read}
+use Rattle.format.specs.Rules.{below_kind}
 use Rattle.format.specs.Distinct.{Distinct}
 use Rattle.format.specs.Numbered.{NodeAt, TreeAt}
 use Rattle.format.specs.Repeats.{OneLabel, RepeatAt}
@@ -28,11 +29,10 @@ use Rattle.format.proofs.Admitted.{trees-are, trees-whole, node-stored}
 use Rattle.duplicates.specs.Duplicate.{FirstDuplicate}
 use Rattle.duplicates.proofs.Places.{stands-at, place-of}
 use Rattle.format.specs.Labels.{keys_of}
-use Rattle.repeats.specs.Keys.{key_of, labels_below, has_fields, is_parent, child_at}
+use Rattle.repeats.specs.Keys.{key_of, labels_below, is_parent}
 use Rattle.repeats.specs.Steps.{Stands, Between}
 use Rattle.repeats.proofs.Keys.{keys-length, keys-at}
 use Rattle.repeats.proofs.Gathered.{row-fits}
-use Rattle.repeats.proofs.Reached.{child-is}
 use Rattle.repeats.proofs.Labelled.{has-labels, one-key, key-one}
 
 -- No number stands twice before place d.
@@ -55,7 +55,7 @@ abbrev pub kids_at : List ℕ → ℕ → Forest Node
 kids_at ns i = siblings ns (i + 1) (i + (row_at ns i).size)
 
 abbrev key_at : List ℕ → List ℕ → ℕ → Labelled → ℕ
-key_at bs ns i = key_of (has_fields (row_at ns i).kind) (read bs).names
+key_at bs ns i = key_of (below_kind (row_at ns i).kind) (read bs).names
 
 abbrev pub keys_at : List ℕ → List ℕ → ℕ → List ℕ
 keys_at bs ns i = keys_of (key_at bs ns i) (kids_at ns i)
@@ -125,7 +125,7 @@ module _ {bs ns : List ℕ} (s : Stands bs ns) (i : ℕ) (h : i < count (trees (
     pub child-inside : d < breadth (kids_at ns i)
     child-inside = omega (arith, f.inside, keys-length (key_at bs ns i) (kids_at ns i))
 
-    pub child-repeat : is_parent (row_at ns i) ≡ true → (l : Labelled) × Repeats bs (child_at ns (i + 1) d) l
+    pub child-repeat : is_parent (row_at ns i) ≡ true → (l : Labelled) × Repeats bs (i + 1 + nodes_before d (kids_at ns i)) l
     unfolding node_of
     child-repeat t =
         let m = child-inside in
@@ -154,17 +154,17 @@ module _ {bs ns : List ℕ} (s : Stands bs ns) (i : ℕ) (h : i < count (trees (
             other = other.2.stands;
             order = before-rises kids p.0 d p.1 (omega arith);
             same = key-one (read bs).names (row_at ns i).kind (row_at ns i).value (has-labels (row_at ns i) t) same;
-            node = child-is kids-between.whole d m ∙ omega arith;
+            node = omega arith;
             label = refl;
           },
         )
 
-    pub child-least : (j : ℕ) (l : Labelled) (x : Repeats bs j l) → x.at ≡ i → child_at ns (i + 1) d ≤ j
+    pub child-least : (j : ℕ) (l : Labelled) (x : Repeats bs j l) → x.at ≡ i → i + 1 + nodes_before d (kids_at ns i) ≤ j
     child-least j l x e =
         let kids = kids_at ns i in
         let p = pair x e in
         let most : d ≤ p.other = go p (dec_lt p.other d) in
-        omega (arith, child-is kids-between.whole d child-inside, before-most kids d p.other most (omega (arith, p.inside)), p.at, x.node)
+        omega (arith, before-most kids d p.other most (omega (arith, p.inside)), p.at, x.node)
       where
         go : (p : Pair x.later_at) → Dec (p.other < d) → d ≤ p.other
         go p (yes y) = absurd (distinct-apart (keys_at bs ns i) d f.distinct p.one p.other p.order y (omega (arith, f.inside)) p.same)

@@ -1,10 +1,10 @@
 -- What the functions that find a repeat ask and promise each other. Definitions; assumes nothing.
 -- The book of bytes bs that are one is `read bs` (format, specs/Layout.antt).
-use Rattle.std.specs.Prelude.{◌≡◌, false, Option, Some, None, List, ℕ, ◌≤◌, ◌<◌, get_or}
+use Rattle.std.specs.Prelude.{◌≡◌, false, Option, Some, None, List, ℕ, ◌≤◌, ◌<◌, get_or, min}
 use Rattle.labels.specs.Number.{label_number}
-use Rattle.format.specs.Forest.{count, breadth}
+use Rattle.format.specs.Forest.{count}
 use Rattle.format.specs.Book.{trees}
-use Rattle.format.specs.Layout.{nodes_part, row_at, siblings, read, whole, layout, name_in}
+use Rattle.format.specs.Layout.{nodes_part, row_at, read, whole, layout, name_in}
 use Rattle.format.specs.Whole.{Whole}
 use Rattle.repeats.specs.Keys.{is_parent}
 
@@ -22,11 +22,11 @@ pub record Between (bs ns : List ℕ) (i e : ℕ) : Type 0 where
   pub whole : Whole ns i e
   pub inside : e ≤ count (trees (read bs))
 
--- There are more than d whole trees from node i on.
-pub record Reaches (ns : List ℕ) (i d : ℕ) : Type 0 where
-  pub until : ℕ
-  pub whole : Whole ns i until
-  pub more : d < breadth (siblings ns i until)
+-- The lower of two numbers, where there are any.
+abbrev pub LowerOf : Option ℕ → Option ℕ → Option ℕ → Type 0
+LowerOf None b r = r ≡ b
+LowerOf (Some a) None r = r ≡ Some a
+LowerOf (Some a) (Some b) r = r ≡ Some (min a b)
 
 -- No node before node r has siblings to compare below it.
 abbrev pub Skipped : List ℕ → ℕ → Type 0

@@ -23,19 +23,16 @@ use book::admitted::AdmittedBook;
 use book::kinds::Kind;
 use book::read::Node;
 use book::tables::NameIndex;
-use format::Limits;
+use format::{Limits, Place};
 use labels::LabelKind;
 use refusals::{Refusal, Verdict};
 
 // Whether two children of a node may have one label: it is a record, variant or service of more than two nodes.
-#[tactic(auto, unfolding(crate::specs::Keys::is_parent, crate::specs::Keys::labels_below))]
+#[tactic(auto, unfolding(crate::specs::Keys::is_parent, crate::specs::Keys::labels_below, format::specs::Rules::below_kind))]
 fn is_parent(node: Node) -> bool
     ensures { result ≡ is_parent (as_row node) }
 {
-    2 < node.size
-        && (node.kind == Kind::Record as u8
-            || node.kind == Kind::Variant as u8
-            || node.kind == Kind::Service as u8)
+    2 < node.size && Kind::place_below(node.kind) != Place::Inner
 }
 
 // The first such node.

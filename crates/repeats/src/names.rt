@@ -9,7 +9,7 @@ ghost use Rattle.repeats.specs.Steps.{Hashed};
 
 use book::read::Node;
 use book::tables::NameIndex;
-use format::Limits;
+use format::{Limits, Place};
 use labels::LabelKind;
 
 #[derive(Drop)]
@@ -35,12 +35,12 @@ impl Names<'_> {
     }
 
     // What a child is compared by: a field by its label's number, a method by its name.
-    pub fn key(&mut self, node: Node, fields: bool) -> u32
+    pub fn key(&mut self, node: Node, place: Place) -> u32
         requires { RowFits (length (read self.old.index.book.bytes.now).names) (as_row node) }
         ensures same_book { self.new.index.book.bytes.now ≡ self.old.index.book.bytes.now }
-        ensures key { result ≡ key_of fields (read self.old.index.book.bytes.now).names (node_of (as_row node)).label }
+        ensures key { result ≡ key_of place (read self.old.index.book.bytes.now).names (node_of (as_row node)).label }
     {
-        if fields && node.label_kind == LabelKind::Named as u8 {
+        if place == Place::Field && node.label_kind == LabelKind::Named as u8 {
             self.hash(node.label as usize)
         } else {
             node.label

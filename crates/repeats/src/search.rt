@@ -1,12 +1,12 @@
 // The search for a repeat in a book that has a node with more than one child.
-ghost use Rattle.std.specs.Prelude.{◌≡◌, true, ◌+◌, ◌<◌, MatchOption};
+ghost use Rattle.std.specs.Prelude.{◌≡◌, true, ◌≤◌, ◌<◌, MatchOption};
 ghost use Rattle.format.specs.Forest.{count};
 ghost use Rattle.format.specs.Book.{trees};
 ghost use Rattle.format.specs.Layout.{nodes_part, row_at, siblings, read};
 ghost use Rattle.format.specs.Labels.{keys_of};
 ghost use Rattle.repeats.specs.Found.{FoundAs, FirstBelow, NoneBelow};
-ghost use Rattle.repeats.specs.Keys.{key_of, is_parent, child_at};
-ghost use Rattle.repeats.specs.Steps.{Between, Reaches, Skipped};
+ghost use Rattle.repeats.specs.Keys.{key_of, is_parent};
+ghost use Rattle.repeats.specs.Steps.{LowerOf, Skipped};
 
 use crate::is_parent;
 use crate::names::Names;
@@ -14,7 +14,7 @@ use arrayvec::ArrayVec;
 use book::kinds::Kind;
 use book::read::Node;
 use book::walks::Siblings;
-use format::Limits;
+use format::{Limits, Place};
 
 // A book's names, and the keys of a node's children.
 #[derive(Drop)]
@@ -23,29 +23,28 @@ pub struct Search<'a> {
     pub keys: ArrayVec<u32, { Limits::NODES }>,
 }
 
-// The node of child d, where the first is node `from`.
-fn child(rows: &[u8], from: usize, d: usize) -> usize
-    requires { Reaches rows.now from d }
-    ensures { result ≡ child_at rows.now from d }
+// The lower of two nodes, where there are any.
+fn lower(a: Option<usize>, b: Option<usize>) -> Option<usize>
+    ensures { LowerOf a b result }
 {
-    let mut i = from;
-    for _ in 0..d {
-        i += Node::at(rows, i).size;
+    match (a, b) {
+        (Some(a), Some(b)) => Some(a.min(b)),
+        _ => a.or(b),
     }
-    i
 }
 
 impl Search<'_> {
-    // Gathers the keys of the children from node `from` up to node `end`.
-    fn gather(&mut self, from: usize, end: usize, fields: bool)
-        requires { let bs = self.old.names.index.book.bytes.now in Between bs (nodes_part bs) from end }
+    // Gathers the keys of these children, which stand at `place`.
+    fn gather(&mut self, children: Siblings, place: Place)
+        requires rows { children.rows.now ≡ nodes_part self.old.names.index.book.bytes.now }
+        requires inside { children.until ≤ count (trees (read self.old.names.index.book.bytes.now)) }
         ensures same_book { self.new.names.index.book.bytes.now ≡ self.old.names.index.book.bytes.now }
         ensures keys { let bs = self.old.names.index.book.bytes.now in
-            self.new.keys.items ≡ keys_of (key_of fields (read bs).names) (siblings (nodes_part bs) from end) }
+            self.new.keys.items ≡ keys_of (key_of place (read bs).names) (siblings (nodes_part bs) children.entry.at children.entry.until) }
     {
         self.keys.clear();
-        for (_, node) in Siblings::new(self.names.index.book.nodes(), from, end) {
-            let key = self.names.key(node, fields);
+        for (_, node) in children {
+            let key = self.names.key(node, place);
             self.keys.push(key);
         }
     }
@@ -60,10 +59,11 @@ impl Search<'_> {
     {
         let rows = self.names.index.book.nodes();
         let node = Node::at(rows, i);
-        let fields = node.kind != Kind::Service as u8;
-        self.gather(i + 1, i + node.size, fields);
+        let mut children = Siblings::new(rows, i + 1, i + node.size);
+        self.gather(children, Kind::place_below(node.kind));
         let d = duplicates::first_duplicate(self.keys.as_slice())?;
-        Some(child(rows, i + 1, d))
+        let (child, _) = children.nth(d)?;
+        Some(child)
     }
 
     // The first repeat. A repeat stands after its parent, so what is at or after the lowest so far need not be looked at.
@@ -72,16 +72,15 @@ impl Search<'_> {
         ensures { FoundAs (read self.old.names.index.book.bytes.now) result }
     {
         let rows = self.names.index.book.nodes();
-        let nodes = self.names.index.book.contents.nodes;
-        let mut lowest = nodes;
-        for i in first..nodes {
-            if lowest <= i {
+        let mut lowest: Option<usize> = None;
+        for i in first..self.names.index.book.contents.nodes {
+            if lowest.is_some_and(|lowest| lowest <= i) {
                 break;
             }
             if is_parent(Node::at(rows, i)) {
-                lowest = lowest.min(self.repeat_below(i).unwrap_or(nodes));
+                lowest = lower(lowest, self.repeat_below(i));
             }
         }
-        if lowest < nodes { Some(lowest) } else { None }
+        lowest
     }
 }

@@ -1,7 +1,7 @@
 -- `first_repeat` meets its contract: where no node has two children, none has a label twice; else the search finds the first. Assumes nothing.
 use native.Mathlib.Omega.{arith}
 use Rattle.repeats.proofs.Tables.{hashed-none}
-use Rattle.repeats.proofs.Searched.{standing, nodes-are, all-within, searched-start, searched-nothing}
+use Rattle.repeats.proofs.Searched.{standing, nodes-are, all-within, searched-start, searched-all}
 use Rattle.repeats.proofs.first_repeat.Goals as goal
 
 pub first_parent-requires : goal.first_parent-requires
@@ -11,8 +11,8 @@ pub returns-in_err-first : goal.returns-in_err-first
 returns-in_err-first c =
     let b = c.args.book in
     let n = nodes-are b in
-    let start = searched-start (standing b) n (rw c.nodes.ensures at c.in_err-first.ensures) in
-    rw c.from_residual.ensures (searched-nothing start (omega arith) (omega arith))
+    let start = searched-start (standing b) (rw c.nodes.ensures at c.in_err-first.ensures) in
+    rw c.from_residual.ensures (searched-all _ start (omega arith))
 
 pub invariant_of-search : goal.invariant_of-search
 invariant_of-search c = record { hashed = hashed-none _ }
