@@ -40,12 +40,7 @@ fn first_parent(rows: &[u8], nodes: usize) -> Option<usize>
     requires { Within rows.now nodes }
     ensures { MatchOption result (Skipped rows.now nodes) (λ r. (r < nodes) × Skipped rows.now r) }
 {
-    for i in 0..nodes {
-        if is_parent(Node::at(rows, i)) {
-            return Some(i);
-        }
-    }
-    None
+    (0..nodes).find(|i| is_parent(Node::at(rows, *i)))
 }
 
 // The node of the book's first repeated label.
