@@ -9,7 +9,7 @@ ghost use Rattle.analysis.specs.Walking.{Started, ChasedAs, is_new, Scanned, Nex
 
 use arrayvec::ArrayVec;
 use book::kinds::Kind;
-use book::read::{Entry, Node};
+use book::read::Node;
 use book::tables::Flags;
 use format::Limits;
 use refusals::Refusal;
@@ -63,7 +63,7 @@ fn next_new(rows: &[u8], seen: &[u8], from: usize, until: usize) -> Option<usize
 // The names of the nodes from `from` up to `until`, from left to right. Nothing recurses, so that the walk is moved once and not for each
 // name: a name that is gone into waits, and is listed when no new name is left below it. No index is counted in the loop: where it goes on is
 // where a name's definition stands, or after the name that waits last. Rows and roots stay two parameters: environment's Scope, a struct of
-// both, holds the book's numbers of names and nodes as well, which no walk here reads.
+// both, doesn't have what the clauses ask, that all nodes are trees at roots, so they would stay as they are, and each caller make a Scope first.
 fn chase(rows: &[u8], roots: &[u16], from: usize, until: usize, walk: Walk) -> Result<Walk, Refusal>
     requires { Readable rows.now roots.now from until × Started rows.now roots.now walk }
     ensures { ChasedAs rows.now roots.now from until walk result }
@@ -79,16 +79,15 @@ fn chase(rows: &[u8], roots: &[u16], from: usize, until: usize, walk: Walk) -> R
         if let Some(row) = next_new(rows, &seen, at, end) {
             let t = Node::at(rows, row);
             let name = t.value as usize;
-            let root = roots[name];
-            if root == Entry::NO_ROOT {
+            let Some(root) = environment::root_of(roots, name) else {
                 return Err(Refusal::Unbound(t.value as u16));
-            }
+            };
             seen[name] = 1;
             waiting.push(Waiting {
                 row: row as u16,
                 end: end as u16,
             });
-            at = root as usize;
+            at = root;
             let u = Node::at(rows, at);
             end = at + u.size;
         } else if let Some(last) = waiting.pop() {

@@ -5,7 +5,7 @@ ghost use Rattle.analysis.specs.Book.{Rooted};
 ghost use Rattle.analysis.specs.Marking.{nothing_marked, Begun, InferredAs};
 
 use book::kinds::Kind;
-use book::read::{Entry, Node};
+use book::read::Node;
 use book::tables::Flags;
 use format::Limits;
 use refusals::Refusal;
@@ -40,14 +40,12 @@ pub fn infer_rec(rows: &[u8], roots: &[u16], list: &[u16]) -> Result<Marks, Refu
     let mut done: Flags = [0; Limits::NAMES];
     for name in list {
         let n = *name as usize;
-        let root = roots.get(n).copied().unwrap_or(Entry::NO_ROOT);
-        if root == Entry::NO_ROOT {
+        let Some(from) = environment::root_of(roots, n) else {
             return Err(Refusal::Unbound(*name));
-        }
+        };
         if done[n] == 1 {
             continue;
         }
-        let from = root as usize;
         let t = Node::at(rows, from);
         for k in from..from + t.size {
             let row = Node::at(rows, k);

@@ -21,7 +21,7 @@ use Rattle.judgement.specs.Check.{member}
 use Rattle.judgement.proofs.Lookup.{found-defined}
 use Rattle.environment.specs.Tables.{Binds, found_at}
 use Rattle.book.specs.Tables.{is_set}
-use Rattle.environment.proofs.Links.{in-table, found-none, found-some}
+use Rattle.environment.proofs.Links.{found-none, found-some}
 use Rattle.refusals.specs.declared.Refusal.{Refusal}
 use Rattle.refusals.specs.declared.Refusal.TheVariants.{Unbound}
 use Rattle.listing.specs.Chase.{Walk as State, going, unbound, push, chase, visit}
@@ -188,10 +188,6 @@ module _ {ns roots : List ℕ} {from until : ℕ} {w : Walk} {ws : List Waiting}
       let nodes = n.left.readable.rooted.all.nodes in
       omega (arith, (nodes.row i (omega (arith, n.inside, n.left.inside))).name named-kind, n.is, nodes.few_names)
 
-  -- what is read of the table of roots is what it has
-  table-is : get_or roots value 0 ≡ get_or roots value 65535
-  table-is = in-table n.left.readable.rooted.bound name-small
-
   module _ {ds : List Definition} {s : State} (c : Come ns ds from until s ws i end v) where
     name-new : member value c.seen ≡ false
     name-new = sym (c.goes.marks value name-small) ∙ ap (is_set v.seen) n.is ∙ new-unset ns v.seen i n.new
@@ -207,11 +203,11 @@ module _ {ns roots : List ℕ} {from until : ℕ} {w : Walk} {ws : List Waiting}
         ∙ ap (λ (j : ℕ). through ns ds k (i + 1) end (visit j ds value g)) (sym (level n.left ds s c))
 
   -- without definition
-  pub rows-unbound : get_or roots value 0 ≡ 65535 → ChasedAs ns roots from until w (Err (Unbound value))
+  pub rows-unbound : get_or roots value 65535 ≡ 65535 → ChasedAs ns roots from until w (Err (Unbound value))
   rows-unbound z =
       ends-as n.left (Err (Unbound value)) λ ds seen out b few h.
       let c = n.left.come ds seen out b few h in
-      let missing = b value ∙ found-none ns (get_or roots value 65535) (sym table-is ∙ z) in
+      let missing = b value ∙ found-none ns (get_or roots value 65535) z in
       subst (λ (t : State). Holds ds t (Err (Unbound value)))
       (sym
       (sym c.same
@@ -224,18 +220,15 @@ module _ {ns roots : List ℕ} {from until : ℕ} {w : Walk} {ws : List Waiting}
 
 -- with a definition
 module _ {ns roots : List ℕ} {from until : ℕ} {w : Walk} {ws : List Waiting} {i end : ℕ} {v : Walk} {value : ℕ}
-    (n : Named ns roots from until w ws i end v value) (some : get_or roots value 0 ≡ 65535 → ⊥) where
-  abbrev root : ℕ
-  root = get_or roots value 0
-
+    (n : Named ns roots from until w ws i end v value) {root : ℕ} (at-root : root ≡ get_or roots value 65535) (some : root ≡ 65535 → ⊥) where
   body-inside : root < n.left.readable.rooted.count
-  body-inside = rw (table-is n) (n.left.readable.rooted.bound.node value (λ e. some (table-is n ∙ e)))
+  body-inside = rw at-root (n.left.readable.rooted.bound.node value (λ e. some (at-root ∙ e)))
 
   pub body-within : Within ns (root + 1)
   body-within = here-within n.left.readable.rooted body-inside
 
   found : (ds : List Definition) → Binds ns roots ds → find_type ds value ≡ body (tree_at ns root)
-  found ds b = b value ∙ ap (found_at ns) (sym (table-is n)) ∙ found-some ns root some
+  found ds b = b value ∙ ap (found_at ns) (sym at-root) ∙ found-some ns root some
 
   enter : {ds : List Definition} {s : State} → Binds ns roots ds → (c : Come ns ds from until s ws i end v) →
       Goes ds (length ws + 1) (value ∷ c.seen) c.out (marked v value)

@@ -9,35 +9,40 @@ use Rattle.analysis.proofs.chase.chase.Goals as goal
 pub loop-row-init : goal.loop-row-init
 loop-row-init c = rows-start _ _ c.requires.0 c.requires.1 c.new-waiting.ensures
 
-pub returns-then-root : goal.returns-then-root
-returns-then-root c =
+pub returns-in_default-root_of : goal.returns-in_default-root_of
+returns-in_default-root_of c =
     let n = named c.loop-row.invariant c.in-Some.ensures _ c.at-t.ensures in
-    rows-unbound n c.if-root.true
+    rows-unbound n (rw c.in_default-root_of.is at c.root_of.ensures.none)
 
 pub push-requires : goal.push-requires
 push-requires c =
     let n = named c.loop-row.invariant c.in-Some.ensures _ c.at-t.ensures in
-    (lit< tt, omega (arith, enter-room n c.if-root.false))
+    let r = rw c.in-Some-root_of.is at c.root_of.ensures.some in
+    (lit< tt, omega (arith, enter-room n r.0 r.1))
 
 pub at-u-requires : goal.at-u-requires
 at-u-requires c =
     let n = named c.loop-row.invariant c.in-Some.ensures _ c.at-t.ensures in
-    body-within n c.if-root.false
+    let r = rw c.in-Some-root_of.is at c.root_of.ensures.some in
+    body-within n r.0 r.1
 
 pub overflow_add-end : goal.overflow_add-end
 overflow_add-end c =
     let n = named c.loop-row.invariant c.in-Some.ensures _ c.at-t.ensures in
-    omega (arith, body-small n c.if-root.false _ c.at-u.ensures)
+    let r = rw c.in-Some-root_of.is at c.root_of.ensures.some in
+    omega (arith, body-small n r.0 r.1 _ c.at-u.ensures)
 
 pub loop-row-smaller-in-Some : goal.loop-row-smaller-in-Some
 loop-row-smaller-in-Some c =
     let n = named c.loop-row.invariant c.in-Some.ensures _ c.at-t.ensures in
-    omega (arith, enter-room n c.if-root.false, c.push.ensures.len)
+    let r = rw c.in-Some-root_of.is at c.root_of.ensures.some in
+    omega (arith, enter-room n r.0 r.1, c.push.ensures.len)
 
 pub loop-row-preserved-in-Some : goal.loop-row-preserved-in-Some
 loop-row-preserved-in-Some c =
     let n = named c.loop-row.invariant c.in-Some.ensures _ c.at-t.ensures in
-    rows-enter n c.if-root.false _ c.at-u.ensures _ refl refl _ c.push.ensures.items
+    let r = rw c.in-Some-root_of.is at c.root_of.ensures.some in
+    rows-enter n r.0 r.1 _ c.at-u.ensures _ refl refl _ c.push.ensures.items
 
 pub at-t-requires-in-Some-pop : goal.at-t-requires-in-Some-pop
 at-t-requires-in-Some-pop c = last-within c.loop-row.invariant c.in_default.ensures _ _ c.in-Some-pop.ensures.items

@@ -1,8 +1,6 @@
 -- `infer_rec` meets its contract: what is left of the list, from what is seen; and for each listed name what is noted, and then the rows
 -- that are left. Assumes nothing.
 use mathlib.Core.Path.{refl}
-use native.Mathlib.Omega.{arith}
-use Rattle.std.proofs.Common.{◌≡◌, get_or}
 use Rattle.book.specs.Tables.{no_flags}
 use Rattle.analysis.proofs.recursive.Rows.{go-end, go-other, go-again, go-anew}
 use Rattle.analysis.proofs.recursive.Laws.{infer-start, infer-end, infer-stop, root-node, infer-again, infer-on}
@@ -13,23 +11,22 @@ pub loop-name-init : goal.loop-name-init
 unfolding no_flags
 loop-name-init c = rw c.new-marks.ensures (infer-start refl)
 
-pub returns-then-root : goal.returns-then-root
-returns-then-root c =
-    let r : c.unwrap_or-root.result ≡ get_or c.args.roots.now (get_or c.args.list.now c.loop-name.name-index 0) 65535 = cc (c.get.ensures.lookup.4 (omega arith) 65535) in
-    infer-stop c.loop-name.invariant c.loop-name-test.true _ refl _ r c.if-root.true
+pub returns-in_default : goal.returns-in_default
+returns-in_default c =
+    infer-stop c.loop-name.invariant c.loop-name-test.true _ refl _ refl (rw c.in_default.is at c.root_of.ensures.none)
 
 pub loop-name-preserved-then-done-n-eq1 : goal.loop-name-preserved-then-done-n-eq1
 loop-name-preserved-then-done-n-eq1 c =
-    let r : c.unwrap_or-root.result ≡ get_or c.args.roots.now (get_or c.args.list.now c.loop-name.name-index 0) 65535 = cc (c.get.ensures.lookup.4 (omega arith) 65535) in
-    infer-again c.loop-name.invariant c.loop-name-test.true _ refl _ r c.requires.0 c.if-root.false c.if-done-n-eq1.true
+    let r = rw c.in-Some.is at c.root_of.ensures.some in
+    infer-again c.loop-name.invariant c.loop-name-test.true _ refl _ r.0 c.requires.0 r.1 c.if-done-n-eq1.true
 
 pub loop-k-preserved-then-row : goal.loop-k-preserved-then-row
 loop-k-preserved-then-row c = go-other c.loop-k.invariant c.loop-k-test.true _ c.at-row.ensures c.if-row.true
 
 pub loop-k-preserved : goal.loop-k-preserved
 loop-k-preserved c =
-    let r : c.unwrap_or-root.result ≡ get_or c.args.roots.now (get_or c.args.list.now c.loop-name.name-index 0) 65535 = cc (c.get.ensures.lookup.4 (omega arith) 65535) in
-    let node = root-node c.loop-name.invariant c.loop-name-test.true _ refl _ r c.requires.0 c.if-root.false in
+    let r = rw c.in-Some.is at c.root_of.ensures.some in
+    let node = root-node c.loop-name.invariant c.loop-name-test.true _ refl _ r.0 c.requires.0 r.1 in
     elim c.if-marks-met-ne1.branch [
       | then-marks-met-ne1 w ↦ rw w.marks-is (go-anew c.loop-k.invariant c.loop-k-test.true _ c.at-row.ensures node c.if-row.false w.if-marks-met-ne1.true)
       | else-marks-met-ne1 w ↦ rw w.marks-is (go-again c.loop-k.invariant c.loop-k-test.true _ c.at-row.ensures node c.if-row.false w.if-marks-met-ne1.false)
@@ -37,9 +34,9 @@ loop-k-preserved c =
 
 pub loop-name-preserved : goal.loop-name-preserved
 loop-name-preserved c =
-    let r : c.unwrap_or-root.result ≡ get_or c.args.roots.now (get_or c.args.list.now c.loop-name.name-index 0) 65535 = cc (c.get.ensures.lookup.4 (omega arith) 65535) in
-    let node = root-node c.loop-name.invariant c.loop-name-test.true _ refl _ r c.requires.0 c.if-root.false in
-    infer-on c.loop-name.invariant c.loop-name-test.true _ refl _ r c.requires.0 c.if-root.false _ (go-end c.loop-k.invariant node c.loop-k-test.false)
+    let r = rw c.in-Some.is at c.root_of.ensures.some in
+    let node = root-node c.loop-name.invariant c.loop-name-test.true _ refl _ r.0 c.requires.0 r.1 in
+    infer-on c.loop-name.invariant c.loop-name-test.true _ refl _ r.0 c.requires.0 r.1 _ (go-end c.loop-k.invariant node c.loop-k-test.false)
 
 pub returns : goal.returns
 returns c = infer-end c.loop-name.invariant c.loop-name-test.false
