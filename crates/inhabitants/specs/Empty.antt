@@ -6,6 +6,7 @@ use Rattle.format.specs.Layout.{row_at, siblings}
 use Rattle.format.specs.Whole.{Within, Whole}
 use Rattle.judgement.specs.Environment.{Found, is_missing}
 use Rattle.listing.specs.Empty.{Mark, unvisited, visiting, answered, Visit, not_empty, visit_fields, replace_empty}
+use Rattle.environment.specs.declared.scope.Scope.{Scope}
 use Rattle.environment.specs.Tables.{Nodes, Roots, Binds}
 use Rattle.book.specs.declared.read.Node.{Node}
 use Rattle.book.specs.Reading.{as_row}
@@ -83,6 +84,13 @@ pub record Fields (ns roots : List ℕ) (names from until : ℕ) : Type 0 where
   pub env : Environment ns roots names
   pub whole : Whole ns from until
   pub inside : until ≤ env.count
+
+-- ---- Of a scope
+abbrev pub VisitedOf : Scope → (List Definition → List Mark → Visit) → List ℕ → Bool → List ℕ → Type 0
+VisitedOf s visit before empty' after = Visited s.rows.now s.roots.now s.names visit before empty' after
+
+abbrev pub FieldsOf : Scope → ℕ → ℕ → Type 0
+FieldsOf s from until = Fields s.rows.now s.roots.now s.names from until
 
 -- How many names are unvisited. No more are gone into.
 unfoldable pub new_in : List ℕ → ℕ

@@ -1,17 +1,18 @@
 // The names that become empty: `is_empty` and `replace_empty` of type_env.rs. The marks of a walk are lent to it.
-// Functions ask of their caller what an admitted book gives (specs/Empty.antt).
+// What an admitted book gives is in a scope.
 ghost use Rattle.std.specs.Prelude.{◌≡◌, suc, ◌+◌, ◌<◌, length};
 ghost use Rattle.format.specs.Layout.{row_at, siblings};
 ghost use Rattle.format.specs.Whole.{Within, Whole};
 ghost use Rattle.book.specs.Reading.{as_row};
 ghost use Rattle.listing.specs.Empty.{visit_fields, is_empty};
-ghost use Rattle.inhabitants.specs.Empty.{Environment, names_from, open_row, MarkEach, NextAs, Stacked, all_empty, Fields, new_marks, Visited, is_settled, EmptiedAs};
+ghost use Rattle.inhabitants.specs.Empty.{names_from, open_row, MarkEach, NextAs, Stacked, all_empty, FieldsOf, new_marks, VisitedOf, is_settled, EmptiedAs};
 
 use arrayvec::ArrayVec;
 use book::kinds::Kind;
 use book::read::{Entry, Node};
 use book::tables::Flags;
 use book::walks::Siblings;
+use environment::scope::Scope;
 use format::Limits;
 
 // What a walk knows of a name. Its number is stored, a byte for each name, so that the bytes of a walk that is over are flags: Empty is one
@@ -80,18 +81,12 @@ fn all_empty(rows: &[u8], waiting: &[Waiting], marks: &mut Flags)
 // The types side by side from node `from` up to node `until`, as a record's fields: whether one is empty. Nothing recurses: a name that is
 // visited waits, and one that is empty ends all. What is read stands beside the marks that change: one value of both would have to say of each
 // change what stays.
-fn visit_fields(
-    rows: &[u8],
-    roots: &[u16],
-    names: usize,
-    from: usize,
-    until: usize,
-    marks: &mut Flags,
-) -> bool
-    requires { Fields rows.now roots.now names from until × (new_marks names marks.old < names) }
-    ensures { Visited rows.now roots.now names
-        (λ ds. visit_fields (is_empty ds names) (siblings rows.now from until)) marks.old result marks.new }
+fn visit_fields(scope: Scope, from: usize, until: usize, marks: &mut Flags) -> bool
+    requires { FieldsOf scope from until × (new_marks scope.names marks.old < scope.names) }
+    ensures { VisitedOf scope.entry (λ ds. visit_fields (is_empty ds scope.entry.names) (siblings scope.entry.rows.now from until)) marks.old result marks.new }
 {
+    let rows = scope.rows;
+    let roots = scope.roots;
     let mut waiting: ArrayVec<Waiting, { Limits::NAMES }> = ArrayVec::new();
     let mut at = from;
     let mut end = until;
@@ -133,10 +128,12 @@ fn visit_fields(
 
 // `is_empty`: whether a name is empty. The answers of all names that are visited are left in the marks. A type without a name that may be
 // empty is not walked: most are so, and a walk makes its stack.
-fn is_empty(rows: &[u8], roots: &[u16], names: usize, n: usize, marks: &mut Flags) -> bool
-    requires { Environment rows.now roots.now names × (n < names) }
-    ensures { Visited rows.now roots.now names (λ ds. is_empty ds (suc names) n) marks.old result marks.new }
+fn is_empty(scope: Scope, n: usize, marks: &mut Flags) -> bool
+    requires { n < scope.names }
+    ensures { VisitedOf scope.entry (λ ds. is_empty ds (suc scope.entry.names) n) marks.old result marks.new }
 {
+    let rows = scope.rows;
+    let roots = scope.roots;
     let mark = marks[n];
     if mark == Mark::Empty as u8 {
         return true;
@@ -162,7 +159,7 @@ fn is_empty(rows: &[u8], roots: &[u16], names: usize, n: usize, marks: &mut Flag
         marks[n] = Mark::NotEmpty as u8;
         return false;
     }
-    let empty = visit_fields(rows, roots, names, from, until, marks);
+    let empty = visit_fields(scope, from, until, marks);
     marks[n] = if empty {
         Mark::Empty as u8
     } else {
@@ -181,14 +178,13 @@ fn is_settled(roots: &[u16], marks: &[u8], n: usize) -> bool
 }
 
 // `replace_empty`: the names that become empty.
-pub fn replace_empty(rows: &[u8], roots: &[u16], names: usize) -> Flags
-    requires { Environment rows.now roots.now names }
-    ensures { EmptiedAs rows.now roots.now names result }
+pub fn replace_empty(scope: Scope) -> Flags
+    ensures { EmptiedAs scope.entry.rows.now scope.entry.roots.now scope.entry.names result }
 {
     let mut marks = [0; Limits::NAMES];
-    for n in 0..names {
-        if !is_settled(roots, &marks, n) {
-            let _ = is_empty(rows, roots, names, n, &mut marks);
+    for n in 0..scope.names {
+        if !is_settled(scope.roots, &marks, n) {
+            let _ = is_empty(scope, n, &mut marks);
         }
     }
     marks

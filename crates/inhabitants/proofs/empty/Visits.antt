@@ -28,6 +28,8 @@ use Rattle.judgement.specs.Environment.{Found, missing, body, find_type, is_miss
 use Rattle.listing.specs.Empty.{Mark, unvisited, visiting, answered, Visit, not_empty, visit_field, visit_fields, visit_type, visit_found, store, visit_marked, is_empty, keys_from, visit_all, is_empty_mark, empty_from, replace_empty}
 use Rattle.environment.specs.Tables.{found_at, Binds}
 use Rattle.book.specs.Tables.{no_flags, flagged}
+use Rattle.environment.specs.declared.scope.Scope.{Scope}
+use Rattle.environment.proofs.Definitions.{binds-some}
 use Rattle.inhabitants.specs.Empty.{Environment, mark_of_byte, marks_of, Visited, names_from, visit_key, is_settled, EmptiedAs}
 use Rattle.environment.proofs.Links.{found-none, found-some, in-table}
 
@@ -363,3 +365,9 @@ keys-end {ns} {roots} {names} {bytes} {n} few l h =
       long = l.long;
       is = λ ds b. flags-from bytes 0 names (omega (arith, l.long)) ∙ ap (empty_from 0) (rw z at (l.rest ds b));
     }
+
+-- ---- What a scope gives
+pub env-of : (s : Scope) → Environment s.rows.now s.roots.now s.names
+env-of s =
+    let d = binds-some s.rows.now s.roots.now in
+    record { count = s.nodes; nodes = s.whole; table = s.bound; definitions = d.0; binds = d.1 }

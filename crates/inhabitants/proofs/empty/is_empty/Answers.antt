@@ -16,31 +16,31 @@ use Rattle.inhabitants.proofs.empty.is_empty.Goals as goal
 use Rattle.inhabitants.proofs.empty.is_empty.Goals.{then-empty, else-empty}
 
 pub returns-then-mark : goal.returns-then-mark
-returns-then-mark c = laws.visit-empty _ _ _ _ _ _ (laws.one-deep _) c.requires.1 c.if-mark.true
+returns-then-mark c = laws.visit-empty _ _ _ _ _ _ (laws.one-deep _) c.requires c.if-mark.true
 
 pub returns-then-mark-2 : goal.returns-then-mark-2
-returns-then-mark-2 c = laws.visit-circle _ _ _ _ _ _ (laws.one-deep _) c.requires.1 c.if-mark-2.true
+returns-then-mark-2 c = laws.visit-circle _ _ _ _ _ _ (laws.one-deep _) c.requires c.if-mark-2.true
 
 pub returns-then-mark-3 : goal.returns-then-mark-3
 returns-then-mark-3 c =
-    laws.visit-other _ _ _ _ _ _ (laws.one-deep _) c.requires.1 c.if-mark-3.true c.if-mark.false c.if-mark-2.false
+    laws.visit-other _ _ _ _ _ _ (laws.one-deep _) c.requires c.if-mark-3.true c.if-mark.false c.if-mark-2.false
 
 pub returns-then-root : goal.returns-then-root
 returns-then-root c =
-    laws.visit-missing _ _ _ _ _ _ (laws.one-deep _) c.requires.1 c.if-mark-3.false (sym (laws.root-read c.requires.0 c.requires.1) ∙ c.if-root.true)
+    laws.visit-missing _ _ _ _ _ _ (laws.one-deep _) c.requires c.if-mark-3.false (sym (laws.root-read (laws.env-of c.args.scope) c.requires) ∙ c.if-root.true)
 
 pub at-t-requires : goal.at-t-requires
 at-t-requires c =
-    laws.type-within c.requires.0 (laws.root-inside c.requires.0 c.requires.1 c.if-root.false)
+    laws.type-within (laws.env-of c.args.scope) (laws.root-inside (laws.env-of c.args.scope) c.requires c.if-root.false)
 
 pub overflow_add-until : goal.overflow_add-until
 overflow_add-until c =
-    let x = c.requires.0 in
-    omega (arith, laws.type-ends x (laws.root-inside x c.requires.1 c.if-root.false) _ c.at-t.ensures, x.nodes.few_nodes)
+    let x = (laws.env-of c.args.scope) in
+    omega (arith, laws.type-ends x (laws.root-inside x c.requires c.if-root.false) _ c.at-t.ensures, x.nodes.few_nodes)
 
 pub names_from-from-requires : goal.names_from-from-requires
 names_from-from-requires c =
-    laws.type-within c.requires.0 (laws.root-inside c.requires.0 c.requires.1 c.if-root.false)
+    laws.type-within (laws.env-of c.args.scope) (laws.root-inside (laws.env-of c.args.scope) c.requires c.if-root.false)
 
 -- What the types answer is stored.
 stores : {rows roots marks : List ℕ} {names n : ℕ} (node : Node) (from : ℕ) {e : Bool} {after : List ℕ} → Environment rows roots names → (k : n < names) →
@@ -63,19 +63,19 @@ module _ {rows roots : List ℕ} {names n : ℕ} (node : Node) (from : ℕ) (x :
 
 pub next_name-requires : goal.next_name-requires
 next_name-requires c =
-    let l = begun c.at-t.result c.names_from-from.result c.requires.0 c.requires.1 c.if-root.false c.at-t.ensures c.names_from-from.ensures _ c.told-marks c.if-mark-3.false in
+    let l = begun c.at-t.result c.names_from-from.result (laws.env-of c.args.scope) c.requires c.if-root.false c.at-t.ensures c.names_from-from.ensures _ c.told-marks c.if-mark-3.false in
     (l.whole, rows-marks l)
 
 pub returns-then-is_none : goal.returns-then-is_none
 returns-then-is_none c =
-    let l = begun c.at-t.result c.names_from-from.result c.requires.0 c.requires.1 c.if-root.false c.at-t.ensures c.names_from-from.ensures _ c.told-marks c.if-mark-3.false in
-    stores c.at-t.result c.names_from-from.result c.requires.0 c.requires.1 c.if-mark-3.false c.if-root.false c.at-t.ensures c.names_from-from.ensures
+    let l = begun c.at-t.result c.names_from-from.result (laws.env-of c.args.scope) c.requires c.if-root.false c.at-t.ensures c.names_from-from.ensures _ c.told-marks c.if-mark-3.false in
+    stores c.at-t.result c.names_from-from.result (laws.env-of c.args.scope) c.requires c.if-mark-3.false c.if-root.false c.at-t.ensures c.names_from-from.ensures
     (rows-end (rows-next l (none-next c.next_name.result c.next_name.ensures (c.is_none.ensures ∙ ap not c.if-is_none.true))) (omega arith) refl) 3 (laws.mark-not-empty refl)
 
 pub visit_fields-empty-requires : goal.visit_fields-empty-requires
 visit_fields-empty-requires c = (
-  types c.at-t.result c.names_from-from.result c.requires.0 c.requires.1 c.if-root.false c.at-t.ensures c.names_from-from.ensures,
-  visiting-few c.requires.0 c.requires.1 c.args.marks.now c.told-marks c.if-mark-3.false,
+  types c.at-t.result c.names_from-from.result (laws.env-of c.args.scope) c.requires c.if-root.false c.at-t.ensures c.names_from-from.ensures,
+  visiting-few (laws.env-of c.args.scope) c.requires c.args.marks.now c.told-marks c.if-mark-3.false,
 )
 
 pub returns : goal.returns
@@ -85,5 +85,5 @@ returns c =
       | then-empty w ↦ rw w.marks-is (laws.mark-empty w.if-empty.true)
       | else-empty w ↦ rw w.marks-is (laws.mark-not-empty w.if-empty.false)
     ] in
-    stores c.at-t.result c.names_from-from.result c.requires.0 c.requires.1 c.if-mark-3.false c.if-root.false c.at-t.ensures c.names_from-from.ensures
+    stores c.at-t.result c.names_from-from.result (laws.env-of c.args.scope) c.requires c.if-mark-3.false c.if-root.false c.at-t.ensures c.names_from-from.ensures
     c.visit_fields-empty.ensures c.if-empty.marks stored

@@ -2,4 +2,4 @@ use Rattle.inhabitants.proofs.empty.Visits.{KeysLeft}
 use Rattle.inhabitants.proofs.empty.replace_empty.Given as goal
 
 abbrev pub invariant-loop-n : goal.invariant-loop-n
-invariant-loop-n l = KeysLeft l.rows l.roots l.names l.marks l.n
+invariant-loop-n l = KeysLeft l.scope.rows.now l.scope.roots.now l.scope.names l.marks l.n

@@ -6,8 +6,8 @@ use Rattle.inhabitants.proofs.empty.visit_fields.Given as goal
 
 abbrev pub invariant-walk : goal.invariant-walk
 invariant-walk l =
-    RowsLeft l.rows l.roots l.names l.from l.until l.initial.marks l.waiting.items l.at l.end l.marks
+    RowsLeft l.scope.rows.now l.scope.roots.now l.scope.names l.from l.until l.initial.marks l.waiting.items l.at l.end l.marks
 
 abbrev pub decreases-walk : goal.decreases-walk
 decreases-walk l =
-    new_marks l.names l.marks + new_marks l.names l.marks + length l.waiting.items
+    new_marks l.scope.names l.marks + new_marks l.scope.names l.marks + length l.waiting.items
