@@ -17,7 +17,7 @@ use format::Limits;
 
 // What a walk knows of a name. Its number is stored, a byte for each name, so that the bytes of a walk that is over are flags: Empty is one
 // that is set, and no other mark is.
-#[derive(Clone, Copy, PartialEq, Eq, PartialOrd, Ord, Debug)]
+#[derive(Clone, Copy)]
 enum Mark {
     Unvisited,
     Empty,
@@ -52,6 +52,7 @@ fn next_name(rows: &[u8], marks: &[u8], from: usize, until: usize) -> Option<(us
     requires { Whole rows.now from until × MarkEach rows.now marks.now until }
     ensures { NextAs rows.now marks.now from until result }
 {
+    // A loop: `find` asks that its closure may be called at each turn of the iterator, and no proof of that was found for `Siblings`.
     for (i, t) in Siblings::new(rows, from, until) {
         if may_be_empty(marks, t) {
             return Some((i, t));

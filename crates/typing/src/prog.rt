@@ -49,19 +49,19 @@ fn check_resolved<'t>(
 // The check of an admitted book, into tables that have nothing: refusals 2 to 10 and 12 to 14, the first in the order of the check. A refusal leaves
 // both tables with nothing, as they were lent.
 pub fn check_prog(
-    book: &[u8],
-    c: Contents,
+    book: AdmittedBook,
     roots: &mut [u16],
     ends: &mut [u32],
 ) -> Result<Passed, Refusal>
-    requires { Admitted book.now c × (roots.old ≡ blank_table) × (ends.old ≡ zero_table) }
-    ensures { (a : Admitted book.now c) → FoundAs a roots.new ends.new result }
+    requires roots { roots.old ≡ blank_table }
+    requires ends { ends.old ≡ zero_table }
+    ensures { (a : Admitted book.entry.bytes.now book.entry.contents) → FoundAs a roots.new ends.new result }
 {
-    let admitted = AdmittedBook::new(book, c);
-    let files = syntax::files::read_files(admitted)?;
-    let main = syntax::files::main_definitions(admitted.definitions(), c.definitions, files.init);
-    Decs::new(admitted, 0, main).check(roots, ends)?;
-    let found = check_resolved(admitted, files, main, roots, ends);
+    let files = syntax::files::read_files(book)?;
+    let count = book.contents.definitions;
+    let main = syntax::files::main_definitions(book.definitions(), count, files.init);
+    Decs::new(book, 0, main).check(roots, ends)?;
+    let found = check_resolved(book, files, main, roots, ends);
     if found.is_err() {
         roots.fill(Entry::NO_ROOT);
         ends.fill(chain_end::NONE);

@@ -1,5 +1,6 @@
 -- `check_prog` meets its contract. Assumes nothing.
 use mathlib.Core.Path.{sym, ◌∙◌}
+use Rattle.book.proofs.Named.{book-of}
 use Rattle.environment.proofs.Book.{entries-held}
 use Rattle.environment.proofs.BlankTable.{blank-filled, zero-filled}
 use Rattle.typing.proofs.Handing.{handed-on}
@@ -9,31 +10,38 @@ use Rattle.typing.proofs.prog.check_prog.Goals as goal
 pub returns-in_err-files : goal.returns-in_err-files
 returns-in_err-files c =
     rw (handed-on c.from_residual.result c.from_residual.ensures)
-    (λ a. imports-refused a (rw (c.new-admitted.ensures.bytes, c.new-admitted.ensures.contents) at c.in_err-files.ensures) c.requires.1 c.requires.2)
+    (λ a. imports-refused a c.in_err-files.ensures c.requires.roots c.requires.ends)
 
 pub main_definitions-main-requires : goal.main_definitions-main-requires
-main_definitions-main-requires c = rw (c.definitions.ensures, c.new-admitted.ensures.bytes) (entries-held c.requires.0)
+main_definitions-main-requires c = rw c.definitions.ensures (entries-held (book-of _ _ c.args.book.laid))
 
 pub returns-in_err-check : goal.returns-in_err-check
 returns-in_err-check c =
-    let x = (rw (c.new-admitted.ensures.bytes, c.new-admitted.ensures.contents) at c.in_ok-files.ensures).files in
+    let x = c.in_ok-files.ensures.files in
     rw (handed-on c.from_residual-in_err-check.result c.from_residual-in_err-check.ensures)
     (λ a.
-    decs-refused a (split-files a x (rw c.new-admitted.ensures.bytes at c.definitions.ensures) c.main_definitions-main.ensures) x
-    (rw (c.new.ensures.book, c.new.ensures.from, c.new.ensures.to, c.new-admitted.ensures.bytes, c.new-admitted.ensures.contents) at c.in_err-check.ensures))
+    decs-refused a (split-files a x c.definitions.ensures c.main_definitions-main.ensures) x
+    (rw (c.new.ensures.book, c.new.ensures.from, c.new.ensures.to) at c.in_err-check.ensures))
+
+pub check_resolved-found-requires : goal.check_resolved-found-requires
+check_resolved-found-requires c =
+    let a = book-of _ _ c.args.book.laid in
+    let x = c.in_ok-files.ensures.files in
+    let s = split-files a x c.definitions.ensures c.main_definitions-main.ensures in
+    (a, x, defined a s x (rw (c.new.ensures.book, c.new.ensures.from, c.new.ensures.to) at c.in_ok-check.ensures))
 
 pub returns-then-is_err : goal.returns-then-is_err
 returns-then-is_err c =
-    let x = (rw (c.new-admitted.ensures.bytes, c.new-admitted.ensures.contents) at c.in_ok-files.ensures).files in
+    let x = c.in_ok-files.ensures.files in
     λ a.
-    let s = split-files a x (rw c.new-admitted.ensures.bytes at c.definitions.ensures) c.main_definitions-main.ensures in
-    let o = defined a s x (rw (c.new.ensures.book, c.new.ensures.from, c.new.ensures.to, c.new-admitted.ensures.bytes, c.new-admitted.ensures.contents) at c.in_ok-check.ensures) in
-    left-blank a _ (sym c.is_err.ensures.value ∙ c.if-is_err.true) ((rw (c.new-admitted.ensures.bytes, c.new-admitted.ensures.contents) at c.check_resolved-found.ensures) a x o) (blank-filled c.in_ok-check.ensures.entered.checked.table.long (c.fill.ensures.after (λ y e. e))) (zero-filled c.in_ok-check.ensures.entered.checked.ended.long (c.fill-then-is_err.ensures.after (λ y e. e)))
+    let s = split-files a x c.definitions.ensures c.main_definitions-main.ensures in
+    let o = defined a s x (rw (c.new.ensures.book, c.new.ensures.from, c.new.ensures.to) at c.in_ok-check.ensures) in
+    left-blank a _ (sym c.is_err.ensures.value ∙ c.if-is_err.true) (c.check_resolved-found.ensures a x o) (blank-filled c.in_ok-check.ensures.entered.checked.table.long (c.fill.ensures.after (λ y e. e))) (zero-filled c.in_ok-check.ensures.entered.checked.ended.long (c.fill-then-is_err.ensures.after (λ y e. e)))
 
 pub returns-else-is_err : goal.returns-else-is_err
 returns-else-is_err c =
-    let x = (rw (c.new-admitted.ensures.bytes, c.new-admitted.ensures.contents) at c.in_ok-files.ensures).files in
+    let x = c.in_ok-files.ensures.files in
     λ a.
-    let s = split-files a x (rw c.new-admitted.ensures.bytes at c.definitions.ensures) c.main_definitions-main.ensures in
-    let o = defined a s x (rw (c.new.ensures.book, c.new.ensures.from, c.new.ensures.to, c.new-admitted.ensures.bytes, c.new-admitted.ensures.contents) at c.in_ok-check.ensures) in
-    left-whole a _ (sym c.is_err.ensures.value ∙ c.if-is_err.false) ((rw (c.new-admitted.ensures.bytes, c.new-admitted.ensures.contents) at c.check_resolved-found.ensures) a x o)
+    let s = split-files a x c.definitions.ensures c.main_definitions-main.ensures in
+    let o = defined a s x (rw (c.new.ensures.book, c.new.ensures.from, c.new.ensures.to) at c.in_ok-check.ensures) in
+    left-whole a _ (sym c.is_err.ensures.value ∙ c.if-is_err.false) (c.check_resolved-found.ensures a x o)
