@@ -33,7 +33,7 @@ pub fn pass(
     ensures { PassAs (book.now under limits) roots.new ends.new result }
 {
     let admitted = admission::admit(book, limits)?;
-    typing::prog::check_prog(admitted.bytes, admitted.contents, roots, ends)
+    typing::prog::check_prog(admitted, roots, ends)
 }
 
 // A book that passed, with the tables that its check filled. That they are of each other is asked by its methods: as a ghost field it would need a

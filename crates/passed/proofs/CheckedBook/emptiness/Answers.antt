@@ -1,5 +1,5 @@
 -- `CheckedBook::emptiness` meets its contract. Assumes nothing.
-use mathlib.Core.Path.{◌≡◌, sym, ap, subst, ◌∙◌}
+use mathlib.Core.Path.{◌≡◌, refl, sym, ap, ◌∙◌}
 use mathlib.Core.List.{List}
 use Prim.Native.Nat.{ℕ, ◌≤◌}
 use native.Mathlib.Omega.{arith}
@@ -15,8 +15,9 @@ use Rattle.judgement.specs.Environment.{main_definitions}
 use Rattle.judgement.specs.Check.{check}
 use Rattle.typing.specs.declared.prog.Passed.{Passed}
 use Rattle.typing.specs.Passing.{PassedAs}
-use Rattle.inhabitants.specs.Empty.{Environment, EmptiedAs}
-use Rattle.typing.proofs.prog.Book.{tabled, names-are}
+use Rattle.inhabitants.specs.Empty.{EmptiedAs}
+use Rattle.environment.specs.declared.scope.Scope.{Scope}
+use Rattle.typing.proofs.prog.Book.{tabled, names-are, nodes-are}
 use Rattle.listing.specs.Empty.{replace_empty, empty_names, emptiness}
 use Rattle.refusals.proofs.Outcomes.{after-passed}
 use Rattle.passed.proofs.Asking.{handed-as}
@@ -24,21 +25,13 @@ use Rattle.passed.proofs.CheckedBook.emptiness.Goals as goal
 
 -- ---- The empty names of a book that passed, as the code has them
 module _ {bs : List ℕ} {c : Contents} {a : Admitted bs c} {roots ends' : List ℕ} {p : Passed} (x : PassedAs a roots ends' p) where
-  ready : Environment (nodes_part bs) roots p.contents.names
-  ready = record {
-    count = count (trees a.book);
-    nodes = rw (names-are x) x.all.nodes;
-    table = x.checked.table;
-    definitions = main_definitions a.book;
-    binds = (tabled x).0;
-  }
-
-  module _ {rows : List ℕ} (here : rows ≡ nodes_part bs) {flags : List ℕ} (k : EmptiedAs rows roots p.contents.names flags) where
+  module _ (s : Scope) (here : s.rows.now ≡ nodes_part bs) (table : s.roots.now ≡ roots) (many : s.names ≡ p.contents.names)
+      {flags : List ℕ} (k : EmptiedAs s.rows.now s.roots.now s.names flags) where
     h : EmptiedAs (nodes_part bs) roots p.contents.names flags
-    h = subst (λ (ns : List ℕ). EmptiedAs ns roots p.contents.names flags) here k
+    h = rw (here, table, many) at k
 
     empty-flags : (length flags ≡ 1024) × (p.contents.names ≤ 1024)
-    empty-flags = (h.long, omega (arith, names-are x, x.all.nodes.few_names))
+    empty-flags = (k.long, omega (arith, names-are x, x.all.nodes.few_names))
 
     empty-given : {k : List ℕ} → k ≡ flagged flags 0 p.contents.names → emptiness a.book ≡ given k
     unfolding emptiness empty_names
@@ -47,12 +40,20 @@ module _ {bs : List ℕ} {c : Contents} {a : Admitted bs c} {roots ends' : List 
         ∙ ap (λ (n : ℕ). given (replace_empty (main_definitions a.book) n)) (sym (names-are x))
         ∙ ap given (sym (h.is (main_definitions a.book) (tabled x).0) ∙ sym e)
 
-pub replace_empty-flags-requires : goal.replace_empty-flags-requires
-replace_empty-flags-requires c = rw c.nodes.ensures (ready c.requires.passed)
+pub new-requires : goal.new-requires
+new-requires c = c.requires.admitted
+
+pub of-scope-requires : goal.of-scope-requires
+of-scope-requires c = rw (c.new.ensures.contents, nodes-are c.requires.passed) c.requires.passed.checked.table
 
 pub names_of-requires : goal.names_of-requires
-names_of-requires c = empty-flags c.requires.passed c.nodes.ensures c.replace_empty-flags.ensures
+names_of-requires c =
+    let o = c.of-scope.ensures in
+    empty-flags c.requires.passed c.of-scope.result (rw c.new.ensures.bytes at o.rows) (rw o.roots refl) (o.names ∙ ap (λ (d : Contents). d.names) c.new.ensures.contents) c.replace_empty-flags.ensures
 
 pub returns : goal.returns
 returns c =
-    λ b. handed-as (empty-given b.passed c.nodes.ensures c.replace_empty-flags.ensures c.names_of.ensures) (rw c.as_slice.ensures.value at c.hand.ensures)
+    let o = c.of-scope.ensures in
+    λ b. handed-as
+    (empty-given b.passed c.of-scope.result (rw c.new.ensures.bytes at o.rows) (rw o.roots refl) (o.names ∙ ap (λ (d : Contents). d.names) c.new.ensures.contents) c.replace_empty-flags.ensures c.names_of.ensures)
+    (rw c.as_slice.ensures.value at c.hand.ensures)
