@@ -1,3 +1,3 @@
 -- Laws of the hashes of methods.
-pub mod Buckets
-pub mod Methods
+pub mod Gathering
+pub mod Verdict

@@ -1,5 +1,7 @@
 -- What the code that compares the hashes of methods asks. Definitions; assumes nothing.
-use Rattle.std.specs.Prelude.{List, ℕ, All}
+use Rattle.std.specs.Prelude.{List, [], ◌∷◌, ℕ, All}
+use Rattle.format.specs.Forest.{Forest, end, tree}
+use Rattle.format.specs.Node.{Node, label_value}
 use Rattle.environment.specs.Trees.{AllTrees}
 use Rattle.syntax.specs.Interfaces.{IsService}
 
@@ -9,3 +11,8 @@ pub record ServicesIn (ns services : List ℕ) : Type 0 where
   pub nodes : ℕ
   pub all : AllTrees ns names nodes
   pub service : All (IsService ns nodes) services
+
+-- The numbers that label methods.
+unfoldable pub labels_of : Forest Node → List ℕ
+labels_of end = []
+labels_of (tree n kids next) = label_value n.label ∷ labels_of next

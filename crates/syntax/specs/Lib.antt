@@ -6,5 +6,5 @@ pub mod Classes
 pub mod Interfaces
 pub mod Resolving
 pub mod Resolvers
-pub mod Buckets
 pub mod Hashed
+pub mod Gathering

@@ -1,100 +1,61 @@
 // The hashes of the methods of a merged actor, which have to differ: `resolve_actor` of syntax/mod.rs.
-ghost use Rattle.std.specs.Prelude.{◌≡◌, List, [], ◌∷◌, ℕ, ◌+◌, ◌<◌, ◌++◌, length};
-ghost use Rattle.judgement.specs.Check.{member, hashes_verdict};
+ghost use Rattle.std.specs.Prelude.{◌≡◌, List, [], ℕ, ◌<◌, length, get_or};
+ghost use Rattle.judgement.specs.Check.{hashes_verdict};
 ghost use Rattle.book.specs.Tables.{HashesAgree};
 ghost use Rattle.syntax.specs.Interfaces.{methods_in};
-ghost use Rattle.syntax.specs.Hashed.{ServicesIn};
+ghost use Rattle.syntax.specs.Hashed.{ServicesIn, labels_of};
 
 use arrayvec::ArrayVec;
 use book::read::Node;
 use book::walks::Siblings;
+use duplicates::first_duplicate;
 use format::Limits;
 use refusals::{Refusal, Verdict};
-use std::marker::Model;
 
-// How many buckets hashes fall into.
-const BUCKETS: u32 = 1024;
+// How many methods are looked at: one more than a book has names, so that among as many two have one name, and one hash.
+const MOST: usize = Limits::NAMES + 1;
 
-// The hashes that are met, each in a bucket: `last` links the last one of each bucket, and `before` from each hash the one before it in its
-// own. A link is one more than a place, or 0. A hash is looked for in its bucket alone. Names may be chosen that all fall into one: each is
-// then compared with all before it, which are at most 1,024, so that half a million comparisons are the most.
+// The methods that are looked at: the name that labels each, and its hash.
 #[derive(Drop)]
-struct Met {
-    hashes: ArrayVec<u32, { Limits::NAMES }>,
-    before: [u16; Limits::NAMES],
-    last: [u16; Limits::NAMES],
+struct Methods {
+    names: ArrayVec<u16, MOST>,
+    hashes: ArrayVec<u32, MOST>,
 }
 
-impl Model for Met {
-    ghost use Rattle.std.specs.Prelude.{List, ℕ};
+impl Methods {
+    ghost use Rattle.syntax.specs.Gathering.{GathersAs};
 
-    ghost Value = { List ℕ };
-
-    ghost use Rattle.syntax.specs.Buckets.{Buckets};
-
-    ghost view = { λ m. m.hashes.items };
-
-    ghost invariant = { λ m. Buckets m.hashes.items m.last m.before };
-}
-
-impl Met {
-    // None.
-    fn new() -> Met
-        ensures { result ≡ [] }
+    // The methods of the services in order, as far as they are looked at. The table has the hash of each name.
+    fn gather(rows: &[u8], table: &[u32], services: &[u16]) -> Methods
+        requires { ServicesIn rows.now services.now × (length table.now ≡ 1024) }
+        ensures { GathersAs table.now (labels_of (methods_in rows.now services.now)) result }
     {
-        Met {
-            hashes: ArrayVec::new(),
-            before: [0; Limits::NAMES],
-            last: [0; Limits::NAMES],
-        }
-    }
-
-    // Whether a hash is among them. A walk along links counts no index, so that there is nothing for a `for` to go over.
-    fn has(&self, hash: u32) -> bool
-        ensures { result ≡ member hash self.now }
-    {
-        let met = self.hashes.as_slice();
-        let mut x = self.last[(hash % BUCKETS) as usize] as usize;
-        while 0 < x {
-            let place = x - 1;
-            if met[place] == hash {
-                return true;
+        let mut names = ArrayVec::new();
+        let mut hashes = ArrayVec::new();
+        for s in services {
+            let n = *s as usize;
+            let until = n + Node::at(rows, n).size;
+            for (_, m) in Siblings::new(rows, n + 1, until) {
+                if names.is_full() {
+                    return Methods { names, hashes };
+                }
+                names.push(m.label as u16);
+                hashes.push(table[m.label as usize]);
             }
-            x = self.before[place] as usize;
         }
-        false
-    }
-
-    // One more.
-    fn add(&mut self, hash: u32)
-        requires { length self.old < 1024 }
-        ensures { self.new ≡ self.old ++ hash ∷ [] }
-    {
-        let bucket = (hash % BUCKETS) as usize;
-        let place = self.hashes.len();
-        self.before[place] = self.last[bucket];
-        self.last[bucket] = (place + 1) as u16;
-        self.hashes.push(hash);
+        Methods { names, hashes }
     }
 }
 
-// 14: a method whose hash an earlier one has, of the services in order. The table has the hash of each name.
+// 14: a method whose hash an earlier one has, of the services in order.
 pub(crate) fn hashes(rows: &[u8], table: &[u32], services: &[u16]) -> Verdict
     requires { ServicesIn rows.now services.now × (length table.now ≡ 1024) × ((names : List (List ℕ)) × HashesAgree table.now names) }
     ensures { (names : List (List ℕ)) → HashesAgree table.now names →
         result ≡ hashes_verdict names [] (methods_in rows.now services.now) }
 {
-    let mut met = Met::new();
-    for s in services {
-        let n = *s as usize;
-        let until = n + Node::at(rows, n).size;
-        for (_, m) in Siblings::new(rows, n + 1, until) {
-            let hash = table[m.label as usize];
-            if met.has(hash) {
-                return Err(Refusal::SameHash(m.label as u16));
-            }
-            met.add(hash);
-        }
+    let methods = Methods::gather(rows, table, services);
+    match first_duplicate(methods.hashes.as_slice()) {
+        None => Ok(()),
+        Some(n) => Err(Refusal::SameHash(methods.names.as_slice()[n])),
     }
-    Ok(())
 }

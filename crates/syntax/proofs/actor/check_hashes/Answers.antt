@@ -2,7 +2,7 @@
 use Rattle.book.proofs.Named.{book-of}
 use Rattle.environment.proofs.Book.{all-trees}
 use Rattle.syntax.proofs.Book.{hashes-book}
-use Rattle.syntax.proofs.hashes.Methods.{services-in}
+use Rattle.syntax.proofs.hashes.Gathering.{services-in}
 use Rattle.syntax.proofs.actor.check_hashes.Goals as goal
 
 pub hashes-requires : goal.hashes-requires
