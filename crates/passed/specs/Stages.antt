@@ -3,7 +3,7 @@ use Rattle.std.specs.Prelude.{◌≡◌, List, ℕ, Result, IfOk, OnErr}
 use Rattle.refusals.specs.declared.Refusal.{Refusal}
 use Rattle.refusals.specs.Outcome.{given}
 use Rattle.format.specs.Admission.{Source, admitted}
-use Rattle.syntax.specs.Verdicts.{verdict_of}
+use Rattle.refusals.specs.Verdict.{verdict_of}
 use Rattle.book.specs.Tables.{blank_table, zero_table}
 use Rattle.judgement.specs.Check.{check_bytes}
 use Rattle.typing.specs.declared.prog.Passed.{Passed}

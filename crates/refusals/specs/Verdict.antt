@@ -9,6 +9,11 @@ Verdict = Result ⊤ Refusal
 abbrev pub passes : Verdict
 passes = Ok tt
 
+-- The verdict of what hands on a value where it refuses nothing.
+abbrev pub verdict_of : {A : Type 0} → Result A Refusal → Verdict
+verdict_of (Ok a) = passes
+verdict_of (Err r) = Err r
+
 -- A verdict that lets a check go on.
 abbrev pub is_passed : Verdict → Bool
 is_passed (Ok tt) = true

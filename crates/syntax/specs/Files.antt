@@ -8,13 +8,12 @@ use Rattle.format.specs.Book.{File}
 use Rattle.format.specs.Layout.{run, entry_at, files_part}
 use Rattle.format.specs.Whole.{WholeAt, file_at}
 use Rattle.refusals.specs.declared.Refusal.{Refusal}
-use Rattle.refusals.specs.Verdict.{passes}
+use Rattle.refusals.specs.Verdict.{passes, verdict_of}
 use Rattle.book.specs.declared.kinds.Contents.{Contents}
 use Rattle.book.specs.Reading.{EntryWithin, Admitted}
 use Rattle.judgement.specs.Actor.{service_imports}
 use Rattle.judgement.specs.Check.{imports_verdict}
 use Rattle.syntax.specs.declared.files.Files.{Files}
-use Rattle.syntax.specs.Verdicts.{verdict_of}
 
 -- ---- The table of files
 

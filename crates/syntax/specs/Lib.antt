@@ -1,5 +1,4 @@
 -- What the contracts of this crate cite. The definitions of imports and of the resolved actor are those of the crate `judgement`.
-pub mod Verdicts
 pub mod ByFile
 pub mod Files
 pub mod Classes

@@ -6,7 +6,7 @@ use Rattle.format.specs.Book.{Definition, File}
 use Rattle.format.specs.Layout.{row_at, nodes_part}
 use Rattle.format.specs.Whole.{tree_at}
 use Rattle.refusals.specs.declared.Refusal.{Refusal}
-use Rattle.refusals.specs.Verdict.{Verdict, passes, and_then}
+use Rattle.refusals.specs.Verdict.{Verdict, passes, and_then, verdict_of}
 use Rattle.book.specs.declared.kinds.Contents.{Contents}
 use Rattle.book.specs.Reading.{Admitted}
 use Rattle.judgement.specs.Environment.{kids_of}
@@ -17,7 +17,6 @@ use Rattle.environment.specs.Tables.{Tabled}
 use Rattle.syntax.specs.declared.actor.Service.{Service}
 use Rattle.syntax.specs.declared.interface.Actor as actor
 use Rattle.syntax.specs.declared.interface.Interface.{Interface}
-use Rattle.syntax.specs.Verdicts.{verdict_of}
 use Rattle.syntax.specs.Classes.{tree_of, ArgumentsAs}
 use Rattle.syntax.specs.Interfaces.{IsService, methods_in, IsMerged, ActorAs}
 

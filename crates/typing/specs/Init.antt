@@ -6,7 +6,7 @@ use Rattle.format.specs.Layout.{row_at, nodes_part, definitions_part, files_part
 use Rattle.format.specs.Whole.{Whole, tree_at}
 use Rattle.book.specs.declared.kinds.Contents.{Contents}
 use Rattle.refusals.specs.declared.Refusal.{Refusal}
-use Rattle.refusals.specs.Verdict.{Verdict, passes}
+use Rattle.refusals.specs.Verdict.{Verdict, passes, verdict_of}
 use Rattle.judgement.specs.Environment.{keep, find_type, main_definitions, init_definitions, merge_definitions, kids_of}
 use Rattle.judgement.specs.Check.{each_name, circle_verdict, check_forest, decs_verdict, merge_verdict, init_verdict}
 use Rattle.judgement.specs.Actor.{init_tree}
@@ -16,7 +16,6 @@ use Rattle.typing.specs.declared.init.InitArgs.{InitArgs}
 use Rattle.environment.specs.Trees.{AllTrees}
 use Rattle.book.specs.Reading.{Admitted}
 use Rattle.book.specs.Tables.{blank_table}
-use Rattle.syntax.specs.Verdicts.{verdict_of}
 use Rattle.syntax.specs.Files.{init_at, SplitAs}
 
 -- The definitions whose names a table of roots lacks.

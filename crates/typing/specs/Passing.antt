@@ -5,7 +5,7 @@ use Rattle.format.specs.Book.{trees}
 use Rattle.format.specs.Layout.{nodes_part, definitions_part, files_part}
 use Rattle.book.specs.declared.kinds.Contents.{Contents}
 use Rattle.refusals.specs.declared.Refusal.{Refusal}
-use Rattle.refusals.specs.Verdict.{passes}
+use Rattle.refusals.specs.Verdict.{passes, verdict_of}
 use Rattle.judgement.specs.Environment.{main_definitions}
 use Rattle.judgement.specs.Resolve.{resolve_actor}
 use Rattle.judgement.specs.Check.{check}
@@ -15,7 +15,6 @@ use Rattle.environment.specs.Trees.{AllTrees}
 use Rattle.book.specs.Reading.{Admitted}
 use Rattle.book.specs.Tables.{blank_table, zero_table}
 use Rattle.typing.specs.Decs.{Checked, DecsAs}
-use Rattle.syntax.specs.Verdicts.{verdict_of}
 use Rattle.syntax.specs.Files.{init_at, SplitAs}
 use Rattle.syntax.specs.Interfaces.{interface_tree, InterfaceNodes, InterfaceAs}
 

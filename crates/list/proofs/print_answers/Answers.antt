@@ -1,6 +1,6 @@
 -- `print_answers` meets its contract: a refusal of the check, or what is printed of a book that passed. Assumes nothing.
 use mathlib.Core.Path.{sym, ap, ◌∙◌}
-use Rattle.syntax.specs.Verdicts.{verdict_of}
+use Rattle.refusals.specs.Verdict.{verdict_of}
 use Rattle.refusals.proofs.Handing.{handed-on}
 use Rattle.list.proofs.Listed.{full-passed, check-refused, prints-none}
 use Rattle.list.proofs.print_answers.Goals as goal

@@ -1,5 +1,5 @@
 -- `pass` meets its contract. Assumes nothing.
-use Rattle.typing.proofs.Handing.{handed-on}
+use Rattle.refusals.proofs.Handing.{handed-on}
 use Rattle.passed.proofs.Asking.{pass-refused, pass-goes}
 use Rattle.passed.proofs.pass.Goals as goal
 

@@ -1,7 +1,7 @@
 -- `alias` meets its contract: admission, the check, and the question. Assumes nothing.
 use mathlib.Core.Path.{sym, ap, ◌∙◌}
 use Rattle.refusals.specs.Handed.{alias_answer}
-use Rattle.typing.proofs.Handing.{handed-on}
+use Rattle.refusals.proofs.Handing.{handed-on}
 use Rattle.passed.proofs.Asking.{stops, answered, alias-refused}
 use Rattle.listing.proofs.Alias.{alias-after}
 use Rattle.questions.proofs.alias.Goals as goal

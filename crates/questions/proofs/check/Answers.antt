@@ -1,5 +1,5 @@
 -- `check` meets its contract: admission, and the check. Assumes nothing.
-use Rattle.typing.proofs.Handing.{handed-on}
+use Rattle.refusals.proofs.Handing.{handed-on}
 use Rattle.questions.proofs.check.Goals as goal
 
 pub returns-in_err-pass : goal.returns-in_err-pass

@@ -2,7 +2,7 @@
 use Rattle.listing.specs.DraftList.{draft_list}
 use Rattle.book.proofs.Named.{book-of}
 use Rattle.admission.proofs.Admitting.{admission-gives}
-use Rattle.typing.proofs.Handing.{handed-on}
+use Rattle.refusals.proofs.Handing.{handed-on}
 use Rattle.passed.proofs.Asking.{unadmitted, answered, handed-refused, handed-as}
 use Rattle.questions.proofs.draft_list.Goals as goal
 

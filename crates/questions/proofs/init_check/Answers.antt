@@ -1,6 +1,6 @@
 -- `init_check` meets its contract: admission, the check, and the init arguments. Assumes nothing.
 use mathlib.Core.Path.{sym}
-use Rattle.typing.proofs.Handing.{handed-on}
+use Rattle.refusals.proofs.Handing.{handed-on}
 use Rattle.passed.proofs.Asking.{init-stops, init-goes}
 use Rattle.questions.proofs.init_check.Goals as goal
 

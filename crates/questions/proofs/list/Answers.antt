@@ -1,7 +1,7 @@
 -- `list` meets its contract: admission, the check, and the question. Assumes nothing.
 use mathlib.Core.Path.{sym}
 use Rattle.listing.specs.List.{list}
-use Rattle.typing.proofs.Handing.{handed-on}
+use Rattle.refusals.proofs.Handing.{handed-on}
 use Rattle.passed.proofs.Asking.{stops, answered, handed-refused, handed-as}
 use Rattle.listing.proofs.List.{list-after}
 use Rattle.questions.proofs.list.Goals as goal

@@ -1,6 +1,6 @@
 -- `marks` meets its contract: admission, the check, and the question. Assumes nothing.
 use mathlib.Core.Path.{sym}
-use Rattle.typing.proofs.Handing.{handed-on}
+use Rattle.refusals.proofs.Handing.{handed-on}
 use Rattle.passed.proofs.Asking.{stops, answered, handed-refused, handed-as}
 use Rattle.listing.proofs.Marks.{marks-after}
 use Rattle.questions.proofs.marks.Goals as goal

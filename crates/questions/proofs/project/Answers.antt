@@ -1,6 +1,6 @@
 -- `project` meets its contract: admission, the check, and the question. Assumes nothing.
 use mathlib.Core.Path.{sym}
-use Rattle.typing.proofs.Handing.{handed-on}
+use Rattle.refusals.proofs.Handing.{handed-on}
 use Rattle.passed.proofs.Asking.{stops, answered, handed-refused, handed-as}
 use Rattle.listing.proofs.Project.{project-after}
 use Rattle.questions.proofs.project.Goals as goal

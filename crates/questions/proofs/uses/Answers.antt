@@ -1,6 +1,6 @@
 -- `uses` meets its contract: admission, the check, and the question. Assumes nothing.
 use mathlib.Core.Path.{sym}
-use Rattle.typing.proofs.Handing.{handed-on}
+use Rattle.refusals.proofs.Handing.{handed-on}
 use Rattle.passed.proofs.Asking.{stops, answered, uses-refused, uses-as}
 use Rattle.listing.proofs.Uses.{uses-after}
 use Rattle.questions.proofs.uses.Goals as goal

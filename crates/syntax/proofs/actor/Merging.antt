@@ -24,7 +24,7 @@ use Rattle.format.proofs.Trees.{beside-end, beside-assoc}
 use Rattle.format.proofs.Stored.{actor-some}
 use Rattle.refusals.specs.declared.Refusal as refusal
 use Rattle.refusals.specs.declared.Refusal.{Refusal}
-use Rattle.refusals.specs.Verdict.{Verdict, and_then, passes}
+use Rattle.refusals.specs.Verdict.{Verdict, and_then, passes, verdict_of}
 use Rattle.book.specs.declared.kinds.Contents.{Contents}
 use Rattle.book.specs.Reading.{EntryWithin, Admitted}
 use Rattle.judgement.specs.Environment.{kids_of}
@@ -36,7 +36,6 @@ use Rattle.environment.specs.Tables.{Tabled}
 use Rattle.syntax.specs.declared.files.Files.{Files}
 use Rattle.syntax.specs.declared.interface.Actor.TheVariants.{Written, Merged}
 use Rattle.syntax.specs.declared.interface.Interface.{Interface}
-use Rattle.syntax.specs.Verdicts.{verdict_of}
 use Rattle.syntax.specs.Files.{actor_root, Listed, listed_files, FilesPassed}
 use Rattle.syntax.specs.Classes.{tree_of}
 use Rattle.syntax.specs.Interfaces.{IsService, methods_in, main_of, actor_tree, ActorAs}

@@ -23,12 +23,11 @@ use Rattle.format.proofs.Lists.{run-none, run-cons}
 use Rattle.format.proofs.Stored.{tree-opens, actor-none, actor-some}
 use Rattle.refusals.specs.declared.Refusal as refusal
 use Rattle.refusals.specs.declared.Refusal.{Refusal}
-use Rattle.refusals.specs.Verdict.{Verdict}
+use Rattle.refusals.specs.Verdict.{Verdict, verdict_of}
 use Rattle.book.specs.declared.kinds.Contents.{Contents}
 use Rattle.book.specs.Reading.{Admitted}
 use Rattle.judgement.specs.Actor.{is_service_import, service_imports}
 use Rattle.judgement.specs.Check.{imports_verdict}
-use Rattle.syntax.specs.Verdicts.{verdict_of}
 use Rattle.syntax.specs.Files.{files_in, actor_root, FileRoots, FileTable, init_at, listed_files, ImportsAs, FilesAs}
 use Rattle.syntax.proofs.Book.{file-roots, files-in}
 

@@ -26,7 +26,7 @@ use Rattle.std.specs.Prelude.{Some, Result, Ok, Err, IfOk}
 use Rattle.std.specs.Result.{is_err}
 use Rattle.refusals.specs.declared.Refusal.{Refusal}
 use Rattle.book.specs.Reading.{EntryWithin, Admitted}
-use Rattle.refusals.specs.Verdict.{Verdict, passes}
+use Rattle.refusals.specs.Verdict.{Verdict, passes, verdict_of}
 use Rattle.judgement.specs.Environment.{keep, find_type, is_missing, main_definitions, init_definitions, merge_definitions, kids_of}
 use Rattle.judgement.specs.Check.{decs_verdict, merge_verdict, init_verdict, check_forest, each_name, circle_verdict}
 use Rattle.judgement.specs.Actor.{init_tree, NoInit}
@@ -44,7 +44,6 @@ use Rattle.environment.proofs.merge.Tables.{merged-roots, merged-binds}
 use Rattle.environment.proofs.Links.{found-none, found-some, get_or-within}
 use Rattle.typing.specs.Types.{Reads, WalkEnv}
 use Rattle.typing.proofs.Walk.{Said, many-stops, many-pass}
-use Rattle.syntax.specs.Verdicts.{verdict_of}
 use Rattle.syntax.specs.Files.{init_at, SplitAs}
 use Rattle.typing.specs.Decs.{DecsAs}
 use Rattle.typing.specs.declared.init.InitArgs.{InitArgs}

@@ -6,12 +6,12 @@ use Rattle.book.specs.Reading.{Admitted}
 use Rattle.book.specs.declared.kinds.Contents.{Contents}
 use Rattle.book.specs.Tables.{blank_table}
 use Rattle.judgement.specs.Check.{init_check}
-use Rattle.syntax.specs.Verdicts.{verdict_of}
+use Rattle.refusals.specs.Verdict.{verdict_of}
 use Rattle.typing.specs.declared.prog.Passed.{Passed}
 use Rattle.typing.specs.declared.init.InitArgs.{InitArgs}
 use Rattle.typing.specs.Passing.{PassedAs}
 use Rattle.typing.specs.Init.{InitFoundAs}
-use Rattle.typing.proofs.Handing.{handed-on}
+use Rattle.refusals.proofs.Handing.{handed-on}
 use mathlib.Core.List.{List}
 use Prim.Native.Nat.{ℕ}
 use Rattle.passed.proofs.CheckedBook.init_check.Goals as goal

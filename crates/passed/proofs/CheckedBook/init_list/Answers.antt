@@ -27,8 +27,8 @@ use Rattle.analysis.specs.Book.{Readable}
 use Rattle.analysis.specs.Walking.{Counted, WalkedAs}
 use Rattle.passed.specs.Answers.{walk_outcome}
 use Rattle.refusals.proofs.Outcomes.{after-passed, after-stops}
-use Rattle.syntax.specs.Verdicts.{verdict_of}
-use Rattle.typing.proofs.Handing.{handed-on}
+use Rattle.refusals.specs.Verdict.{verdict_of}
+use Rattle.refusals.proofs.Handing.{handed-on}
 use Rattle.passed.proofs.Walks.{Walks, walk-says}
 use Rattle.passed.proofs.Walks as walks
 use Rattle.passed.proofs.Asking.{handed-refused, handed-as}

@@ -28,7 +28,7 @@ use Rattle.analysis.specs.declared.chase.Walk.{Walk}
 use Rattle.analysis.specs.Walking.{Counted, WalkedAs, InterfaceIn}
 use Rattle.passed.specs.Answers.{walk_outcome}
 use Rattle.passed.proofs.Asking.{lacks-actor, has-actor, handed-refused, handed-as}
-use Rattle.typing.proofs.Handing.{handed-on}
+use Rattle.refusals.proofs.Handing.{handed-on}
 use Rattle.passed.proofs.Walks.{Walks, walk-says}
 use Rattle.passed.proofs.Walks as walks
 use Rattle.passed.proofs.CheckedBook.list.Goals as goal

@@ -24,7 +24,7 @@ use Rattle.analysis.specs.Marking.{MarksHold, nothing_marked, Begun, InferredAs}
 use Rattle.analysis.proofs.recursive.Rows.{nothing-held}
 use Rattle.analysis.proofs.recursive.Answers.{marked-stopped, marked-long, marked-given}
 use Rattle.refusals.proofs.Outcomes.{after-passed}
-use Rattle.typing.proofs.Handing.{handed-on}
+use Rattle.refusals.proofs.Handing.{handed-on}
 use Rattle.passed.proofs.Asking.{handed-refused, handed-as}
 use Rattle.passed.proofs.CheckedBook.marks.Goals as goal
 

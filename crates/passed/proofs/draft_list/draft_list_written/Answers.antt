@@ -2,7 +2,7 @@
 use Rattle.environment.proofs.Book.{definitions-within}
 use Rattle.book.specs.Tables.{blank_table}
 use Rattle.book.proofs.Opened.{definitions-count}
-use Rattle.typing.proofs.Handing.{handed-on}
+use Rattle.refusals.proofs.Handing.{handed-on}
 use Rattle.passed.proofs.Asking.{handed-refused, handed-as}
 use Rattle.passed.proofs.draft_list.Laws.{within, draft-twice, written, draft-says}
 use mathlib.Core.Path.{refl, ap}

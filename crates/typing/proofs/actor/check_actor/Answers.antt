@@ -3,7 +3,7 @@ use mathlib.Core.Path.{sym, ◌∙◌}
 use mathlib.Core.Bool.{false≢true}
 use lib.Dec.{eqb→eq}
 use borrow.Author.Tests.{eq-eqb}
-use Rattle.typing.proofs.Handing.{handed-on}
+use Rattle.refusals.proofs.Handing.{handed-on}
 use Rattle.typing.proofs.actor.Laws.{no-actor, root-inside, written-stop, no-service, some-service}
 use Rattle.typing.proofs.actor.check_actor.Goals as goal
 

@@ -1,6 +1,6 @@
 -- `check_merged` meets its contract: the services that are left give the verdict. Assumes nothing.
 use mathlib.Core.Path.{refl}
-use Rattle.typing.proofs.Handing.{handed-on}
+use Rattle.refusals.proofs.Handing.{handed-on}
 use Rattle.typing.proofs.actor.Laws.{arguments-stop, merged-stop, merged-on, merged-end}
 use Rattle.typing.proofs.actor.check_merged.Goals as goal
 

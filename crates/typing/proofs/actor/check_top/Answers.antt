@@ -1,5 +1,5 @@
 -- `check_top` meets its contract. Assumes nothing.
-use Rattle.typing.proofs.Handing.{handed-on}
+use Rattle.refusals.proofs.Handing.{handed-on}
 use Rattle.typing.proofs.actor.Laws.{top-stop, top-end, top-other}
 use Rattle.typing.proofs.actor.check_top.Goals as goal
 

@@ -6,7 +6,7 @@ use Rattle.format.proofs.Rows.{node-within}
 use Rattle.book.specs.Tables.{zero_table}
 use Rattle.book.proofs.Named.{book-of}
 use Rattle.environment.proofs.Book.{all-trees}
-use Rattle.typing.proofs.Handing.{handed-on}
+use Rattle.refusals.proofs.Handing.{handed-on}
 use Rattle.typing.proofs.init.Laws.{arguments-stop, arguments-end}
 use Rattle.typing.proofs.init.check_arguments.Goals as goal
 

@@ -3,7 +3,7 @@ use mathlib.Core.Path.{refl, sym, ◌∙◌}
 use Rattle.book.specs.Tables.{blank_table}
 use Rattle.book.proofs.Blank.{blank-length}
 use Rattle.environment.proofs.BlankTable.{blank-filled}
-use Rattle.typing.proofs.Handing.{handed-on}
+use Rattle.refusals.proofs.Handing.{handed-on}
 use Rattle.typing.proofs.init.Laws.{init-none, own-here, own-refused, own-table, main-table, init-differs, init-found, init-cleared}
 use Rattle.typing.proofs.init.check_init_args.Goals as goal
 

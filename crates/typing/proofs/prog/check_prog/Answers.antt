@@ -3,7 +3,7 @@ use mathlib.Core.Path.{sym, ◌∙◌}
 use Rattle.book.proofs.Named.{book-of}
 use Rattle.environment.proofs.Book.{entries-held}
 use Rattle.environment.proofs.BlankTable.{blank-filled, zero-filled}
-use Rattle.typing.proofs.Handing.{handed-on}
+use Rattle.refusals.proofs.Handing.{handed-on}
 use Rattle.typing.proofs.prog.Laws.{imports-refused, split-files, decs-refused, defined, left-blank, left-whole}
 use Rattle.typing.proofs.prog.check_prog.Goals as goal
 

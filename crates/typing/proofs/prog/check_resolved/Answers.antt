@@ -1,6 +1,6 @@
 -- `check_resolved` meets its contract. Assumes nothing.
 use mathlib.Core.Path.{refl}
-use Rattle.typing.proofs.Handing.{handed-on}
+use Rattle.refusals.proofs.Handing.{handed-on}
 use Rattle.typing.proofs.prog.Laws.{roots-table, ends-table, ends-chains, tabled, resolve-refused, actor-of, actor-refused, prog-passed}
 use Rattle.typing.proofs.prog.check_resolved.Goals as goal
 

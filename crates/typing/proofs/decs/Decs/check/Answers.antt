@@ -1,7 +1,7 @@
 -- `check` meets its contract. Assumes nothing.
 use mathlib.Core.Path.{sym, ◌∙◌}
 use Rattle.environment.proofs.BlankTable.{blank-filled}
-use Rattle.typing.proofs.Handing.{handed-on}
+use Rattle.refusals.proofs.Handing.{handed-on}
 use Rattle.typing.proofs.decs.Laws.{decs-twice, decs-cleared}
 use Rattle.typing.proofs.decs.Decs.check.Goals as goal
 

@@ -1,5 +1,5 @@
 -- `check_bodies` meets its contract: the bodies that are left give the verdict. Assumes nothing.
-use Rattle.typing.proofs.Handing.{handed-on}
+use Rattle.refusals.proofs.Handing.{handed-on}
 use Rattle.typing.proofs.decs.Laws.{entry-within, body-inside, bodies-stop, bodies-on, bodies-end}
 use Rattle.typing.proofs.decs.Decs.check_bodies.Goals as goal
 

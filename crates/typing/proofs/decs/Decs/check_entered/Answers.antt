@@ -1,6 +1,6 @@
 -- `check_entered` meets its contract. Assumes nothing.
 use Rattle.environment.proofs.BlankTable.{zero-filled}
-use Rattle.typing.proofs.Handing.{handed-on}
+use Rattle.refusals.proofs.Handing.{handed-on}
 use Rattle.typing.proofs.decs.Laws.{nodes, few, tabled, table, decs-body, decs-circle, decs-unfit, decs-passed}
 use Rattle.typing.proofs.decs.Decs.check_entered.Goals as goal
 

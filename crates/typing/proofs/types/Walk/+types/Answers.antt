@@ -5,7 +5,7 @@ use mathlib.Core.Bool.{or-true}
 use native.Mathlib.Omega.{arith}
 use lib.Dec.{eqb→eq}
 use Rattle.format.specs.Encode.{Row}
-use Rattle.typing.proofs.Handing.{handed-on}
+use Rattle.refusals.proofs.Handing.{handed-on}
 use Rattle.typing.proofs.Walk.{walk-end, walk-stop, walk-method, walk-on, next-label}
 use Rattle.typing.proofs.Nodes.{kids-in, kind-few, at-prim, at-var, at-class, kids-stop, kids-modes, kids-end}
 use Rattle.typing.proofs.types.Walk.+types.Goals as goal
