@@ -2,7 +2,7 @@
 use mathlib.Core.Path.{refl}
 use native.Mathlib.Omega.{arith}
 use Rattle.std.proofs.Common.{lit<}
-use Rattle.analysis.proofs.chase.Rows.{rows-start, named, rows-unbound, enter-room, body-within, body-small, rows-enter}
+use Rattle.analysis.proofs.chase.Rows.{rows-start, named, rows-unbound, enter-room, rows-enter}
 use Rattle.analysis.proofs.chase.Rows.{last-within, last-small, list-room, long, rows-back, none-waits, rows-end}
 use Rattle.analysis.proofs.chase.chase.Goals as goal
 
@@ -19,18 +19,6 @@ push-requires c =
     let n = named c.loop-row.invariant c.in-Some.ensures _ c.at-t.ensures in
     let r = rw c.in-Some-root_of.is at c.root_of.ensures.some in
     (lit< tt, omega (arith, enter-room n r.0 r.1))
-
-pub at-u-requires : goal.at-u-requires
-at-u-requires c =
-    let n = named c.loop-row.invariant c.in-Some.ensures _ c.at-t.ensures in
-    let r = rw c.in-Some-root_of.is at c.root_of.ensures.some in
-    body-within n r.0 r.1
-
-pub overflow_add-end : goal.overflow_add-end
-overflow_add-end c =
-    let n = named c.loop-row.invariant c.in-Some.ensures _ c.at-t.ensures in
-    let r = rw c.in-Some-root_of.is at c.root_of.ensures.some in
-    omega (arith, body-small n r.0 r.1 _ c.at-u.ensures)
 
 pub loop-row-smaller-in-Some : goal.loop-row-smaller-in-Some
 loop-row-smaller-in-Some c =

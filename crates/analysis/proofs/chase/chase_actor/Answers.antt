@@ -3,7 +3,7 @@ use mathlib.Core.Path.{refl, ap}
 use Rattle.std.proofs.Common.{◌≡◌, Err, rules}
 use Rattle.format.specs.Encode.{Row}
 use Rattle.analysis.proofs.BookNodes.{here-whole, kids-readable}
-use Rattle.analysis.proofs.chase.Actor.{MergedAs, actor-absent, actor-written, interface-root, interface-arguments, service-in, arguments-stop, services-start, services-started, services-on, services-stop, services-over}
+use Rattle.analysis.proofs.chase.Actor.{MergedAs, actor-absent, actor-written, interface-root, interface-arguments, service-in, arguments-stop, services-started, services-on, services-stop, services-over}
 use Rattle.analysis.proofs.chase.chase_actor.Goals as goal
 
 pub returns-in-Absent : goal.returns-in-Absent
@@ -23,11 +23,6 @@ returns-in_err-walk c =
     let m : MergedAs c.args.interface c.args.interface.services = record { merged = (_, c.in-Merged.is); are = refl } in
     let e : c.from_residual.result ≡ Err c.in_err-walk.field-0.0 = search rules in
     rw e (arguments-stop c.requires.1 m (c.requires.0.arguments m.merged).are _ c.in_err-walk.ensures)
-
-pub loop-s-init : goal.loop-s-init
-loop-s-init c =
-    let m : MergedAs c.args.interface _ = record { merged = (_, c.in-Merged.is); are = c.as_slice-s-items.ensures.all } in
-    services-start c.requires.1 m (c.requires.0.arguments m.merged).are _ c.in_ok-walk.ensures
 
 pub chase-requires : goal.chase-requires
 chase-requires c =

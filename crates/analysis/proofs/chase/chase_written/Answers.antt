@@ -2,13 +2,9 @@
 use mathlib.Core.Path.{ap}
 use Rattle.format.specs.Encode.{Row}
 use Rattle.analysis.proofs.BookNodes.{here-readable}
-use Rattle.analysis.proofs.chase.Actor.{walked-same, written-is}
 use Rattle.analysis.proofs.chase.chase_written.Goals as goal
 
 pub chase_types-requires : goal.chase_types-requires
 chase_types-requires c =
     let s = c.requires in
     (here-readable s.0.rooted s.0.node (ap (λ (q : Row). q.size) c.at-t.ensures), s.1)
-
-pub returns : goal.returns
-returns c = walked-same c.requires.1 _ (written-is _ _ _ c.at-t.ensures) c.chase_types.ensures
