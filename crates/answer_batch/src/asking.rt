@@ -68,7 +68,8 @@ impl Question<'_> {
     }
 }
 
-// A book that is asked under these limits, by its source's name, and where the answers go.
+// A book that is asked under these limits, by its source's name, and where the answers go. A word, whom it is about and a question are told apart,
+// since no two methods take the same of them.
 #[derive(Drop)]
 pub(crate) struct Asking<'a> {
     pub(crate) lines: Lines<'a>,

@@ -26,6 +26,7 @@ use Rattle.format.specs.Distinct.{Distinct, Ascends}
 use Rattle.judgement.specs.WellFormed.{defined_name, Bound, WellFormedDefinitions, Defined}
 use Rattle.listing.specs.Empty.{Mark, unvisited, visiting, answered, Visit, not_empty, visit_field, visit_fields, visit_type, visit_found, store, visit_marked, is_empty, keys_from, visit_all, is_empty_mark, empty_from, replace_empty, Steps, StepsOn, here, BecomesEmpty, empty_names, emptiness, EmptinessRow, emptiness_rows, checked, short}
 use Rattle.judgement.proofs.Lookup.{find-named, listed-defined}
+use Rattle.std.proofs.lemmas.Bool.{false≢true}
 use Rattle.format.proofs.Logic.{clash}
 use Rattle.listing.proofs.Steps.{head_names, field_names, kind_names, found_names, names-steps, steps-names, step-reference, Acyclic, acyclic, Onward, onward, reaches, circle-of, on-circle, before-empty, not-empty, first-step}
 use Rattle.format.specs.Fits.{Fits}
@@ -338,9 +339,6 @@ module _ (ds : List Definition) (names : ℕ) (once : Distinct (map defined_name
 
 -- ---- Keys, and the names that are answered
 
-true-false : {A : Type 0} → true ≡ false → A
-true-false e = clash cc
-
 pub in-keys : (ds : List Definition) (n k m : ℕ) → Memᴰ m (keys_from ds n k) → m < n + k
 unfolding keys_from
 in-keys ds n zero m i = absurd (Memᴰ.not-nil i)
@@ -357,15 +355,15 @@ key-in ds n (suc k) m l h e = go (is_missing (find_type ds n)) refl (ℕ_discret
   where
     go : (b : Bool) → is_missing (find_type ds n) ≡ b → Dec (m ≡ n) → (suc n ≤ m → Memᴰ m (keys_from ds (suc n) k))
         → Memᴰ m (cond b (keys_from ds (suc n) k) (n ∷ keys_from ds (suc n) k))
-    go true q (yes s) ih = true-false (sym q ∙ ap (λ (x : ℕ). is_missing (find_type ds x)) (sym s) ∙ e)
+    go true q (yes s) ih = absurd (false≢true (sym e ∙ ap (λ (x : ℕ). is_missing (find_type ds x)) s ∙ q))
     go true q (no s) ih = ih (omega arith)
     go false q (yes s) ih = Memᴰ.head s
     go false q (no s) ih = Memᴰ.tail (ih (omega arith))
 
 empty-mark : (m : Mark) → is_empty_mark m ≡ true → m ≡ answered true
 unfolding is_empty_mark
-empty-mark unvisited e = true-false (sym e)
-empty-mark visiting e = true-false (sym e)
+empty-mark unvisited e = absurd (false≢true e)
+empty-mark visiting e = absurd (false≢true e)
 empty-mark (answered b) e = ap answered e
 
 pub in-empty : (k : ℕ) (ms : List Mark) (n : ℕ) → Memᴰ n (empty_from k ms) → (i : ℕ) × (n ≡ k + i) × (mark_at ms i ≡ answered true)

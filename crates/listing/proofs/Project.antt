@@ -17,7 +17,7 @@ use mathlib.Core.List.Memᴰ
 use mathlib.Core.List.{List, [], ◌∷◌, map, Memᴰ, ◌++◌}
 use Prim.Native.Nat.{ℕ, zero, suc, ◌+◌, ◌-◌, ◌≤◌, ◌<◌, min}
 use native.Mathlib.Decide.{ℕ_discrete, dec_le}
-use native.Mathlib.Nat.{zero-min, min-zero, min-le_left, min-le_right, min-eq_left, min-eq_right}
+use native.Mathlib.Nat.{min-zero, min-le_left, min-le_right, min-eq_left, min-eq_right}
 use native.Mathlib.Omega.{arith}
 use borrow.Author.Tests.{eq-eqb, ne_eqb}
 use lib.Dec.{T, eqb}
@@ -96,10 +96,6 @@ same-member n xs ys s =
     let y = member-times n ys in
     same-test (member n xs) (member n ys) (λ t. y.1 (omega (arith, x.0 t, s n)), λ t. x.1 (omega (arith, y.0 t, s n)))
 
-is-zero : (a : ℕ) → (0 < a → ⊥) → a ≡ 0
-is-zero zero h = refl
-is-zero (suc a) h = absurd (h (omega arith))
-
 -- ---- Taking a name out of the asked ones, by whatever removal
 pub shrink-times : (remove : ℕ → List ℕ → List ℕ) → Removes remove → (n : ℕ) (l : List ℕ) (k : ℕ) → times k (shrink remove n l) ≡ times k l - one k n
 unfolding shrink
@@ -109,7 +105,7 @@ shrink-times remove removes n l k = go (member n l) (member-times n l)
     go true i = removes n l (i.0 tt) k
     go false i =
         elim (ℕ_discrete k n) [
-          | yes e ↦ rw e (omega (arith, is-zero (times n l) i.1))
+          | yes e ↦ rw e (omega (arith, i.1))
           | no h ↦ omega (arith, one-other k n h)
         ]
 
@@ -143,17 +139,10 @@ unfolding times
 times-map k f g [] h = refl
 times-map k f g (j ∷ l) h = rw (h j (Memᴰ.head refl), times-map k f g l (λ i m. h i (Memᴰ.tail m)))
 
--- the lower of two counts, where both or one of them has one more
-min-more : (a o b : ℕ) → o ≤ a → o + min (a - o) b ≡ min a (o + b)
-min-more a o b h =
-    elim (dec_le a (o + b)) [
-      | yes l ↦ rw (min-eq_left {n = a - o} {m = b} (omega arith), min-eq_left {n = a} {m = o + b} l) (omega arith)
-      | no l ↦ rw (min-eq_right {n = b} {m = a - o} (omega arith), min-eq_right {n = o + b} {m = a} (omega arith))
-    ]
-
+-- the lower of two counts, where one of them has one more
 min-less : (a o b : ℕ) → (a ≡ 0) ⊎ (o ≡ 0) → min (a - o) b ≡ min a (o + b)
-min-less a o b (inl e) = let z : a - o ≡ 0 = omega arith in rw (z, e, zero-min b, zero-min (o + b))
-min-less a o b (inr e) = let z : a - o ≡ a = omega arith in let y : o + b ≡ b = omega arith in rw (z, y)
+min-less a o b (inl e) = omega arith
+min-less a o b (inr e) = omega arith
 
 module _ (remove : ℕ → List ℕ → List ℕ) (removes : Removes remove) where
   pub left-times : (i : ℕ) (names asked : List ℕ) (k : ℕ) → times k (project_by remove i names asked).left ≡ times k asked - times k names
@@ -221,14 +210,14 @@ module _ (remove : ℕ → List ℕ → List ℕ) (removes : Removes remove) whe
       go : (b : Bool) → T b ↔ (0 < times n asked) →
           times k (map (λ (j : ℕ). get_or (n ∷ names) (j - i) 0) (project_by remove (suc i) names (shrink remove n asked)).taken) ≡ min (times k asked - one k n) (times k names) →
           times k (map (λ (j : ℕ). get_or (n ∷ names) (j - i) 0) (take' b i (project_by remove (suc i) names (shrink remove n asked))).taken) ≡ min (times k asked) (one k n + times k names)
-      go true h e = let z : i - i ≡ 0 = omega arith in rw (z, e) (min-more (times k asked) (one k n) (times k names) (some (h.0 tt)))
+      go true h e = let z : i - i ≡ 0 = omega arith in rw (z, e) (omega (arith, some (h.0 tt)))
         where
           some : 0 < times n asked → one k n ≤ times k asked
           some l = elim (ℕ_discrete k n) [ yes q ↦ rw (one-same k n q, q) l | no q ↦ omega (arith, one-other k n q) ]
       go false h e = e ∙ min-less (times k asked) (one k n) (times k names) (none (λ l. h.1 l))
         where
           none : (0 < times n asked → ⊥) → (times k asked ≡ 0) ⊎ (one k n ≡ 0)
-          none l = elim (ℕ_discrete k n) [ yes q ↦ inl (rw q (is-zero (times n asked) l)) | no q ↦ inr (one-other k n q) ]
+          none l = elim (ℕ_discrete k n) [ yes q ↦ inl (rw q (omega arith)) | no q ↦ inr (one-other k n q) ]
 
 -- ---- The order of the asked names does not matter, nor which removal is used
 module _ (remove remove' : ℕ → List ℕ → List ℕ) (removes : Removes remove) (removes' : Removes remove') where
