@@ -1,8 +1,6 @@
 // Lines of functions inside the crates, whose answers no question hands out: `alias_end` on an admitted book, with the definitions of all files
 // as one environment; `as_func` and `as_service` on a book that passed. They ask for such books, so this file counts on what admission, the
 // check and `enter` promise.
-ghost use Rattle.passed.specs.Checked.{Passes};
-
 use crate::asking::Asking;
 use crate::lines::Lines;
 use crate::tally::Given;
@@ -10,7 +8,7 @@ use book::read::Entry;
 use environment::scope::Scope;
 use environment::{End, Lookup};
 use format::Limits;
-use passed::{CheckedBook, Tables};
+use passed::CheckedBook;
 use refusals::Answer;
 
 impl Asking<'_> {
@@ -29,13 +27,11 @@ impl Asking<'_> {
 
     fn ask_lookups(&mut self) {
         self.begin_word(b"lookups");
-        let mut tables = Tables::new();
-        match tables.pass(self.book, self.limits) {
+        match CheckedBook::pass(self.book, self.limits) {
             Err(why) => self.refuse(why),
-            Ok(p) => {
-                let main = p.main;
-                say_lookups(self.lines, &tables.checked(self.book, p));
-                self.tally.give_entries(Given::Lookups, main);
+            Ok(passed) => {
+                say_lookups(self.lines, &passed);
+                self.tally.give_entries(Given::Lookups, passed.main);
             }
         }
     }
@@ -72,24 +68,19 @@ fn print_end(lines: Lines, book: &[u8], end: End, crossed: usize) {
 
 // What is looked up from the body of each definition but the init file's, in order, and then from main's actor: the service below its class, or
 // the actor itself; nothing where main has none. With service imports too it is main's own tree.
-fn say_lookups(lines: Lines, book: &CheckedBook)
-    requires { Passes book.now }
-{
-    let c = book.passed.contents;
-    let main = book.passed.main;
-    let root = book.passed.interface.main();
-    let definitions = c.definitions(book.bytes);
-    let rows = c.nodes(book.bytes);
-    lines.count(b"given ", main);
-    for d in 0..main {
+fn say_lookups(lines: Lines, passed: &CheckedBook) {
+    let definitions = passed.book.definitions();
+    let rows = passed.book.nodes();
+    lines.count(b"given ", passed.main);
+    for d in 0..passed.main {
         let node = Entry::at(definitions, d).root as usize;
-        let function = environment::as_func(rows, book.ends, node);
-        let service = environment::as_service(rows, book.ends, node);
+        let function = environment::as_func(rows, &passed.ends, node);
+        let service = environment::as_service(rows, &passed.ends, node);
         print_found(lines, function, service);
     }
-    if let Some(n) = root {
+    if let Some(n) = passed.interface.main() {
         let top = syntax::class::top_of(rows, n);
-        print_actor(lines, environment::as_service(rows, book.ends, top.below));
+        print_actor(lines, environment::as_service(rows, &passed.ends, top.below));
     }
     lines.write(b"\n");
 }

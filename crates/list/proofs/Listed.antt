@@ -10,7 +10,7 @@ use lib.Seq.{take-suc, length-take-le}
 use Rattle.format.specs.declared.Limits.{Limits}
 use Rattle.format.specs.Layout.{name_in}
 use Rattle.format.specs.Within.{full}
-use Rattle.format.specs.Admission.{◌under◌}
+use Rattle.format.specs.Admission.{◌under◌, admitted}
 use Rattle.refusals.specs.declared.Refusal.{Refusal}
 use Rattle.judgement.specs.Check.{member, check_bytes}
 use Rattle.refusals.specs.Outcome.{given, fit}
@@ -18,8 +18,8 @@ use Rattle.refusals.specs.Handed.{Answer, HandedAs}
 use Rattle.listing.specs.List.{list}
 use Rattle.listing.specs.Marks.{marks_over}
 use Rattle.listing.proofs.List.{list-after}
-use Rattle.typing.specs.declared.prog.Passed.{Passed}
-use Rattle.typing.specs.Passing.{PassedBook}
+use Rattle.passed.specs.declared.CheckedBook.{CheckedBook}
+use Rattle.passed.specs.Checked.{book_of}
 use Rattle.passed.specs.Stages.{BookPassed}
 use Rattle.passed.proofs.Asking.{stops, answered, handed-as}
 use Rattle.print.specs.declared.Text.{Text}
@@ -69,8 +69,8 @@ module _ (bs marked : List ℕ) where
   table-is l = refl
 
 -- ---- What is printed, by the verdict of the check
-pub full-passed : {bs roots ends' : List ℕ} {l : Limits} {p : Passed} → l ≡ full → BookPassed (bs under l) roots ends' p → BookPassed (bs under full) roots ends' p
-full-passed e x = rw e at x
+pub full-passed : {bs : List ℕ} {l : Limits} {b : CheckedBook} → l ≡ full → BookPassed (bs under l) b → BookPassed (b.book.bytes.now under full) b
+full-passed e x = let y = rw e at x in record { bytes = refl; is = ap (λ (bs : List ℕ). admitted (bs under full)) y.bytes ∙ y.is }
 
 pub check-refused : (bs : List ℕ) {l : Limits} {why : Refusal} → l ≡ full → check_bytes (bs under l) ≡ Err why → refusal_of bs why ≡ printed bs
 unfolding fit list_in listed_text printed
@@ -84,12 +84,12 @@ pub prints-line : {bs : List ℕ} {why : Refusal} {a b c : Text} → Prints bs a
 prints-line p q = wider (omega arith) p.refused (within q.laid.few (then p.left (lays q)))
 
 -- ---- and by the answers to the questions on a book that passed, which are those on bytes
-module _ {bs roots ends' : List ℕ} {p : Passed} (x : BookPassed (bs under full) roots ends' p) {old new : List ℕ} {r : Answer} where
-  pub marks-handed : (l : List ℕ) → ((b : PassedBook bs roots ends' p) → HandedAs (marks_over b.admitted.book l) old new r) → HandedAs (marks_asked bs l) old new r
-  marks-handed l h = handed-as (answered (λ c. marks_over c l) (bs under full) x.is) (h x.book)
+module _ {bs : List ℕ} {b : CheckedBook} (x : BookPassed (bs under full) b) {old new : List ℕ} {r : Answer} where
+  pub marks-handed : (l : List ℕ) → HandedAs (marks_over (book_of b) l) old new r → HandedAs (marks_asked bs l) old new r
+  marks-handed l h = handed-as (answered (λ c. marks_over c l) (bs under full) x.is) h
 
-  pub list-handed : ((b : PassedBook bs roots ends' p) → HandedAs (list b.admitted.book) old new r) → HandedAs (list_asked bs) old new r
-  list-handed h = handed-as (answered list (bs under full) x.is) (h x.book)
+  pub list-handed : HandedAs (list (book_of b)) old new r → HandedAs (list_asked bs) old new r
+  list-handed h = handed-as (answered list (bs under full) x.is) h
 
 module _ (bs l : List ℕ) {old new : List ℕ} {r : Answer} (h : HandedAs (marks_asked bs l) old new r) (n : 1024 ≡ length old) where
   pub marks-refused : {why : Refusal} → r ≡ Err why → refusal_of bs why ≡ marked_text bs l (marks_in bs l)

@@ -13,7 +13,7 @@ ghost use Rattle.list.specs.Printed.{heading, mark_of, line, lines, marked_text,
 use book::admitted::AdmittedBook;
 use book::tables::NameIndex;
 use format::Limits;
-use passed::{CheckedBook, Tables};
+use passed::CheckedBook;
 use print::Text;
 use refusals::Verdict;
 use stdio::Program;
@@ -68,16 +68,15 @@ fn table(book: AdmittedBook, listed: &[u16], marked: &[u16], text: &mut Text)
 
 // Prints what both questions on a book that passed are answered; a refusal is handed on, and nothing is laid then.
 fn print_passed(book: &CheckedBook, text: &mut Text) -> Verdict
-    requires { BookPassed (book.now.bytes.now under full) book.now.roots.now book.now.ends.now book.now.passed }
-    ensures { Prints book.now.bytes.now text.old text.new result }
+    requires { BookPassed (book.now.book.bytes.now under full) book.now }
+    ensures { Prints book.now.book.bytes.now text.old text.new result }
 {
     let mut list_room = [0; Limits::DEFINITIONS];
     let count = book.list(&mut list_room)?;
     let listed = &list_room[..count];
     let mut marks_room = [0; Limits::NAMES];
     let count = book.marks(listed, &mut marks_room)?;
-    let admitted = AdmittedBook::new(book.bytes, book.passed.contents);
-    table(admitted, listed, &marks_room[..count], text);
+    table(book.book, listed, &marks_room[..count], text);
     Ok(())
 }
 
@@ -85,9 +84,10 @@ fn print_passed(book: &CheckedBook, text: &mut Text) -> Verdict
 fn print_answers(book: &[u8], text: &mut Text) -> Verdict
     ensures { Prints book.now text.old text.new result }
 {
-    let mut tables = Tables::new();
-    let p = tables.pass(book, Limits::full())?;
-    print_passed(&tables.checked(book, p), text)
+    match CheckedBook::pass(book, Limits::full()) {
+        Ok(passed) => print_passed(&passed, text),
+        Err(why) => Err(why),
+    }
 }
 
 // All that is printed for the bytes of a book.

@@ -1,11 +1,10 @@
 -- From the bytes of a book to what a question answers: what holds for every question. Assumes nothing.
---     pass-refused, pass-goes        what `pass` finds
+--     pass-refused, ..               what `pass` finds
 --     lacks-actor, has-actor         17
 --     stops, answered                a question on bytes: refused before it, or that on the book
 --     handed-refused, handed-as, ..  what is handed over then
 --     init-stops, init-goes          the init check
 use mathlib.Core.Path.{◌≡◌, sym, ap, subst, ◌∙◌}
-use mathlib.Core.Bool.{Bool, true, false}
 use mathlib.Core.List.{List}
 use Prim.Native.Nat.{ℕ}
 use Rattle.refusals.specs.declared.Refusal.{Refusal}
@@ -15,60 +14,80 @@ use Rattle.refusals.specs.declared.Crossed.{Crossed}
 use Rattle.refusals.specs.Verdict.{Verdict, and_then}
 use Rattle.refusals.specs.Outcome.{Outcome, refused, given, after, asked, judged, fit}
 use Rattle.refusals.specs.Handed.{Answer, Use, answer_of, left_in, HandedAs, uses_left, UsesAs, alias_answer}
+use Rattle.format.specs.Forest.{end}
 use Rattle.format.specs.Book.{Book}
+use Rattle.format.specs.Layout.{Layout, broken, whole, layout}
 use Rattle.format.specs.Admission.{Source, admitted, on_bytes}
 use Rattle.format.proofs.Admission.{asked-is}
 use Rattle.book.specs.declared.kinds.Contents.{Contents}
-use Rattle.book.specs.Tables.{blank_table, zero_table}
 use Rattle.book.specs.Reading.{Admitted}
 use Rattle.admission.specs.Admitting.{admission_of}
 use Rattle.admission.proofs.Admitting.{admission-refuses, admission-gives}
+use Rattle.refusals.specs.Verdict.{verdict_of}
 use Rattle.judgement.specs.Resolve.{resolve_actor}
 use Rattle.judgement.specs.Check.{check, check_bytes, init_check, init_check_bytes}
-use Rattle.syntax.specs.Interfaces.{is_present}
 use Rattle.typing.specs.declared.prog.Passed.{Passed}
-use Rattle.typing.specs.Passing.{PassedAs, FoundAs}
-use Rattle.typing.proofs.prog.Book.{no-actor, some-actor}
+use Rattle.typing.specs.Passing.{PassedAs, FoundAs, PassedBook}
 use Rattle.listing.specs.Room.{AfterCheck, needs_actor}
 use Rattle.listing.proofs.Room as rooms
-use Rattle.passed.specs.Stages.{BookPassed, PassAs}
+use Rattle.passed.specs.declared.CheckedBook.{CheckedBook}
+use Rattle.passed.specs.Stages.{PassAs}
 
 -- ---- What `pass` finds
-module _ (bs : Source) (roots ends' : List ℕ) where
-  pub pass-refused : {why : Refusal} → Err why ≡ admission_of (admitted bs) → roots ≡ blank_table → ends' ≡ zero_table → PassAs bs roots ends' (Err why)
-  unfolding check_bytes judged
-  pass-refused e x y = record { verdict = rw (admission-refuses bs e); passed = tt; roots-left = x; ends-left = y }
+-- bytes are one book
+of_layout : Layout → Book → Book
+of_layout broken b = b
+of_layout (whole b) c = b
 
-  -- the contents are those that admission found
-  book-passed : {p : Passed} {c : Contents} (a : Admitted bs.bytes c) → PassedAs a roots ends' p → admitted bs ≡ given a.book → BookPassed bs roots ends' p
-  book-passed {p} a x =
-      subst (λ (d : Contents). (a : Admitted bs.bytes d) → PassedAs a roots ends' p → admitted bs ≡ given a.book → BookPassed bs roots ends' p) x.contents
-      (λ a x e. record { book = record { admitted = a; passed = x }; is = e }) a x
+one-book : {bs cs : List ℕ} {c d : Contents} (x : Admitted bs c) (y : Admitted cs d) → bs ≡ cs → x.book ≡ y.book
+unfolding of_layout
+one-book x y e = ap (λ l. of_layout l x.book) (sym x.laid ∙ ap layout e ∙ y.laid)
 
-  pub pass-goes : {c : Contents} (r : Result Passed Refusal) → Ok c ≡ admission_of (admitted bs) → ((a : Admitted bs.bytes c) → FoundAs a roots ends' r) → PassAs bs roots ends' r
+module _ (bs : Source) where
+  pub pass-refused : {why : Refusal} → Err why ≡ admission_of (admitted bs) → PassAs bs (Err why)
   unfolding check_bytes judged
-  pass-goes {c} r e f =
-      let g = admission-gives bs e in
-      let x = f g.read in
-      record {
-        verdict = x.found.verdict ∙ sym (ap (judged check) g.is);
-        passed = go r x.found.passed;
-        roots-left = x.roots-left;
-        ends-left = x.ends-left;
-      }
-    where
-      go : (r : Result Passed Refusal) → IfOk r (PassedAs (admission-gives bs e).read roots ends') → IfOk r (BookPassed bs roots ends')
-      go (Ok p) x = let g = admission-gives bs e in book-passed g.read x g.is
-      go (Err why) x = tt
+  pass-refused e = record { verdict = rw (admission-refuses bs e); passed = tt }
+
+  module _ {c : Contents} (e : Ok c ≡ admission_of (admitted bs)) {roots ends' : List ℕ} {r : Result Passed Refusal}
+      (found : (a : Admitted bs.bytes c) → FoundAs a roots ends' r) where
+    x : FoundAs (admission-gives bs e).read roots ends' r
+    x = found (admission-gives bs e).read
+
+    verdict-is : verdict_of r ≡ check_bytes bs
+    unfolding check_bytes judged
+    verdict-is = x.found.verdict ∙ sym (ap (judged check) (admission-gives bs e).is)
+
+    pub check-refused : {why : Refusal} → r ≡ Err why → PassAs bs (Err why)
+    check-refused is = record { verdict = ap verdict_of (sym is) ∙ verdict-is; passed = tt }
+
+    module _ {p : Passed} (is : r ≡ Ok p) where
+      passed : PassedAs (admission-gives bs e).read roots ends' p
+      passed = subst (λ (r : Result Passed Refusal). IfOk r (PassedAs (admission-gives bs e).read roots ends')) is x.found.passed
+
+      -- the contents are those that admission found
+      pub book-passed : {d : Contents} → d ≡ c → PassedBook bs.bytes roots ends' (record { contents = d; main = p.main; interface = p.interface })
+      book-passed {d} q = subst With (passed.contents ∙ sym q) (as-found (admission-gives bs e).read passed)
+        where
+          With : Contents → Type 0
+          With d = PassedBook bs.bytes roots ends' (record { contents = d; main = p.main; interface = p.interface })
+
+          as-found : (a : Admitted bs.bytes c) → PassedAs a roots ends' p → PassedBook bs.bytes roots ends' p
+          as-found a x =
+              subst (λ (d : Contents). (a : Admitted bs.bytes d) → PassedAs a roots ends' p → PassedBook bs.bytes roots ends' p) x.contents
+              (λ a x. record { admitted = a; passed = x }) a x
+
+      pub pass-goes : (b : CheckedBook) → b.book.bytes.now ≡ bs.bytes → PassAs bs (Ok b)
+      pass-goes b here =
+          let g = admission-gives bs e in
+          record { verdict = ap verdict_of (sym is) ∙ verdict-is; passed = record { bytes = here; is = g.is ∙ ap given (one-book g.read b.passes.admitted (sym here)) } }
 
 -- ---- 17
-module _ {bs : List ℕ} {c : Contents} {a : Admitted bs c} {roots ends' : List ℕ} {p : Passed} (x : PassedAs a roots ends' p) {has : Bool}
-    (is : has ≡ is_present p.interface.actor) {A : Type 0} (o : Outcome A) where
-  pub lacks-actor : has ≡ false → after (and_then (check a.book) (needs_actor (resolve_actor a.book))) o ≡ refused NoActor
-  lacks-actor f = rooms.actor-lacks a.book o x.passed (no-actor x is f)
+module _ {bs : List ℕ} {c : Contents} {a : Admitted bs c} {roots ends' : List ℕ} {p : Passed} (x : PassedAs a roots ends' p) {A : Type 0} (o : Outcome A) where
+  pub lacks-actor : resolve_actor a.book ≡ end → after (and_then (check a.book) (needs_actor (resolve_actor a.book))) o ≡ refused NoActor
+  lacks-actor h = rooms.actor-lacks a.book o x.passed h
 
-  pub has-actor : has ≡ true → after (and_then (check a.book) (needs_actor (resolve_actor a.book))) o ≡ o
-  has-actor f = rooms.answered a.book x.passed (some-actor x is f) o
+  pub has-actor : (resolve_actor a.book ≡ end → ⊥) → after (and_then (check a.book) (needs_actor (resolve_actor a.book))) o ≡ o
+  has-actor h = rooms.answered a.book x.passed h o
 
 -- ---- A question on bytes
 module _ {A : Type 0} (question : Book → Outcome A) (bs : Source) where

@@ -3,10 +3,8 @@ ghost use Rattle.std.specs.Prelude.{◌≡◌, List, ℕ};
 ghost use Rattle.refusals.specs.Handed.{alias_answer};
 ghost use Rattle.listing.specs.Alias.{last_of, alias};
 ghost use Rattle.passed.specs.Alias.{Crossing};
-ghost use Rattle.passed.specs.Checked.{Passes};
 
 use crate::CheckedBook;
-use book::admitted::AdmittedBook;
 use environment::scope::Scope;
 use refusals::{AliasAnswer, Crossed, Refusal};
 
@@ -28,18 +26,18 @@ fn last_crossed(scope: Scope, n: u16, crossed: u16) -> u16
     last as u16
 }
 
-impl CheckedBook<'_, '_> {
+impl CheckedBook<'_> {
+    ghost use Rattle.passed.specs.Checked.{book_of};
+
     pub fn alias(&self, name: u16) -> AliasAnswer
-        requires { Passes self.now }
-        ensures { (b : Passes self.now) → result ≡ alias_answer (alias b.admitted.book name) }
+        ensures { result ≡ alias_answer (alias (book_of self.now) name) }
     {
         let n = name as usize;
-        if environment::root_of(self.roots, n).is_none() {
+        if environment::root_of(&self.roots, n).is_none() {
             return Err(Refusal::Unbound(name));
         }
-        let names = environment::names_crossed(self.ends, n);
-        let book = AdmittedBook::new(self.bytes, self.passed.contents);
-        let scope = Scope::of(book, self.roots);
+        let names = environment::names_crossed(&self.ends, n);
+        let scope = Scope::of(self.book, &self.roots);
         let last = last_crossed(scope, name, names);
         Ok(Crossed { names, last })
     }

@@ -3,34 +3,46 @@ ghost use Rattle.std.specs.Prelude.{◌≡◌};
 ghost use Rattle.refusals.specs.Handed.{HandedAs};
 ghost use Rattle.judgement.specs.Check.{init_check};
 ghost use Rattle.listing.specs.InitList.{init_list};
-ghost use Rattle.passed.specs.Checked.{Passes};
 
 use crate::CheckedBook;
 use book::read::Entry;
 use format::Limits;
-use refusals::{Answer, Verdict};
+use refusals::{Answer, Refusal, Verdict};
+use typing::init::InitArgs;
+use typing::prog::Passed;
 
-impl CheckedBook<'_, '_> {
+impl CheckedBook<'_> {
+    ghost use Rattle.book.specs.Tables.{blank_table};
+    ghost use Rattle.typing.specs.Init.{InitFoundAs};
+    ghost use Rattle.passed.specs.Checked.{book_of};
+
+    // The init arguments; the table of the definitions that they see goes into `both`, which has nothing before.
+    fn check_init_args(&self, both: &mut [u16]) -> Result<InitArgs, Refusal>
+        requires { both.old ≡ blank_table }
+        ensures { InitFoundAs self.now.passes.admitted both.new result }
+    {
+        let passed = Passed {
+            contents: self.book.contents,
+            main: self.main,
+            interface: self.interface,
+        };
+        typing::init::check_init_args(self.book.bytes, passed, &self.roots, both)
+    }
+
     pub fn init_check(&self) -> Verdict
-        requires { Passes self.now }
-        ensures { (b : Passes self.now) → result ≡ init_check b.admitted.book }
+        ensures { result ≡ init_check (book_of self.now) }
     {
         let mut both = [Entry::NO_ROOT; Limits::NAMES];
-        let found = typing::init::check_init_args(self.bytes, self.passed, self.roots, &mut both);
-        found?;
+        self.check_init_args(&mut both)?;
         Ok(())
     }
 
     pub fn init_list(&self, out: &mut [u16]) -> Answer
-        requires { Passes self.now }
-        ensures { (b : Passes self.now) → HandedAs (init_list b.admitted.book) out.old out.new result }
+        ensures { HandedAs (init_list (book_of self.now)) out.old out.new result }
     {
-        let c = self.passed.contents;
         let mut both = [Entry::NO_ROOT; Limits::NAMES];
-        let found = typing::init::check_init_args(self.bytes, self.passed, self.roots, &mut both);
-        let args = found?;
-        let rows = c.nodes(self.bytes);
-        let w = analysis::chase::chase_types(rows, &both, args.from, args.until)?;
+        let args = self.check_init_args(&mut both)?;
+        let w = analysis::chase::chase_types(self.book.nodes(), &both, args.from, args.until)?;
         refusals::hand(w.listed.as_slice(), out)
     }
 }

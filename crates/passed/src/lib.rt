@@ -2,11 +2,8 @@
 // each; the draft list's is on an admitted book. Who asks several questions of one book, as the program list does, lets it pass once.
 #![tactic(auto)]
 
-ghost use Rattle.std.specs.Prelude.{◌≡◌};
-ghost use Rattle.format.specs.Admission.{◌under◌};
-ghost use Rattle.book.specs.Tables.{blank_table, zero_table};
-ghost use Rattle.passed.specs.Stages.{PassAs};
-ghost use Rattle.passed.specs.Checked.{AreBlank};
+ghost use Rattle.typing.specs.Passing.{PassedBook};
+ghost use Rattle.passed.specs.Props.{PassedBook-prop};
 
 pub mod alias;
 pub mod draft_list;
@@ -17,74 +14,58 @@ pub mod marks;
 pub mod project;
 pub mod uses;
 
+use book::admitted::AdmittedBook;
 use book::read::Entry;
 use format::Limits;
 use refusals::Refusal;
-use typing::prog::Passed;
+use syntax::interface::Interface;
 
-// Admits a book and checks it, into tables that have nothing, and have nothing again where it is refused.
-pub fn pass(
-    book: &[u8],
-    limits: Limits,
-    roots: &mut [u16],
-    ends: &mut [u32],
-) -> Result<Passed, Refusal>
-    requires { (roots.old ≡ blank_table) × (ends.old ≡ zero_table) }
-    ensures { PassAs (book.now under limits) roots.new ends.new result }
-{
-    let admitted = admission::admit(book, limits)?;
-    typing::prog::check_prog(admitted, roots, ends)
-}
-
-// A book that passed, with the tables that its check filled. That they are of each other is asked by its methods: as a ghost field it would need a
-// proof that `PassedBook` holds in one way at most, and none was found.
-#[derive(Clone, Copy)]
-pub struct CheckedBook<'b, 't> {
-    pub bytes: &'b [u8],
-    pub passed: Passed,
-    pub roots: &'t [u16],
-    pub ends: &'t [u32],
-}
-
-// The tables that the check of a book fills: of roots and of alias ends.
+// A book that passed, with what its check found: how many definitions are not the init file's, what its actor offers, and the tables of roots and
+// of alias ends.
 #[derive(Drop)]
-pub struct Tables {
-    roots: [u16; Limits::NAMES],
-    ends: [u32; Limits::NAMES],
+pub struct CheckedBook<'b> {
+    pub book: AdmittedBook<'b>,
+    pub main: usize,
+    pub interface: Interface,
+    pub roots: [u16; Limits::NAMES],
+    pub ends: [u32; Limits::NAMES],
+    pub ghost passes: { PassedBook book.bytes.now roots ends (record { contents = book.contents; main = main; interface = interface }) } by { PassedBook-prop book.bytes.now roots ends (record { contents = book.contents; main = main; interface = interface }) },
 }
 
-impl Tables {
-    // They have nothing.
-    #[tactic(auto, unfolding(book::specs::Tables::blank_table, book::specs::Tables::zero_table))]
-    pub fn new() -> Tables
-        ensures { AreBlank result }
-    {
-        Tables {
-            roots: [Entry::NO_ROOT; Limits::NAMES],
-            ends: [0; Limits::NAMES],
-        }
-    }
+impl<'b> CheckedBook<'b> {
+    ghost use Rattle.std.specs.Prelude.{◌≡◌, IfOk, IfErr};
+    ghost use Rattle.format.specs.Forest.{end};
+    ghost use Rattle.format.specs.Admission.{◌under◌};
+    ghost use Rattle.judgement.specs.Resolve.{resolve_actor};
+    ghost use Rattle.passed.specs.Checked.{book_of};
+    ghost use Rattle.passed.specs.Stages.{PassAs};
 
     // Admits a book and checks it.
-    pub fn pass(&mut self, book: &[u8], limits: Limits) -> Result<Passed, Refusal>
-        requires { AreBlank self.old }
-        ensures { PassAs (book.now under limits) self.new.roots self.new.ends result }
+    pub fn pass(book: &'b [u8], limits: Limits) -> Result<CheckedBook<'b>, Refusal>
+        ensures { PassAs (book.now under limits) result }
     {
-        pass(book, limits, &mut self.roots, &mut self.ends)
+        let admitted = admission::admit(book, limits)?;
+        let mut roots = [Entry::NO_ROOT; Limits::NAMES];
+        let mut ends = [0; Limits::NAMES];
+        let found = typing::prog::check_prog(admitted, &mut roots, &mut ends)?;
+        Ok(CheckedBook {
+            book: admitted,
+            main: found.main,
+            interface: found.interface,
+            roots,
+            ends,
+        })
     }
 
-    // A book that passed with these tables.
-    pub fn checked<'b, 't>(&'t self, book: &'b [u8], passed: Passed) -> CheckedBook<'b, 't>
-        ensures bytes { result.bytes.now ≡ book.now }
-        ensures passed { result.passed ≡ passed }
-        ensures roots { result.roots.now ≡ self.now.roots }
-        ensures ends { result.ends.now ≡ self.now.ends }
+    // What its actor offers; 17 where it has none.
+    fn actor(&self) -> Result<&Interface, Refusal>
+        ensures some { IfOk result (λ i. (i.now ≡ self.now.interface) × (resolve_actor (book_of self.now) ≡ end → ⊥)) }
+        ensures none { IfErr result (λ why. (why ≡ Refusal.NoActor) × (resolve_actor (book_of self.now) ≡ end)) }
     {
-        CheckedBook {
-            bytes: book,
-            passed,
-            roots: &self.roots,
-            ends: &self.ends,
+        if self.interface.has_actor() {
+            Ok(&self.interface)
+        } else {
+            Err(Refusal::NoActor)
         }
     }
 }

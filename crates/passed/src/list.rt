@@ -1,22 +1,18 @@
 // The definition list: `chase_actor`.
 ghost use Rattle.refusals.specs.Handed.{HandedAs};
 ghost use Rattle.listing.specs.List.{list};
-ghost use Rattle.passed.specs.Checked.{Passes};
 
 use crate::CheckedBook;
-use refusals::{Answer, Refusal};
+use refusals::Answer;
 
-impl CheckedBook<'_, '_> {
+impl CheckedBook<'_> {
+    ghost use Rattle.passed.specs.Checked.{book_of};
+
     pub fn list(&self, out: &mut [u16]) -> Answer
-        requires { Passes self.now }
-        ensures { (b : Passes self.now) → HandedAs (list b.admitted.book) out.old out.new result }
+        ensures { HandedAs (list (book_of self.now)) out.old out.new result }
     {
-        let p = self.passed;
-        if !p.interface.has_actor() {
-            return Err(Refusal::NoActor);
-        }
-        let rows = p.contents.nodes(self.bytes);
-        let w = analysis::chase::chase_actor(rows, self.roots, p.interface)?;
+        let actor = self.actor()?;
+        let w = analysis::chase::chase_actor(self.book.nodes(), &self.roots, *actor)?;
         refusals::hand(w.listed.as_slice(), out)
     }
 }

@@ -1,22 +1,18 @@
 // The marks over a lent list of names: `infer_rec`.
 ghost use Rattle.refusals.specs.Handed.{HandedAs};
 ghost use Rattle.listing.specs.Marks.{marks_over};
-ghost use Rattle.passed.specs.Checked.{Passes};
 
 use crate::CheckedBook;
 use refusals::Answer;
 
-impl CheckedBook<'_, '_> {
+impl CheckedBook<'_> {
+    ghost use Rattle.passed.specs.Checked.{book_of};
+
     pub fn marks(&self, list: &[u16], out: &mut [u16]) -> Answer
-        requires { Passes self.now }
-        ensures { (b : Passes self.now) → HandedAs (marks_over b.admitted.book list.now) out.old out.new result }
+        ensures { HandedAs (marks_over (book_of self.now) list.now) out.old out.new result }
     {
-        let c = self.passed.contents;
-        let rows = c.nodes(self.bytes);
-        let marks = analysis::recursive::infer_rec(rows, self.roots, list)?;
-        refusals::hand(
-            analysis::hand::names_of(&marks.marked, c.names).as_slice(),
-            out,
-        )
+        let marks = analysis::recursive::infer_rec(self.book.nodes(), &self.roots, list)?;
+        let marked = analysis::hand::names_of(&marks.marked, self.book.contents.names);
+        refusals::hand(marked.as_slice(), out)
     }
 }

@@ -3,13 +3,11 @@ ghost use Rattle.std.specs.Prelude.{◌≡◌, length};
 ghost use Rattle.refusals.specs.Handed.{UsesAs};
 ghost use Rattle.listing.specs.Uses.{uses};
 ghost use Rattle.analysis.specs.Entries.{Offered};
-ghost use Rattle.passed.specs.Checked.{Passes};
 ghost use Rattle.passed.specs.Uses.{UsesHanded};
 
 use crate::CheckedBook;
 use analysis::def_use::Searched;
 use analysis::reaching::Near;
-use book::admitted::AdmittedBook;
 use format::Limits;
 use refusals::{Answer, Refusal};
 use syntax::interface::Interface;
@@ -27,27 +25,24 @@ fn hand_uses(searched: &Searched<'_>, offer: &Interface, out: &mut [u16]) -> Ans
     Ok(searched.put_uses(offer, out))
 }
 
-impl CheckedBook<'_, '_> {
+impl CheckedBook<'_> {
+    ghost use Rattle.passed.specs.Checked.{book_of};
+
     pub fn uses(&self, name: u16, out: &mut [u16]) -> Answer
-        requires { Passes self.now }
-        ensures { (b : Passes self.now) → UsesAs (uses b.admitted.book name) out.old out.new result }
+        ensures { UsesAs (uses (book_of self.now) name) out.old out.new result }
     {
-        let p = self.passed;
-        if !p.interface.has_actor() {
-            return Err(Refusal::NoActor);
-        }
+        let actor = self.actor()?;
         let wanted = name as usize;
         if Limits::NAMES <= wanted {
             return Ok(0);
         }
-        let book = AdmittedBook::new(self.bytes, p.contents);
         let mut near: Near = [0; Limits::NODES + 1];
-        analysis::reaching::find_nearest(book, p.main, wanted, &mut near);
+        analysis::reaching::find_nearest(self.book, self.main, wanted, &mut near);
         let searched = Searched {
-            rows: book.nodes(),
-            ends: self.ends,
+            rows: self.book.nodes(),
+            ends: &self.ends,
             near: &near,
         };
-        hand_uses(&searched, &p.interface, out)
+        hand_uses(&searched, actor, out)
     }
 }

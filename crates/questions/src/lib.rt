@@ -17,15 +17,24 @@ ghost use Rattle.listing.specs.Project.{project};
 ghost use Rattle.listing.specs.Empty.{emptiness};
 
 use format::Limits;
-use passed::Tables;
+use passed::CheckedBook;
 use refusals::{AliasAnswer, Answer, Verdict};
+
+// `CheckedBook::pass(book, limits)?`, written out: Rattle has no rule yet for a `?` whose value holds a reference beside a list with a model (c).
+macro_rules! pass {
+    ($book:expr, $limits:expr) => {
+        match CheckedBook::pass($book, $limits) {
+            Ok(passed) => passed,
+            Err(why) => return Err(why),
+        }
+    };
+}
 
 // Whether a book passes: refusals 1, 24, 18, 2 to 10 and 12 to 14, the first in the order of the check.
 pub fn check(book: &[u8], limits: Limits) -> Verdict
     ensures { result ≡ check_bytes (book.now under limits) }
 {
-    let mut tables = Tables::new();
-    tables.pass(book, limits)?;
+    pass!(book, limits);
     Ok(())
 }
 
@@ -33,18 +42,14 @@ pub fn check(book: &[u8], limits: Limits) -> Verdict
 pub fn init_check(book: &[u8], limits: Limits) -> Verdict
     ensures { result ≡ init_check_bytes (book.now under limits) }
 {
-    let mut tables = Tables::new();
-    let checked = tables.pass(book, limits)?;
-    tables.checked(book, checked).init_check()
+    pass!(book, limits).init_check()
 }
 
 // The definitions that the actor leads to, left to right, each after those first met inside it: the check's refusals, 17 and 16.
 pub fn list(book: &[u8], limits: Limits, out: &mut [u16]) -> Answer
     ensures { HandedAs (on_bytes list (book.now under limits)) out.old out.new result }
 {
-    let mut tables = Tables::new();
-    let passed = tables.pass(book, limits)?;
-    tables.checked(book, passed).list(out)
+    pass!(book, limits).list(out)
 }
 
 // The definitions that the init arguments lead to, main's and their own: the refusals of the init check, and 16. Nothing is listed where
@@ -52,9 +57,7 @@ pub fn list(book: &[u8], limits: Limits, out: &mut [u16]) -> Answer
 pub fn init_list(book: &[u8], limits: Limits, out: &mut [u16]) -> Answer
     ensures { HandedAs (on_bytes init_list (book.now under limits)) out.old out.new result }
 {
-    let mut tables = Tables::new();
-    let passed = tables.pass(book, limits)?;
-    tables.checked(book, passed).init_list(out)
+    pass!(book, limits).init_list(out)
 }
 
 // The list of a draft: 1, 24, 18, 17, 2, 3 and 16.
@@ -70,9 +73,7 @@ pub fn draft_list(book: &[u8], limits: Limits, out: &mut [u16]) -> Answer
 pub fn marks(book: &[u8], limits: Limits, list: &[u16], out: &mut [u16]) -> Answer
     ensures { HandedAs (on_bytes (λ b. marks_over b list.now) (book.now under limits)) out.old out.new result }
 {
-    let mut tables = Tables::new();
-    let passed = tables.pass(book, limits)?;
-    tables.checked(book, passed).marks(list, out)
+    pass!(book, limits).marks(list, out)
 }
 
 // The arguments and results from which a name is reached, an entry of three numbers for each: a method's position, or 65,535 for an argument
@@ -80,9 +81,7 @@ pub fn marks(book: &[u8], limits: Limits, list: &[u16], out: &mut [u16]) -> Answ
 pub fn uses(book: &[u8], limits: Limits, name: u16, out: &mut [u16]) -> Answer
     ensures { UsesAs (on_bytes (λ b. uses b name) (book.now under limits)) out.old out.new result }
 {
-    let mut tables = Tables::new();
-    let passed = tables.pass(book, limits)?;
-    tables.checked(book, passed).uses(name, out)
+    pass!(book, limits).uses(name, out)
 }
 
 // How many names the alias chain of a name crosses, itself among them, and the last of these, whose definition is no name: the check's refusals,
@@ -90,9 +89,7 @@ pub fn uses(book: &[u8], limits: Limits, name: u16, out: &mut [u16]) -> Answer
 pub fn alias(book: &[u8], limits: Limits, name: u16) -> AliasAnswer
     ensures { result ≡ alias_answer (on_bytes (λ b. alias b name) (book.now under limits)) }
 {
-    let mut tables = Tables::new();
-    let passed = tables.pass(book, limits)?;
-    tables.checked(book, passed).alias(name)
+    pass!(book, limits).alias(name)
 }
 
 // The positions of the methods that take the asked names, ascending; a name that is asked twice needs two methods: the check's refusals,
@@ -100,16 +97,12 @@ pub fn alias(book: &[u8], limits: Limits, name: u16) -> AliasAnswer
 pub fn project(book: &[u8], limits: Limits, asked: &[u16], out: &mut [u16]) -> Answer
     ensures { HandedAs (on_bytes (λ b. project b asked.now) (book.now under limits)) out.old out.new result }
 {
-    let mut tables = Tables::new();
-    let passed = tables.pass(book, limits)?;
-    tables.checked(book, passed).project(asked, out)
+    pass!(book, limits).project(asked, out)
 }
 
 // The names that become empty, ascending: the check's refusals and 16. No actor is needed.
 pub fn emptiness(book: &[u8], limits: Limits, out: &mut [u16]) -> Answer
     ensures { HandedAs (on_bytes emptiness (book.now under limits)) out.old out.new result }
 {
-    let mut tables = Tables::new();
-    let passed = tables.pass(book, limits)?;
-    tables.checked(book, passed).emptiness(out)
+    pass!(book, limits).emptiness(out)
 }

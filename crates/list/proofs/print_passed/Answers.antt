@@ -32,10 +32,9 @@ slice_bounds-table-end c = sym (length-take-le _ _ (given-within (marks-handed c
 pub returns : goal.returns
 returns c =
     let listed = list-handed c.requires c.list.ensures in
-    let laid = rw c.new-admitted.ensures.bytes at c.table.ensures in
     record {
       all = wider (omega arith) (list-given _ listed refl c.in_ok-count.was)
-          (marks-laid _ _ (marks-handed c.requires _ c.marks.ensures) refl (given-few listed refl c.in_ok-count.was) c.in_ok-count-2.was laid);
+          (marks-laid _ _ (marks-handed c.requires _ c.marks.ensures) refl (given-few listed refl c.in_ok-count.was) c.in_ok-count-2.was c.table.ensures);
       refused = tt;
       left = tt;
     }

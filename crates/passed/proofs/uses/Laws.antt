@@ -3,7 +3,7 @@
 --     uses-handed               the entries that are put are those of the question
 --     hands-short, hands-given  what is handed over
 use mathlib.Core.Path.{◌≡◌, refl, sym, ap, ap₂, subst, ◌∙◌}
-use mathlib.Core.Bool.{Bool, false}
+use mathlib.Core.Bool.{Bool}
 use mathlib.Core.List.{List, [], ◌∷◌, ◌++◌, map, Memᴰ}
 use Prim.Native.Nat.{ℕ, zero, suc, ◌*◌, ◌/◌, ◌≤◌, ◌<◌}
 use native.Mathlib.Decide.{dec_lt}
@@ -22,7 +22,7 @@ use Rattle.judgement.specs.Resolve.{resolve_actor}
 use Rattle.judgement.specs.WellFormed.{Defined}
 use Rattle.judgement.proofs.Lookup.{find-missing}
 use Rattle.environment.specs.Tables.{found_at}
-use Rattle.syntax.specs.Interfaces.{methods_in, InterfaceAs, is_present}
+use Rattle.syntax.specs.Interfaces.{methods_in, InterfaceAs}
 use Rattle.refusals.specs.Handed.{Answer, Use, numbers, answer_of, uses_left, UsesAs}
 use Rattle.listing.specs.Sites.{Site, class_sites, method_sites, sites}
 use Rattle.listing.specs.Uses.{kept, entry_of, uses}
@@ -65,9 +65,9 @@ module _ {bs : List ℕ} {c : Contents} {a : Admitted bs c} {roots ends' : List 
       go (yes k) = k
       go (no k) = absurd (find-missing ds m ((tabled x).0 m ∙ rw (beyond roots m (omega (arith, x.checked.table.long)))) d)
 
-  pub uses-lacks : {has : Bool} → has ≡ is_present p.interface.actor → (n : ℕ) → has ≡ false → uses b n ≡ refused NoActor
+  pub uses-lacks : (n : ℕ) → resolve_actor b ≡ end → uses b n ≡ refused NoActor
   unfolding uses
-  uses-lacks is n f = lacks-actor x is _ f
+  uses-lacks n h = lacks-actor x _ h
 
   module _ (some : resolve_actor b ≡ end → ⊥) where
     pub outside : (n : ℕ) → 1024 ≤ n → uses b n ≡ given []

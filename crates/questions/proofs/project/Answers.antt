@@ -1,18 +1,11 @@
 -- `project` meets its contract: admission, the check, and the question. Assumes nothing.
 use mathlib.Core.Path.{sym}
-use Rattle.refusals.proofs.Handing.{handed-on}
-use Rattle.passed.proofs.Asking.{stops, answered, handed-refused, handed-as}
 use Rattle.listing.proofs.Project.{project-after}
+use Rattle.passed.proofs.Asking.{stops, answered, handed-refused, handed-as}
 use Rattle.questions.proofs.project.Goals as goal
 
-pub project-requires : goal.project-requires
-project-requires c = let e = c.checked.ensures in rw (e.bytes, e.passed, e.roots, e.ends) c.in_ok-passed.ensures.passed.book
-
-pub returns-in_err-passed : goal.returns-in_err-passed
-returns-in_err-passed c = rw (handed-on c.from_residual.result c.from_residual.ensures) (handed-refused _ (stops _ _ (project-after _) (sym c.in_err-passed.ensures.verdict)))
+pub returns-in-Err : goal.returns-in-Err
+returns-in-Err c = handed-refused _ (stops _ _ (project-after _) (sym c.in-Err.ensures.verdict))
 
 pub returns : goal.returns
-returns c =
-    let e = c.checked.ensures in
-    let x = c.in_ok-passed.ensures.passed in
-    handed-as (answered _ _ x.is) ((rw (e.bytes, e.passed, e.roots, e.ends) at c.project.ensures) x.book)
+returns c = handed-as (answered _ _ c.in-Ok.ensures.passed.is) c.project.ensures

@@ -6,17 +6,17 @@ use Rattle.answer_batch.proofs.Laws.{main-within, definition-within, body-ended,
 use Rattle.answer_batch.proofs.inner.say_lookups.Goals as goal
 
 pub at-node-requires : goal.at-node-requires
-at-node-requires c = let p = c.requires in rw c.definitions-definitions.ensures (definition-within p.admitted (omega (arith, main-within p, c.loop-d-test.true)))
+at-node-requires c = let p = c.args.passed.now.passes in rw c.definitions-definitions.ensures (definition-within p.admitted (omega (arith, main-within p, c.loop-d-test.true)))
 
 pub as_func-function-requires : goal.as_func-function-requires
-as_func-function-requires c = rw c.nodes-rows.ensures (body-ended c.requires c.loop-d-test.true (rw c.definitions-definitions.ensures at c.at-node.ensures))
+as_func-function-requires c = rw c.nodes-rows.ensures (body-ended c.args.passed.now.passes c.loop-d-test.true (rw c.definitions-definitions.ensures at c.at-node.ensures))
 
 pub as_service-service-requires : goal.as_service-service-requires
-as_service-service-requires c = rw c.nodes-rows.ensures (body-ended c.requires c.loop-d-test.true (rw c.definitions-definitions.ensures at c.at-node.ensures))
+as_service-service-requires c = rw c.nodes-rows.ensures (body-ended c.args.passed.now.passes c.loop-d-test.true (rw c.definitions-definitions.ensures at c.at-node.ensures))
 
 pub top_of-top-requires : goal.top_of-top-requires
-top_of-top-requires c = rw c.nodes-rows.ensures (actor-trees c.requires (sym c.in-Some.is ∙ c.main-root.ensures))
+top_of-top-requires c = rw c.nodes-rows.ensures (actor-trees c.args.passed.now.passes (sym c.in-Some.is ∙ c.main.ensures))
 
 pub as_service-requires : goal.as_service-requires
 as_service-requires c =
-    rw c.nodes-rows.ensures (actor-ended c.requires (sym c.in-Some.is ∙ c.main-root.ensures) (rw c.nodes-rows.ensures at c.top_of-top.ensures))
+    rw c.nodes-rows.ensures (actor-ended c.args.passed.now.passes (sym c.in-Some.is ∙ c.main.ensures) (rw c.nodes-rows.ensures at c.top_of-top.ensures))

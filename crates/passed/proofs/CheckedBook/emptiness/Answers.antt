@@ -5,8 +5,6 @@ use Prim.Native.Nat.{ℕ, ◌≤◌}
 use native.Mathlib.Omega.{arith}
 use lib.ListN.{length}
 use Rattle.refusals.specs.Outcome.{given}
-use Rattle.format.specs.Forest.{count}
-use Rattle.format.specs.Book.{trees}
 use Rattle.format.specs.Layout.{nodes_part}
 use Rattle.book.specs.declared.kinds.Contents.{Contents}
 use Rattle.book.specs.Reading.{Admitted}
@@ -40,20 +38,14 @@ module _ {bs : List ℕ} {c : Contents} {a : Admitted bs c} {roots ends' : List 
         ∙ ap (λ (n : ℕ). given (replace_empty (main_definitions a.book) n)) (sym (names-are x))
         ∙ ap given (sym (h.is (main_definitions a.book) (tabled x).0) ∙ sym e)
 
-pub new-requires : goal.new-requires
-new-requires c = c.requires.admitted
+pub of-requires : goal.of-requires
+of-requires c = let x = c.args.self.now.passes.passed in rw (nodes-are x) x.checked.table
 
-pub of-scope-requires : goal.of-scope-requires
-of-scope-requires c = rw (c.new.ensures.contents, nodes-are c.requires.passed) c.requires.passed.checked.table
-
-pub names_of-requires : goal.names_of-requires
-names_of-requires c =
-    let o = c.of-scope.ensures in
-    empty-flags c.requires.passed c.of-scope.result (rw c.new.ensures.bytes at o.rows) (rw o.roots refl) (o.names ∙ ap (λ (d : Contents). d.names) c.new.ensures.contents) c.replace_empty-flags.ensures
+pub names_of-empty-requires : goal.names_of-empty-requires
+names_of-empty-requires c = let o = c.of.ensures in empty-flags c.args.self.now.passes.passed c.of.result o.rows (rw o.roots refl) o.names c.replace_empty-flags.ensures
 
 pub returns : goal.returns
 returns c =
-    let o = c.of-scope.ensures in
-    λ b. handed-as
-    (empty-given b.passed c.of-scope.result (rw c.new.ensures.bytes at o.rows) (rw o.roots refl) (o.names ∙ ap (λ (d : Contents). d.names) c.new.ensures.contents) c.replace_empty-flags.ensures c.names_of.ensures)
+    let o = c.of.ensures in
+    handed-as (empty-given c.args.self.now.passes.passed c.of.result o.rows (rw o.roots refl) o.names c.replace_empty-flags.ensures c.names_of-empty.ensures)
     (rw c.as_slice.ensures.value at c.hand.ensures)

@@ -21,14 +21,14 @@ verdict-is : {bs : List ℕ} {c : Contents} {a : Admitted bs c} {roots ends' : L
 unfolding init_check
 verdict-is x y = y.seen.verdict ∙ sym (rw x.passed)
 
-pub check_init_args-found-requires : goal.check_init_args-found-requires
+pub check_init_args-requires : goal.check_init_args-requires
 unfolding blank_table
-check_init_args-found-requires c = ((_, c.requires), refl)
+check_init_args-requires c = refl
 
-pub returns-in_err-found : goal.returns-in_err-found
-returns-in_err-found c =
+pub returns-in_err-check_init_args : goal.returns-in_err-check_init_args
+returns-in_err-check_init_args c =
     rw (handed-on c.from_residual.result c.from_residual.ensures)
-    (λ b. sym (ap verdict_of c.in_err-found.was) ∙ verdict-is b.passed (c.check_init_args-found.ensures _ b))
+    (sym (ap verdict_of c.in_err-check_init_args.was) ∙ verdict-is c.args.self.now.passes.passed c.check_init_args.ensures)
 
 pub returns : goal.returns
-returns c = λ b. sym (ap verdict_of c.in_ok-found.was) ∙ verdict-is b.passed (c.check_init_args-found.ensures _ b)
+returns c = sym (ap verdict_of c.in_ok-check_init_args.was) ∙ verdict-is c.args.self.now.passes.passed c.check_init_args.ensures

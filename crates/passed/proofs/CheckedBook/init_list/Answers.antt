@@ -68,25 +68,22 @@ module _ {bs : List ℕ} {c : Contents} {a : Admitted bs c} {roots ends' : List 
           (after-passed (init_check a.book) _ (sym (verdict-is y))
           ∙ ap (λ (t : Forest Node). walked (chase_types (both_definitions a.book) t)) (sym q.arguments))
 
-pub check_init_args-found-requires : goal.check_init_args-found-requires
+pub check_init_args-requires : goal.check_init_args-requires
 unfolding blank_table
-check_init_args-found-requires c = ((_, c.requires), refl)
+check_init_args-requires c = refl
 
 pub returns-in_err-args : goal.returns-in_err-args
 returns-in_err-args c =
     rw (handed-on c.from_residual.result c.from_residual.ensures)
-    (λ b. handed-refused _ (init-refused b.passed (subst (InitFoundAs b.admitted _) c.in_err-args.was (c.check_init_args-found.ensures _ b))))
+    (handed-refused _ (init-refused c.args.self.now.passes.passed c.in_err-args.ensures))
 
 pub chase_types-requires : goal.chase_types-requires
-chase_types-requires c =
-    let b = c.requires in arguments b.passed (subst (InitFoundAs b.admitted _) c.in_ok-args.was (c.check_init_args-found.ensures _ b)) c.nodes-rows.ensures
+chase_types-requires c = arguments c.args.self.now.passes.passed c.in_ok-args.ensures c.nodes.ensures
 
 pub returns-in_err-w : goal.returns-in_err-w
 returns-in_err-w c =
     rw (handed-on c.from_residual-in_err-w.result c.from_residual-in_err-w.ensures)
-    (λ b. handed-refused _ (init-says b.passed (subst (InitFoundAs b.admitted _) c.in_ok-args.was (c.check_init_args-found.ensures _ b)) c.nodes-rows.ensures _ c.in_err-w.ensures))
+    (handed-refused _ (init-says c.args.self.now.passes.passed c.in_ok-args.ensures c.nodes.ensures _ c.in_err-w.ensures))
 
 pub returns : goal.returns
-returns c =
-    λ b. handed-as (init-says b.passed (subst (InitFoundAs b.admitted _) c.in_ok-args.was (c.check_init_args-found.ensures _ b)) c.nodes-rows.ensures _ c.in_ok-w.ensures)
-    (rw c.as_slice.ensures.value at c.hand.ensures)
+returns c = handed-as (init-says c.args.self.now.passes.passed c.in_ok-args.ensures c.nodes.ensures _ c.in_ok-w.ensures) (rw c.as_slice.ensures.value at c.hand.ensures)

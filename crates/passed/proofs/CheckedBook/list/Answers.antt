@@ -1,6 +1,5 @@
 -- `CheckedBook::list` meets its contract. Assumes nothing.
 use mathlib.Core.Path.{◌≡◌, sym, ap, ◌∙◌, subst}
-use mathlib.Core.Bool.{Bool, true, false}
 use mathlib.Core.List.{List}
 use Prim.Native.Nat.{ℕ}
 use native.Mathlib.Omega.{arith}
@@ -8,15 +7,16 @@ use Prim.Native.Nat.{◌≤◌}
 use lib.ListN.{length}
 use Rattle.refusals.specs.declared.Refusal.TheVariants.{NoActor}
 use Rattle.refusals.specs.Outcome.{refused}
-use Rattle.format.specs.Forest.{Forest}
+use Rattle.format.specs.Forest.{Forest, end}
 use Rattle.format.specs.Node.{Node}
 use Rattle.format.specs.Layout.{nodes_part}
 use Rattle.book.specs.declared.kinds.Contents.{Contents}
 use Rattle.book.specs.Reading.{Admitted}
 use Rattle.judgement.specs.Environment.{main_definitions}
 use Rattle.judgement.specs.Actor.{class_arguments}
+use Rattle.judgement.specs.Resolve.{resolve_actor}
 use Rattle.typing.specs.declared.prog.Passed.{Passed}
-use Rattle.syntax.specs.Interfaces.{interface_tree, is_present}
+use Rattle.syntax.specs.Interfaces.{interface_tree}
 use Rattle.typing.specs.Passing.{PassedAs}
 use Rattle.syntax.proofs.interface.Laws.{tree-merged, tree-arguments}
 use Rattle.typing.proofs.prog.Book.{tabled, few}
@@ -50,33 +50,35 @@ module _ {bs : List ℕ} {c : Contents} {a : Admitted bs c} {roots ends' : List 
   counted : Counted (nodes_part bs) roots
   counted = walks.counted (main_definitions a.book) (tabled x).0 few-definitions
 
-  module _ {has : Bool} (is : has ≡ is_present p.interface.actor) where
-    list-lacks : has ≡ false → list a.book ≡ refused NoActor
+  list-lacks : resolve_actor a.book ≡ end → list a.book ≡ refused NoActor
+  unfolding list
+  list-lacks h = lacks-actor x _ h
+
+  module _ {rows : List ℕ} (here : rows ≡ nodes_part bs) (w : Result Walk Refusal) (h : WalkedAs rows roots (interface_tree rows p.interface) w) where
+    list-walks : Walks (nodes_part bs) roots (main_definitions a.book) (interface_tree (nodes_part bs) p.interface) w
+    list-walks = record { binds = (tabled x).0; few = few-definitions; comes = subst (λ (l : List ℕ). WalkedAs l roots (interface_tree l p.interface) w) here h }
+
+    list-says : (resolve_actor a.book ≡ end → ⊥) → list a.book ≡ walk_outcome w
     unfolding list
-    list-lacks f = lacks-actor x is _ f
+    list-says f =
+        walk-says list-walks
+        (has-actor x _ f ∙ ap (λ (t : Forest Node). walked (chase_types (main_definitions a.book) t)) (sym x.tree))
 
-    module _ {rows : List ℕ} (here : rows ≡ nodes_part bs) (w : Result Walk Refusal) (h : WalkedAs rows roots (interface_tree rows p.interface) w) where
-      list-walks : Walks (nodes_part bs) roots (main_definitions a.book) (interface_tree (nodes_part bs) p.interface) w
-      list-walks = record { binds = (tabled x).0; few = few-definitions; comes = subst (λ (l : List ℕ). WalkedAs l roots (interface_tree l p.interface) w) here h }
-
-      list-says : has ≡ true → list a.book ≡ walk_outcome w
-      unfolding list
-      list-says f =
-          walk-says list-walks
-          (has-actor x is _ f ∙ ap (λ (t : Forest Node). walked (chase_types (main_definitions a.book) t)) (sym x.tree))
-
-pub returns-then-not-has_actor : goal.returns-then-not-has_actor
-returns-then-not-has_actor c = λ b. handed-refused _ (list-lacks b.passed c.has_actor.ensures (c.if-not-has_actor.true))
+pub returns-in_err-actor : goal.returns-in_err-actor
+returns-in_err-actor c =
+    let e = c.in_err-actor.ensures.none in
+    rw (handed-on c.from_residual.result c.from_residual.ensures, e.0) (handed-refused _ (list-lacks c.args.self.now.passes.passed e.1))
 
 pub chase_actor-requires : goal.chase_actor-requires
-chase_actor-requires c = rw c.nodes-rows.ensures (interface-in c.requires.passed, counted c.requires.passed)
+chase_actor-requires c = let x = c.args.self.now.passes.passed in rw (c.nodes.ensures, c.in_ok-actor.ensures.some.0) (interface-in x, counted x)
 
 pub returns-in_err-w : goal.returns-in_err-w
 returns-in_err-w c =
-    rw (handed-on c.from_residual.result c.from_residual.ensures)
-    (λ b. handed-refused _ (list-says b.passed c.has_actor.ensures c.nodes-rows.ensures _ c.in_err-w.ensures c.if-not-has_actor.false))
+    let e = c.in_ok-actor.ensures.some in
+    rw (handed-on c.from_residual-in_err-w.result c.from_residual-in_err-w.ensures)
+    (handed-refused _ (list-says c.args.self.now.passes.passed c.nodes.ensures _ (rw e.0 at c.in_err-w.ensures) e.1))
 
 pub returns : goal.returns
 returns c =
-    λ b. handed-as (list-says b.passed c.has_actor.ensures c.nodes-rows.ensures _ c.in_ok-w.ensures c.if-not-has_actor.false)
-    (rw c.as_slice.ensures.value at c.hand.ensures)
+    let e = c.in_ok-actor.ensures.some in
+    handed-as (list-says c.args.self.now.passes.passed c.nodes.ensures _ (rw e.0 at c.in_ok-w.ensures) e.1) (rw c.as_slice.ensures.value at c.hand.ensures)

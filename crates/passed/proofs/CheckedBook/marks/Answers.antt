@@ -71,17 +71,17 @@ module _ {bs : List ℕ} {c : Contents} {a : Admitted bs c} {roots ends' : List 
           ∙ ap given (sym e)
 
 pub infer_rec-requires : goal.infer_rec-requires
-infer_rec-requires c = marks-from c.requires.passed c.nodes-rows.ensures
+infer_rec-requires c = marks-from c.args.self.now.passes.passed c.nodes.ensures
 
 pub returns-in_err-marks : goal.returns-in_err-marks
 returns-in_err-marks c =
     rw (handed-on c.from_residual.result c.from_residual.ensures)
-    (λ b. handed-refused _ (marks-stop b.passed c.nodes-rows.ensures _ _ c.in_err-marks.ensures))
+    (handed-refused _ (marks-stop c.args.self.now.passes.passed c.nodes.ensures _ _ c.in_err-marks.ensures))
 
-pub names_of-requires : goal.names_of-requires
-names_of-requires c = marks-ready c.requires.passed c.nodes-rows.ensures _ _ c.in_ok-marks.ensures
+pub names_of-marked-requires : goal.names_of-marked-requires
+names_of-marked-requires c = marks-ready c.args.self.now.passes.passed c.nodes.ensures _ _ c.in_ok-marks.ensures
 
 pub returns : goal.returns
 returns c =
-    λ b. handed-as (marks-given b.passed c.nodes-rows.ensures _ _ c.in_ok-marks.ensures c.names_of.ensures)
+    handed-as (marks-given c.args.self.now.passes.passed c.nodes.ensures _ _ c.in_ok-marks.ensures c.names_of-marked.ensures)
     (rw c.as_slice.ensures.value at c.hand.ensures)
