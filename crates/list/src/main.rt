@@ -80,7 +80,8 @@ fn print_passed(book: &CheckedBook, text: &mut Text) -> Verdict
     Ok(())
 }
 
-// The same of any bytes, which are admitted and checked once for both questions.
+// The same of any bytes, which are admitted and checked once for both questions. The `?` is written out: Rattle has no rule yet for one whose value
+// holds a reference beside a list with a model (c).
 fn print_answers(book: &[u8], text: &mut Text) -> Verdict
     ensures { Prints book.now text.old text.new result }
 {
