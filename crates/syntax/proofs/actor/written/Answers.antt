@@ -10,9 +10,6 @@ use Rattle.syntax.proofs.actor.written.Goals.{then-service, else-service}
 pub returns-in_default : goal.returns-in_default
 returns-in_default c = λ names nodes ds a z h q. rw c.in_default.is (written-none a c.none.ensures ds)
 
-pub top_of-top-requires : goal.top_of-top-requires
-top_of-top-requires c = let p = c.requires in (_, _, p.2, rw c.in-Some.is at p.4)
-
 pub returns : goal.returns
 returns c =
     let s = c.as_service-service.ensures in

@@ -1,6 +1,6 @@
 -- `last_child` meets its contract. Assumes nothing.
 use mathlib.Core.Path.{refl}
-use Rattle.book.proofs.Walking.{here, at, over-next, last}
+use Rattle.book.proofs.Walking.{here, at, over-next}
 use Rattle.syntax.proofs.class.Laws.{last-start, last-on}
 use Rattle.syntax.proofs.class.last_child.Goals as goal
 
@@ -14,9 +14,3 @@ loop-n-preserved c =
     let o = c.loop-n.invariant.over in
     let x = c.in-Some.ensures.steps in
     record { over = over-next o x; left = rw (x.place, at o x) (last-on c.loop-n.invariant.left (here o x)) }
-
-pub returns : goal.returns
-returns c =
-    let e = last c.loop-n.invariant.over c.in-None.ensures.steps in
-    let l = rw e at c.loop-n.invariant.left in
-    l.last c.requires

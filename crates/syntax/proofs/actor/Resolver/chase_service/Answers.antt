@@ -2,13 +2,12 @@
 use mathlib.Core.Path.{◌≡◌}
 use mathlib.Core.List.{List}
 use Prim.Native.Nat.{ℕ}
-use native.Mathlib.Omega.{arith}
 use denote.Bor.{Bor}
 use Rattle.book.proofs.Named.{book-of}
 use Rattle.environment.specs.declared.Alias.{Alias}
 use Rattle.environment.proofs.Links.{AliasAs}
 use Rattle.environment.proofs.Book.{all-trees}
-use Rattle.syntax.proofs.actor.OneService.{chased, chase-unbound, chase-circle, chase-inside, chase-ends}
+use Rattle.syntax.proofs.actor.OneService.{chased, chase-unbound, chase-circle, chase-ends}
 use Rattle.syntax.proofs.actor.Resolver.chase_service.Goals as goal
 
 -- what is said of a scope is said of what it is made of
@@ -20,20 +19,6 @@ pub new-scope-requires : goal.new-scope-requires
 new-scope-requires c =
     let s = c.args.self.now in
     rw c.nodes.ensures ((all-trees (book-of _ _ s.book.laid)).nodes, s.table)
-
-pub alias_end-chain-requires : goal.alias_end-chain-requires
-alias_end-chain-requires c = rw c.new-scope.ensures.nodes c.requires
-
-pub service_at-found-requires : goal.service_at-found-requires
-service_at-found-requires c =
-    let s = c.args.self.now in
-    let e = c.alias_end-chain.ensures in
-    let here : AliasAs c.new-scope.result.rows.now c.new-scope.result.roots.now c.new-scope.result.nodes s.main c.args.node c.alias_end-chain.result =
-    record { within = e.within; is = e.is; crossed-is = e.crossed; few = e.few } in
-    let found = in-scope c.new-scope.ensures.rows c.nodes.ensures c.new-scope.ensures.roots c.new-scope.ensures.nodes here in
-    let t = (all-trees (book-of _ _ s.book.laid)).nodes in
-    let i = chase-inside t c.args.other found c.in-Ends.is in
-    rw (c.new-scope.ensures.rows, c.nodes.ensures) (record { held = omega (arith, i, t.within.held); few = t.within.few }, omega (arith, i, t.few_nodes))
 
 pub returns-in-Unbound : goal.returns-in-Unbound
 returns-in-Unbound c =

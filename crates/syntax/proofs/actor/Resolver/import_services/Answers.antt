@@ -2,11 +2,8 @@
 use native.Mathlib.Omega.{arith}
 use Rattle.std.proofs.lemmas.Result.{err_from_is_err_and}
 use Rattle.book.proofs.Named.{book-of}
-use Rattle.syntax.proofs.actor.Merging.{services-start, number-held, import-inside, import-refused, services-on, services-end}
+use Rattle.syntax.proofs.actor.Merging.{number-held, import-inside, import-refused, services-on, services-end}
 use Rattle.syntax.proofs.actor.Resolver.import_services.Goals as goal
-
-pub loop-f-init : goal.loop-f-init
-loop-f-init c = λ root m. services-start m
 
 pub at-e-requires : goal.at-e-requires
 at-e-requires c =

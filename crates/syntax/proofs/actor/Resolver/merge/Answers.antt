@@ -12,9 +12,6 @@ returns-in_err-main c =
     let q = err_from_is_err_and c.from_residual.result c.from_residual.ensures.1 in
     λ a. rw (q.1, q.2) (main-refused a c.requires c.in_err-main.ensures)
 
-pub import_services-requires : goal.import_services-requires
-import_services-requires c = (c.requires.listed, (_, c.in_ok-main.ensures.main.serves))
-
 pub returns-in_err-services : goal.returns-in_err-services
 returns-in_err-services c =
     let q = err_from_is_err_and c.from_residual-in_err-services.result c.from_residual-in_err-services.ensures.1 in

@@ -1,13 +1,10 @@
 -- `Methods::gather` meets its contract: what is left of the methods. Assumes nothing.
-use Rattle.std.proofs.Common.{rules, tests, ◌≡◌, ◌<◌, length}
+use Rattle.std.proofs.Common.{◌<◌}
 use mathlib.Core.Path.{refl}
 use native.Mathlib.Omega.{arith}
 use Rattle.book.proofs.Walking.{here, row, at, over-next, last}
-use Rattle.syntax.proofs.hashes.Gathering.{methods-start, as-many, methods-full, services-end, service-start, service-end, name-small, service-on}
+use Rattle.syntax.proofs.hashes.Gathering.{services-end, service-start, service-end, name-small, service-on}
 use Rattle.syntax.proofs.hashes.Methods.gather.Goals as goal
-
-pub loop-s-init : goal.loop-s-init
-loop-s-init c = rw (c.new-names.ensures, c.new-hashes.ensures) (methods-start _ _)
 
 pub loop-m-init : goal.loop-m-init
 loop-m-init c =
@@ -16,11 +13,6 @@ loop-m-init c =
       over = c.new-m-items.ensures.over;
       left = rw c.new-m-items.ensures.at (service-start c.requires.0 c.loop-s.invariant c.loop-s-test.true 0 _ c.at.ensures);
     })
-
-pub returns-then-is_full : goal.returns-then-is_full
-returns-then-is_full c =
-    let full : length c.loop-m.names.items ≡ 1025 = search (rules, tests) in
-    methods-full c.loop-m.invariant.left.left full refl refl
 
 pub overflow_cast-m : goal.overflow_cast-m
 overflow_cast-m c =
@@ -35,11 +27,6 @@ bounds-table-m c =
     let x = c.in-Some.ensures.steps in
     let named : c.in-Some.m.label < 1024 = name-small c.loop-m.invariant.left (here o x) _ (row o x) in
     omega (arith, named, c.requires.1)
-
-pub push-requires-in-loop-m : goal.push-requires-in-loop-m
-push-requires-in-loop-m c =
-    let room : length c.loop-m.names.items < 1025 = search (rules, tests) in
-    (omega arith, omega (arith, room, as-many c.loop-m.invariant.left.left))
 
 pub loop-m-preserved : goal.loop-m-preserved
 loop-m-preserved c =
