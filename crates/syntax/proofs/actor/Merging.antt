@@ -39,7 +39,7 @@ use Rattle.syntax.specs.declared.interface.Interface.{Interface}
 use Rattle.syntax.specs.Files.{actor_root, Listed, listed_files, FilesPassed}
 use Rattle.syntax.specs.Classes.{tree_of}
 use Rattle.syntax.specs.Interfaces.{IsService, methods_in, main_of, actor_tree, ActorAs}
-use Rattle.syntax.specs.Resolving.{ServesAs, MainAs, MainAlone, MainService, Gathered, ServicesAs, MergedActorAs, ResolvedAs}
+use Rattle.syntax.specs.Resolving.{ServesAs, MainAs, MainAlone, Gathered, ServicesAs, MergedActorAs, ResolvedAs}
 use Rattle.refusals.proofs.Verdicts.{and_assoc}
 use Rattle.judgement.proofs.Meaning.{merged-below}
 use Rattle.syntax.proofs.Book.{main-actor-is, file-table, files-in}
@@ -98,16 +98,6 @@ pub record ServicesLeft (ns roots fs numbers : List ℕ) (nodes definitions : �
       ≡ beside (methods_of ds (below_class (tree_of ns root))) (imported_methods ds (listed_files ns fs numbers))
 
 module _ {ns roots fs numbers : List ℕ} {nodes definitions : ℕ} {root : Option ℕ} where
-  -- main
-  pub services-start : {m : List ℕ} → MainService ns roots nodes definitions root m → ServicesLeft ns roots fs numbers nodes definitions root m 0
-  services-start {m} s =
-      record {
-        few = omega (arith, s.one);
-        service = s.service;
-        verdict = λ ds t. sym (ap (λ (v : Verdict). and_then v (imported_verdict ds (listed_files ns fs numbers))) (s.passed ds t));
-        methods = λ ds t. ap (λ (q : Forest Node). beside q (imported_methods ds (listed_files ns fs numbers))) (s.methods ds t);
-      }
-
   -- each import
   module _ {services : List ℕ} {f : ℕ} (l : ServicesLeft ns roots fs numbers nodes definitions root services f) where
     module _ (h : f < length numbers) (d : ℕ) (e : Entry) (is : e ≡ entry_at fs (get_or numbers f d)) (rooted : (entry_at fs (get_or numbers f d)).root ≡ 65535 → ⊥) {m : Result ℕ Refusal}

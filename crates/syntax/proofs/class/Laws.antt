@@ -1,6 +1,6 @@
 -- What stands below a class's top. Assumes nothing.
 --     LastLeft                                     the loop of `last_child`
---     kids-some, kids-of, ends-before              what `top_of` asks
+--     kids-some, ends-before                       what `top_of` asks
 --     top-other, top-class                         what it finds
 use mathlib.Core.Path.{◌≡◌, refl, sym, ap, ◌∙◌}
 use mathlib.Core.Bool.{true, false}
@@ -13,7 +13,7 @@ use Rattle.format.specs.Node.{Node}
 use Rattle.format.specs.Encode.{Row}
 use Rattle.format.specs.Layout.{row_at, node_of, siblings}
 use Rattle.format.specs.Whole.{Whole, WholeAt, tree_at}
-use Rattle.format.proofs.Rows.{opens, kids-whole, nothing, siblings-none}
+use Rattle.format.proofs.Rows.{opens, nothing, siblings-none}
 use Rattle.format.proofs.Stored.{tree-whole, tree-opens}
 use Rattle.judgement.specs.Environment.{head_kind, kids_of}
 use Rattle.judgement.specs.Actor.{is_class, last_tree, all_but_last, class_arguments, below_class}
@@ -76,9 +76,6 @@ module _ {ns : List ℕ} {n : ℕ} (t : Top ns n) (r : Row) (is : r ≡ row_at n
   module _ (k : r.kind ≡ 25) where
     pub kids-some : n + 1 < n + r.size
     kids-some = omega (arith, t.class (ap (λ (q : Row). q.kind) (sym is) ∙ k), ap (λ (q : Row). q.size) is)
-
-    pub kids-of : Whole ns (n + 1) (n + r.size)
-    kids-of = rw is (kids-whole t.whole)
 
     class-here : is_class (tree_at ns n) ≡ true
     class-here = tree-class t.whole ∙ eq-eqb (row_at ns n).kind 25 (ap (λ (q : Row). q.kind) (sym is) ∙ k)

@@ -5,14 +5,13 @@
 --     ServiceLeft                      the same inside a service
 use mathlib.Core.Path.{◌≡◌, refl, sym, ap, subst, ◌∙◌}
 use mathlib.Core.List.{List, [], ◌∷◌, ◌++◌, map, map-append, append_assoc}
-use mathlib.Core.Logic.{inl, inr}
+use mathlib.Core.Logic.{inl}
 use Prim.Native.Nat.{ℕ, suc, ◌+◌, ◌≤◌, ◌<◌}
 use native.Mathlib.Omega.{arith}
 use lib.ListN.{length, get_or, drop, drop_of_length-le}
 use lib.Seq.{drop-cons}
 use Rattle.std.specs.Prelude.{All}
-use Rattle.std.proofs.lemmas.List.{length-map}
-use Rattle.std.proofs.lemmas.List.Elements.{All-nil, All-push}
+use Rattle.std.proofs.lemmas.List.Elements.{All-push}
 use Rattle.format.specs.Forest.{Forest, end, tree, beside}
 use Rattle.format.specs.Node.{Node, label_value}
 use Rattle.format.specs.Encode.{Row}
@@ -56,16 +55,7 @@ pub record MethodsLeft (hs : List ℕ) (all left : Forest Node) (names hashes : 
   pub small : All (λ v. v < 1024) names
   pub same : hashes ≡ map (λ v. get_or hs v 0) names
 
-pub methods-start : (hs : List ℕ) (all : Forest Node) → MethodsLeft hs all all [] []
-methods-start hs all = record { parts = refl; small = All-nil (λ v. v < 1024); same = refl }
-
 module _ {hs : List ℕ} {all left : Forest Node} {names hashes : List ℕ} (l : MethodsLeft hs all left names hashes) where
-  pub as-many : length hashes ≡ length names
-  as-many = ap length l.same ∙ length-map names _
-
-  pub methods-full : length names ≡ 1025 → {m : Methods} → m.names.items ≡ names → m.hashes.items ≡ hashes → GathersAs hs (labels_of all) m
-  methods-full f e g = record { rest = labels_of left; parts = rw e l.parts; most = inr (rw e f); small = rw e l.small; hashes = rw (e, g) l.same }
-
   pub methods-end : left ≡ end → {m : Methods} → m.names.items ≡ names → m.hashes.items ≡ hashes → GathersAs hs (labels_of all) m
   unfolding labels_of
   methods-end z e g =
