@@ -7,7 +7,7 @@ ghost use Rattle.book.specs.Reading.{Admitted};
 use format::Place;
 
 // A node's kind, as documented: its number is that of the variant. Kinds below Var hold no other type and no name.
-#[derive(Clone, Copy, PartialEq, Eq, PartialOrd, Ord, Debug)]
+#[derive(Clone, Copy, PartialEq, Eq, Debug)]
 pub enum Kind {
     Null,
     Bool,
@@ -55,7 +55,7 @@ impl Kind {
 }
 
 // A file's role.
-#[derive(Clone, Copy, PartialEq, Eq, PartialOrd, Ord, Debug)]
+#[derive(Clone, Copy, PartialEq, Eq, Debug)]
 pub enum Role {
     Main,
     TypeImport,
@@ -116,7 +116,7 @@ impl Contents {
 }
 
 // A function's mode, a digit in base 4 of its value's upper half.
-#[derive(Clone, Copy, PartialEq, Eq, PartialOrd, Ord, Debug)]
+#[derive(Clone, Copy, PartialEq, Eq, Debug)]
 pub enum Mode {
     None,
     Oneway,

@@ -65,7 +65,8 @@ pub fn layout(book: &[u8]) -> Option<Contents>
     Some(c)
 }
 
-// The bytes of a name, as a part of the book; an empty part for a broken book or a number outside the table of names.
+// The bytes of a name, as a part of the book; an empty part for a broken book or a number outside the table of names, which is what the
+// documents ask of this question, so that it answers no Option.
 pub fn name(book: &[u8], number: u16) -> &[u8]
     ensures { result.now ≡ name_in book.now number }
 {

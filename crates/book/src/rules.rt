@@ -141,7 +141,7 @@ fn rises(last: Option<&[u8]>, name: &[u8]) -> bool
     last.is_none_or(|last| before(last, name))
 }
 
-// Whether the bytes are `count` names, ascending.
+// Whether the bytes are `count` names, ascending. No walk of Names, which ends with a name that the bytes cut short: here that one is told.
 pub(crate) fn names_fine(bytes: &[u8], count: usize) -> bool
     ensures { Tells result (Names count bytes.now) }
 {

@@ -3,6 +3,7 @@
 --     distinct-one, distinct-on     the first place, and one more
 --     contains-stands               what `contains` answers
 --     sorted-distinct               what `is_sorted_by` answers, with each number below the next
+--     found-first                   what `find` gives, over the places
 use mathlib.Core.Bool.{false≢true}
 use mathlib.Core.Logic.{◌⊎◌, inl, inr}
 use mathlib.Core.Path.{◌≡◌, sym}
@@ -17,12 +18,12 @@ use lib.Seq.{take-suc, take-length}
 use Rattle.std.specs.Bool.{Decides}
 use Rattle.std.specs.List.{list_any, IsAllAdjacentAnswer}
 use Rattle.std.specs.List.Sorted.{IsStrictlyIncreasing}
-use Rattle.std.specs.Prelude.{Bool, true, false, ◌==◌, nat_lt}
-use Rattle.std.proofs.lemmas.Bool.Decides.{Decides-eqb, Decides-or, Decides-like}
+use Rattle.std.specs.Prelude.{Bool, true, false, Option, Some, None, MatchOption, ◌==◌, nat_lt}
+use Rattle.std.proofs.lemmas.Bool.Decides.{Decides-eqb, Decides-or, Decides-like, not_from_Decides}
 use Rattle.std.proofs.lemmas.List.Kept.{AllPairs-from_increasing}
 use Rattle.format.specs.Distinct.{Distinct, none, more}
 use Rattle.format.proofs.Distinct.{distinct-append}
-use Rattle.duplicates.specs.Duplicate.{StandsBefore}
+use Rattle.duplicates.specs.Duplicate.{StandsBefore, FirstDuplicate}
 
 pub stands-at : (ks : List ℕ) (n i : ℕ) {k : ℕ} → i < n → n ≤ length ks → get_or ks i 0 ≡ k → Memᴰ k (take n ks)
 stands-at ks zero i h l e = absurd (omega arith)
@@ -73,3 +74,25 @@ increasing-distinct (x ∷ ks) up =
 
 pub sorted-distinct : (ks : List ℕ) (r : Bool) → IsAllAdjacentAnswer (λ x y b. b ≡ nat_lt x y) ks r → r ≡ true → Distinct ks
 sorted-distinct ks r answer t = increasing-distinct ks (sorted-increasing ks r answer t)
+
+-- ---- The first place whose number stands before it, by `find`
+abbrev pub stands : List ℕ → ℕ → Bool
+stands ks n = list_any (λ y. y == get_or ks n 0) (take n ks)
+
+distinct-up : (ks : List ℕ) (n : ℕ) → n ≤ length ks → ((k : ℕ) → k < n → stands ks k ≡ false) → Distinct (take n ks)
+distinct-up ks zero h new = none
+distinct-up ks (suc n) h new =
+    let before = distinct-up ks n (omega arith) (λ k l. new k (omega arith)) in
+    rw (← add-one) (distinct-on ks n (omega arith) before (not_from_Decides _ (contains-stands (take n ks) (get_or ks n 0)) (new n (omega arith))))
+
+pub found-first : (ks : List ℕ) (r : Option ℕ) →
+    MatchOption r ((k : ℕ) → 0 ≤ k → k < length ks → stands ks k ≡ false)
+    (λ i. (0 ≤ i) × (i < length ks) × (stands ks i ≡ true) × ((k : ℕ) → 0 ≤ k → k < i → stands ks k ≡ false)) →
+    MatchOption r (Distinct ks) (λ i. FirstDuplicate ks i)
+found-first ks None h = let all = distinct-up ks (length ks) (omega arith) (λ k l. h k (omega arith) l) in rw (take-length ks) at all
+found-first ks (Some i) h =
+    record {
+      inside = h.1;
+      distinct = distinct-up ks i (omega (arith, h.1)) (λ k l. h.3 k (omega arith) l);
+      again = (contains-stands (take i ks) (get_or ks i 0)).0 h.2;
+    }

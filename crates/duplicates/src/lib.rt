@@ -32,12 +32,7 @@ fn ascends(keys: &[u32]) -> bool
 fn by_pairs(keys: &[u32]) -> Option<usize>
     ensures { MatchOption result (Distinct keys.now) (λ r. FirstDuplicate keys.now r) }
 {
-    for n in 0..keys.len() {
-        if keys[..n].contains(&keys[n]) {
-            return Some(n);
-        }
-    }
-    None
+    (0..keys.len()).find(|n| keys[..*n].contains(&keys[*n]))
 }
 
 // Looks for the number at place n among those before it, by its bits from the lowest on; where it is not there, links place n in.

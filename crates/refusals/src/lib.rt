@@ -45,7 +45,8 @@ pub enum Refusal {
     Short(u32),
     // 17: the question needs an actor.
     NoActor,
-    // 18: this label is that of an earlier child of the same node; NO_NAME where it is not spelled, which no label's name number is.
+    // 18: this label is that of an earlier child of the same node; NO_NAME where it is not spelled, which no label's name number is. No Option:
+    // C would be told Some(NO_NAME) and None alike, and number, name and entries would no longer settle a refusal.
     Repeated(u16),
     // 24: the book has more names, nodes or definitions than the limit.
     OverLimit,
@@ -120,7 +121,7 @@ impl Refusal {
         self.named().unwrap_or(Refusal::NO_NAME)
     }
 
-    // The entries needed, which only row 16 gives; else 0.
+    // The entries needed, which only row 16 gives; else 0 and no Option, since that is what C is told.
     pub fn needed(self) -> u32
         ensures { result ≡ needed_of self }
     {

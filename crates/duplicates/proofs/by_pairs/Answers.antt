@@ -1,15 +1,11 @@
--- `by_pairs` meets its contract: no number stands twice before the place that the loop is at. Assumes nothing.
-use Rattle.std.proofs.lemmas.Bool.Decides.{not_from_Decides}
-use lib.ListN.{get_or}
-use Rattle.format.specs.Distinct.{none}
-use Rattle.duplicates.proofs.Places.{distinct-on, contains-stands}
+-- `by_pairs` meets its contract: the first place that `find` gives. Assumes nothing.
+use Rattle.std.proofs.Common.{◌≡◌, true, false, rules, tests}
+use Rattle.std.proofs.lemmas.Iterator.{first_from_Range}
+use Rattle.duplicates.proofs.Places.{stands, found-first}
 use Rattle.duplicates.proofs.by_pairs.Goals as goal
 
-pub loop-n-init : goal.loop-n-init
-loop-n-init c = none
-
-pub returns-then-contains : goal.returns-then-contains
-returns-then-contains c = record { inside = c.loop-n-test.true; distinct = c.loop-n.invariant; again = (contains-stands _ (get_or c.args.keys.now c.loop-n.n 0)).0 (cc) }
-
-pub loop-n-preserved : goal.loop-n-preserved
-loop-n-preserved c = distinct-on _ _ c.loop-n-test.true c.loop-n.invariant (not_from_Decides _ (contains-stands _ (get_or c.args.keys.now c.loop-n.n 0)) cc)
+pub returns : goal.returns
+returns c =
+    let ks = c.args.keys.now in
+    found-first ks c.find.result
+    (first_from_Range _ _ _ _ (λ i. stands ks i ≡ true) (λ i. stands ks i ≡ false) c.find.ensures.ran (λ x q k. search (rules, tests)) (λ x q k. search (rules, tests)))
