@@ -165,7 +165,8 @@ fn check_hashes(book: AdmittedBook, services: &[u16]) -> Verdict
     crate::hashes::hashes(book.nodes(), &table, services)
 }
 
-// The actor of a book whose `main` definitions passed, with their tables.
+// The actor of a book whose `main` definitions passed, with their tables. Ends are read without imports alone, roots and `main` with them alone, so
+// that one struct of all would say less than they do.
 pub fn resolve_actor(
     book: AdmittedBook,
     files: Files,
