@@ -86,23 +86,29 @@ fn say_lookups(lines: Lines, passed: &CheckedBook) {
 }
 
 fn print_actor(lines: Lines, service: Lookup) {
-    if service.found {
-        lines.count(b" actor.", service.crossed as usize);
-    } else {
-        lines.count(b" actor-.", service.crossed as usize);
+    match service {
+        Ok(end) => lines.count(b" actor.", end.crossed as usize),
+        Err(end) => lines.count(b" actor-.", end.crossed as usize),
+    }
+}
+
+fn names_crossed(lookup: Lookup) -> usize {
+    match lookup {
+        Ok(end) => end.crossed as usize,
+        Err(end) => end.crossed as usize,
     }
 }
 
 // Both have crossed the same names, found or not: where they have not, a word says so that no stored line has.
 fn print_found(lines: Lines, function: Lookup, service: Lookup) {
-    if function.crossed != service.crossed {
+    if names_crossed(function) != names_crossed(service) {
         lines.write(b" apart");
     }
-    if function.found {
-        lines.count(b" f.", function.crossed as usize);
-    } else if service.found {
-        lines.count(b" s.", service.crossed as usize);
+    if let Ok(end) = function {
+        lines.count(b" f.", end.crossed as usize);
+    } else if let Ok(end) = service {
+        lines.count(b" s.", end.crossed as usize);
     } else {
-        lines.count(b" -.", service.crossed as usize);
+        lines.count(b" -.", names_crossed(service));
     }
 }

@@ -1,5 +1,6 @@
 -- Tables by name number, and what they say of an environment. Definitions; assumes nothing.
-use Rattle.std.specs.Prelude.{◌≡◌, Bool, false, cond, List, [], ◌∷◌, map, ℕ, ◌-◌, ◌*◌, ◌/◌, ◌%◌, ◌≤◌, ◌<◌, length, get_or, eqb, Option, Some, None, IfSome, IfNone, Err, OnOk, OnErr}
+use Rattle.std.specs.Prelude.{◌≡◌, Bool, false, cond, List, [], ◌∷◌, map, ℕ, ◌-◌, ◌*◌, ◌/◌, ◌%◌, ◌≤◌, ◌<◌, length, get_or, eqb, Option, Some, None, IfSome, IfNone, Result, Ok, Err, OnOk, OnErr}
+use Rattle.std.specs.Result.{is_ok}
 use Rattle.format.specs.Book.{Definition}
 use Rattle.format.specs.Encode.{Entry}
 use Rattle.format.specs.Layout.{run, entry_at, row_at}
@@ -13,7 +14,7 @@ use Rattle.refusals.specs.Verdict.{Verdict, passes}
 use Rattle.environment.specs.declared.End as code
 use Rattle.environment.specs.declared.End.TheVariants.{Unbound, Circle, Ends}
 use Rattle.environment.specs.declared.Link.{Link}
-use Rattle.environment.specs.declared.Lookup.{Lookup}
+use Rattle.environment.specs.declared.Reached.{Reached}
 
 -- ---- What is known of the nodes of an admitted book
 pub record Nodes (ns : List ℕ) (names count : ℕ) : Type 0 where
@@ -195,7 +196,11 @@ pub record ReachedAs (ns ends' : List ℕ) (node : ℕ) (e : Option ℕ) (crosse
   pub length-is : (s : Ended ns ends' node) (ds : List Definition) → Chains ns ends' s.names ds → crossed ≡ alias_length ds (tree_at ns node)
   pub few : (s : Ended ns ends' node) (ds : List Definition) → Chains ns ends' s.names ds → crossed ≤ length ds
 
--- What a lookup of a kind finds there.
-pub record LookupAs (kind : ℕ) (ns ends' : List ℕ) (node : ℕ) (r : Lookup) : Type 0 where
-  pub found-is : r.found ≡ end_is kind ns ends' node
-  pub reached : ReachedAs ns ends' node r.node r.crossed
+-- What a lookup of a kind finds there: the end, be it of the kind or not.
+abbrev pub reached_in : Result Reached Reached → Reached
+reached_in (Ok x) = x
+reached_in (Err x) = x
+
+pub record LookupAs (kind : ℕ) (ns ends' : List ℕ) (node : ℕ) (r : Result Reached Reached) : Type 0 where
+  pub found-is : is_ok r ≡ end_is kind ns ends' node
+  pub reached : ReachedAs ns ends' node (reached_in r).node (reached_in r).crossed

@@ -109,28 +109,20 @@ pub fn names_crossed(ends: &[u32], n: usize) -> u16
     chain_end::crossed(ends[n])
 }
 
-// What a lookup finds: the end of a chain, whether it is of the kind that is looked for, and, found or not, how many names were crossed.
-#[derive(Clone, Copy)]
-pub struct Lookup {
-    pub found: bool,
-    pub node: Option<u16>,
-    pub crossed: u16,
-}
+// What a lookup finds, found or not: the end of a chain. `Ok` where that is of the kind that is looked for.
+pub type Lookup = Result<Reached, Reached>;
 
 // Looks for a type of this kind at the end of the chain from a node.
 fn look_up(rows: &[u8], ends: &[u32], node: usize, kind: u8) -> Lookup
     requires { Ended rows.now ends.now node }
     ensures { LookupAs kind rows.now ends.now node result }
 {
-    let Reached { node: end, crossed } = end_of(rows, ends, node);
-    Lookup {
-        found: end.is_some_and(|e| Node::at(rows, e as usize).kind == kind),
-        node: end,
-        crossed,
-    }
+    let reached = end_of(rows, ends, node);
+    let found = reached.node.is_some_and(|e| Node::at(rows, e as usize).kind == kind);
+    if found { Ok(reached) } else { Err(reached) }
 }
 
-// Whether the chain from a node ends at a function: `as_func`, by the table of alias ends. It and `as_service` are names of type_env.rs.
+// Whether the chain from a node ends at a function: `as_func`, by the table of alias ends. It and `as_service`, which differ by the kind, are names of type_env.rs.
 pub fn as_func(rows: &[u8], ends: &[u32], node: usize) -> Lookup
     requires { Ended rows.now ends.now node }
     ensures { LookupAs 23 rows.now ends.now node result }

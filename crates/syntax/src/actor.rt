@@ -142,10 +142,9 @@ fn written(rows: &[u8], ends: &[u32], root: Option<usize>) -> Interface
     };
     let top = crate::class::top_of(rows, n);
     let service = environment::as_service(rows, ends, top.below);
-    let services = if service.found {
-        ByFile::from(service.node)
-    } else {
-        ByFile::new()
+    let services = match service {
+        Ok(reached) => ByFile::from(reached.node),
+        Err(_) => ByFile::new(),
     };
     Interface {
         actor: Actor::Written(n),

@@ -82,7 +82,7 @@ impl<'b, 't> Walk<'b, 't> {
     {
         match self.ends {
             None => true,
-            Some(ends) => environment::as_func(self.scope.rows, ends, n).found,
+            Some(ends) => environment::as_func(self.scope.rows, ends, n).is_ok(),
         }
     }
 

@@ -6,9 +6,13 @@ use Rattle.environment.specs.Tables.{end_is}
 use Rattle.environment.proofs.ChainEnds.{end-whole}
 use Rattle.environment.proofs.look_up.Goals as goal
 
-pub is_some_and-requires : goal.is_some_and-requires
-is_some_and-requires c = λ e is κs l v r u z. node-within (end-whole c.requires (sym is ∙ c.end_of-end.ensures.node-is))
+pub is_some_and-found-requires : goal.is_some_and-found-requires
+is_some_and-found-requires c = λ e is κs l v r u z. node-within (end-whole c.requires (sym is ∙ c.end_of-reached.ensures.node-is))
 
-pub returns : goal.returns
+pub returns-then-found : goal.returns-then-found
 unfolding end_is
-returns c = record { found-is = rw (← c.end_of-end.ensures.node-is) (search rules); reached = c.end_of-end.ensures }
+returns-then-found c = record { found-is = rw (← c.end_of-reached.ensures.node-is) (sym c.if-found.true ∙ search rules); reached = c.end_of-reached.ensures }
+
+pub returns-else-found : goal.returns-else-found
+unfolding end_is
+returns-else-found c = record { found-is = rw (← c.end_of-reached.ensures.node-is) (sym c.if-found.false ∙ search rules); reached = c.end_of-reached.ensures }

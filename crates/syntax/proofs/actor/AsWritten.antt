@@ -8,7 +8,7 @@ use native.Mathlib.Omega.{arith}
 use borrow.Author.Tests.{ne_eqb}
 use lib.Dec.{eqb}
 use lib.ListN.{length}
-use Rattle.std.specs.Prelude.{Option, Some, None, All}
+use Rattle.std.specs.Prelude.{Option, Some, None, Result, All}
 use Rattle.std.specs.Option.{option_to_list}
 use Rattle.std.proofs.lemmas.List.Elements.{All-nil, All-cons}
 use Rattle.format.specs.Forest.{Forest, end}
@@ -20,8 +20,8 @@ use Rattle.format.proofs.Trees.{beside-end}
 use Rattle.judgement.specs.Environment.{head, is_serv_kind, kids_of}
 use Rattle.judgement.specs.Aliases.{End, unbound, circle, ends, alias_end, alias_length, root_passes, as_service, methods_at}
 use Rattle.judgement.specs.Actor.{is_class, below_class}
-use Rattle.environment.specs.Tables.{EndNodes, EndAt, Chains, Ended, end_is, end_node, LookupAs}
-use Rattle.environment.specs.declared.Lookup.{Lookup}
+use Rattle.environment.specs.Tables.{EndNodes, EndAt, Chains, Ended, end_is, end_node, reached_in, LookupAs}
+use Rattle.environment.specs.declared.Reached.{Reached}
 use Rattle.environment.specs.Trees.{AllTrees}
 use Rattle.environment.proofs.FuncEnds.{stays, ends-service}
 use Rattle.environment.proofs.ChainEnds.{end-at, end-inside, end-whole}
@@ -112,8 +112,8 @@ module _ {ns ends' : List ℕ} {names count root : ℕ} (a : AllTrees ns names c
       record { names = names; count = count; nodes = a.nodes; table = z; inside = omega (arith, t.below.inside, (a.nodes.tree root h).ends) }
 
   -- below a class too: a lookup of what stands below an actor's top has crossed the names of its chain
-  pub below-length : {kind : ℕ} {r : Lookup} → LookupAs kind ns ends' top.below r → (ds : List Definition) → Chains ns ends' names ds →
-      r.crossed ≡ alias_length ds (below_class (tree_at ns root))
+  pub below-length : {kind : ℕ} {r : Result Reached Reached} → LookupAs kind ns ends' top.below r → (ds : List Definition) → Chains ns ends' names ds →
+      (reached_in r).crossed ≡ alias_length ds (below_class (tree_at ns root))
   unfolding below-ended
   below-length l ds c = l.reached.length-is below-ended ds c ∙ ap (alias_length ds) t.below.is
 

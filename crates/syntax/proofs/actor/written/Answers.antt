@@ -3,9 +3,11 @@ use mathlib.Core.Path.{◌≡◌, ap, ◌∙◌}
 use mathlib.Core.Bool.{Bool, cond}
 use mathlib.Core.List.{[]}
 use Rattle.std.specs.Option.{option_to_list}
+use Rattle.std.specs.Result.{is_ok}
+use Rattle.environment.specs.Tables.{reached_in}
 use Rattle.syntax.proofs.actor.AsWritten.{written-none, written-as}
 use Rattle.syntax.proofs.actor.written.Goals as goal
-use Rattle.syntax.proofs.actor.written.Goals.{then-service, else-service}
+use Rattle.syntax.proofs.actor.written.Goals.{in-Ok, in-Err}
 
 pub returns-in_default : goal.returns-in_default
 returns-in_default c = λ names nodes ds a z h q. rw c.in_default.is (written-none a c.none.ensures ds)
@@ -13,13 +15,14 @@ returns-in_default c = λ names nodes ds a z h q. rw c.in_default.is (written-no
 pub returns : goal.returns
 returns c =
     let s = c.as_service-service.ensures in
-    let listed : c.if-service.services ≡ cond c.as_service-service.result.found (option_to_list c.as_service-service.result.node) [] =
-    elim c.if-service.branch [
-      | then-service w ↦ rw (w.services-is, w.if-service.true) w.from-services.ensures
-      | else-service w ↦ rw (w.services-is, w.if-service.false) w.new-services.ensures
+    let r = c.as_service-service.result in
+    let listed : c.match-service.services ≡ cond (is_ok r) (option_to_list (reached_in r).node) [] =
+    elim c.match-service.branch [
+      | in-Ok w ↦ rw (w.services-is, w.in-Ok.is) w.from-services.ensures
+      | in-Err w ↦ rw (w.services-is, w.in-Err.is) w.new-services.ensures
     ] in
     λ names nodes ds a z h q.
     let inside = rw c.in-Some.is at h in
     rw c.in-Some.is
     (written-as a z (c.top_of-top.ensures _ _ a inside) inside s.reached.node-is
-    (listed ∙ ap (λ (b : Bool). cond b (option_to_list c.as_service-service.result.node) []) s.found-is) ds q)
+    (listed ∙ ap (λ (b : Bool). cond b (option_to_list (reached_in r).node) []) s.found-is) ds q)
