@@ -87,7 +87,6 @@ fn visit_fields(scope: Scope, from: usize, until: usize, marks: &mut Flags) -> b
     ensures { VisitedOf scope.entry (λ ds. visit_fields (is_empty ds scope.entry.names) (siblings scope.entry.rows.now from until)) marks.old result marks.new }
 {
     let rows = scope.rows;
-    let roots = scope.roots;
     let mut waiting: ArrayVec<Waiting, { Limits::NAMES }> = ArrayVec::new();
     let mut at = from;
     let mut end = until;
@@ -109,18 +108,16 @@ fn visit_fields(scope: Scope, from: usize, until: usize, marks: &mut Flags) -> b
             all_empty(rows, waiting.as_slice(), marks);
             return true;
         }
-        let root = roots[n];
-        if root == Entry::NO_ROOT {
+        let Some(node) = environment::root_of(scope.roots, n) else {
             marks[n] = Mark::NotEmpty as u8;
             at = i + t.size;
             continue 'walk;
-        }
+        };
         marks[n] = Mark::Visiting as u8;
         waiting.push(Waiting {
             row: i as u16,
             end: end as u16,
         });
-        let node = root as usize;
         let u = Node::at(rows, node);
         end = node + u.size;
         at = names_from(rows, node);
@@ -134,7 +131,6 @@ fn is_empty(scope: Scope, n: usize, marks: &mut Flags) -> bool
     ensures { VisitedOf scope.entry (λ ds. is_empty ds (suc scope.entry.names) n) marks.old result marks.new }
 {
     let rows = scope.rows;
-    let roots = scope.roots;
     let mark = marks[n];
     if mark == Mark::Empty as u8 {
         return true;
@@ -146,13 +142,11 @@ fn is_empty(scope: Scope, n: usize, marks: &mut Flags) -> bool
     if mark != Mark::Unvisited as u8 {
         return false;
     }
-    let root = roots[n];
-    if root == Entry::NO_ROOT {
+    let Some(node) = environment::root_of(scope.roots, n) else {
         marks[n] = Mark::NotEmpty as u8;
         return false;
-    }
+    };
     marks[n] = Mark::Visiting as u8;
-    let node = root as usize;
     let t = Node::at(rows, node);
     let until = node + t.size;
     let from = names_from(rows, node);
@@ -175,6 +169,7 @@ fn is_settled(roots: &[u16], marks: &[u8], n: usize) -> bool
     requires { (n < length roots.now) × (n < length marks.now) }
     ensures { result ≡ is_settled roots.now marks.now n }
 {
+    // Compared as stored: a `root_of` has its None beyond the table too, which the definition has not.
     roots[n] == Entry::NO_ROOT || marks[n] == Mark::Empty as u8 || marks[n] == Mark::NotEmpty as u8
 }
 

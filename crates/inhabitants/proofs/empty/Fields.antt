@@ -35,7 +35,7 @@ use Rattle.book.specs.Reading.{as_row}
 use Rattle.inhabitants.specs.Empty.{Environment, mark_of_byte, marks_of, Visited, names_from, open_row, may_be_empty, MarkEach, Unchanged, PassedOver, NextName, NextAs, Fields, new_in, new_marks, Stacked, all_empty}
 use Rattle.inhabitants.specs.declared.empty.Waiting.{Waiting}
 use Rattle.environment.proofs.Links.{head-var, head-other, found-some}
-use Rattle.inhabitants.proofs.empty.Visits.{mark-set, root-read, root-inside, visit-known, visit-dull, visit-missing, by-root, head-at, Names, names-of, whole-here, type-within, type-ends}
+use Rattle.inhabitants.proofs.empty.Visits.{mark-set, root-read, rooted-inside, visit-known, visit-dull, visit-missing, by-root, head-at, Names, names-of, whole-here, type-within, type-ends}
 
 -- ---- The next type that is a name that may be empty
 module _ (ns bytes : List ℕ) (n : ℕ) where
@@ -432,7 +432,7 @@ module _ {ns roots : List ℕ} {names from until : ℕ} {before : List ℕ} {wai
     met-fewer b set_to = new-less met-small bytes (all-marked m.left) b set_to new
 
     -- it has no definition
-    pub rows-missing : get_or roots q.value 0 ≡ 65535 →
+    pub rows-missing : get_or roots q.value 65535 ≡ 65535 →
         RowsLeft ns roots names from until before waiting (i + q.size) end (set bytes q.value 3)
     unfolding gone
     rows-missing none =
@@ -455,17 +455,14 @@ module _ {ns roots : List ℕ} {names from until : ℕ} {before : List ℕ} {wai
               ∙ ap (gone ds)
               (sym
               ((visit-missing ns roots names (names - length waiting) q.value bytes (deep l) met-small new
-              (sym (root-read l.env met-small) ∙ none)).is ds b))))
+              none).is ds b))))
               ∙ l.same ds b;
         }
 
     -- it has one
-    module _ (some : get_or roots q.value 0 ≡ 65535 → ⊥) where
-      abbrev root : ℕ
-      root = get_or roots q.value 0
-
+    module _ {root : ℕ} (some : (root ≡ get_or roots q.value 65535) × (root ≡ 65535 → ⊥)) where
       body-inside : root < m.left.env.count
-      body-inside = root-inside m.left.env met-small some
+      body-inside = rooted-inside m.left.env _ some
 
       pub root-few : root < 4096
       root-few = omega (arith, body-inside, m.left.env.nodes.few_nodes)
@@ -493,7 +490,7 @@ module _ {ns roots : List ℕ} {names from until : ℕ} {before : List ℕ} {wai
           answer ds b =
               let ms = marks_of names (set bytes q.value 2) in
               by-root ns roots names (names - length waiting) q.value bytes (deep m.left) met-small new (body (tree_at ns root))
-              (ap (found_at ns) (sym (root-read m.left.env met-small)) ∙ found-some ns root some) ds b
+              (ap (found_at ns) (sym some.0) ∙ found-some ns root some.1) ds b
               ∙ ap (store q.value) (sym (type-same m.left.env body-inside u sized starts ds (names - length waiting - 1) ms))
 
           enter-same : (ds : List Definition) → Binds ns roots ds →

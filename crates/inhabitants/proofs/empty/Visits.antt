@@ -371,3 +371,6 @@ pub env-of : (s : Scope) → Environment s.rows.now s.roots.now s.names
 env-of s =
     let d = binds-some s.rows.now s.roots.now in
     record { count = s.nodes; nodes = s.whole; table = s.bound; definitions = d.0; binds = d.1 }
+
+pub rooted-inside : {ns roots : List ℕ} {names : ℕ} (x : Environment ns roots names) (n : ℕ) {root : ℕ} → (root ≡ get_or roots n 65535) × (root ≡ 65535 → ⊥) → root < x.count
+rooted-inside x n s = rw s.0 (x.table.node n (λ e. s.1 (s.0 ∙ e)))

@@ -25,56 +25,56 @@ pub returns-then-mark-3 : goal.returns-then-mark-3
 returns-then-mark-3 c =
     laws.visit-other _ _ _ _ _ _ (laws.one-deep _) c.requires c.if-mark-3.true c.if-mark.false c.if-mark-2.false
 
-pub returns-then-root : goal.returns-then-root
-returns-then-root c =
-    laws.visit-missing _ _ _ _ _ _ (laws.one-deep _) c.requires c.if-mark-3.false (sym (laws.root-read (laws.env-of c.args.scope) c.requires) ∙ c.if-root.true)
+pub returns-in_default : goal.returns-in_default
+returns-in_default c =
+    laws.visit-missing _ _ _ _ _ _ (laws.one-deep _) c.requires c.if-mark-3.false c.in_default.ensures.none
 
 pub at-t-requires : goal.at-t-requires
 at-t-requires c =
-    laws.type-within (laws.env-of c.args.scope) (laws.root-inside (laws.env-of c.args.scope) c.requires c.if-root.false)
+    laws.type-within (laws.env-of c.args.scope) (laws.rooted-inside (laws.env-of c.args.scope) _ c.in-Some.ensures.some)
 
 pub overflow_add-until : goal.overflow_add-until
 overflow_add-until c =
     let x = (laws.env-of c.args.scope) in
-    omega (arith, laws.type-ends x (laws.root-inside x c.requires c.if-root.false) _ c.at-t.ensures, x.nodes.few_nodes)
+    omega (arith, laws.type-ends x (laws.rooted-inside x _ c.in-Some.ensures.some) _ c.at-t.ensures, x.nodes.few_nodes)
 
 pub names_from-from-requires : goal.names_from-from-requires
 names_from-from-requires c =
-    laws.type-within (laws.env-of c.args.scope) (laws.root-inside (laws.env-of c.args.scope) c.requires c.if-root.false)
+    laws.type-within (laws.env-of c.args.scope) (laws.rooted-inside (laws.env-of c.args.scope) _ c.in-Some.ensures.some)
 
 -- What the types answer is stored.
-stores : {rows roots marks : List ℕ} {names n : ℕ} (node : Node) (from : ℕ) {e : Bool} {after : List ℕ} → Environment rows roots names → (k : n < names) →
-    (get_or marks n 0 ≡ 0) → (get_or roots n 0 ≡ 65535 → ⊥) → as_row node ≡ row_at rows (get_or roots n 0) →
-    from ≡ names_from (row_at rows (get_or roots n 0)).kind (get_or roots n 0) →
-    Visited rows roots names (λ ds. visit_fields (is_empty ds names) (siblings rows from (get_or roots n 0 + node.size))) (set marks n 2) e after →
+stores : {rows roots marks : List ℕ} {names n root : ℕ} (node : Node) (from : ℕ) {e : Bool} {after : List ℕ} → Environment rows roots names → (k : n < names) →
+    (get_or marks n 0 ≡ 0) → (root ≡ get_or roots n 65535) × (root ≡ 65535 → ⊥) → as_row node ≡ row_at rows (root) →
+    from ≡ names_from (row_at rows (root)).kind (root) →
+    Visited rows roots names (λ ds. visit_fields (is_empty ds names) (siblings rows from (root + node.size))) (set marks n 2) e after →
     laws.Answered rows roots names n marks e after
 stores {marks = marks} {names = names} {n = n} node from x k new some row start v =
-    let t = type-visited x (laws.root-inside x k some) _ row start v in
-    laws.visit-type _ _ _ _ _ _ (laws.one-deep _) k new _ (laws.root-read x k) some _ _ t
+    let t = type-visited x (laws.rooted-inside x _ some) _ row start v in
+    laws.visit-type _ _ _ _ _ _ (laws.one-deep _) k new _ some.0 some.1 _ _ t
 
-module _ {rows roots : List ℕ} {names n : ℕ} (node : Node) (from : ℕ) (x : Environment rows roots names) (k : n < names) (some : get_or roots n 0 ≡ 65535 → ⊥)
-    (row : as_row node ≡ row_at rows (get_or roots n 0)) (start : from ≡ names_from (row_at rows (get_or roots n 0)).kind (get_or roots n 0)) where
-  types : Fields rows roots names from (get_or roots n 0 + node.size)
-  types = type-fields x (laws.root-inside x k some) _ row start
+module _ {rows roots : List ℕ} {names n root : ℕ} (node : Node) (from : ℕ) (x : Environment rows roots names) (k : n < names) (some : (root ≡ get_or roots n 65535) × (root ≡ 65535 → ⊥))
+    (row : as_row node ≡ row_at rows (root)) (start : from ≡ names_from (row_at rows (root)).kind (root)) where
+  types : Fields rows roots names from (root + node.size)
+  types = type-fields x (laws.rooted-inside x _ some) _ row start
 
   begun : (marks : List ℕ) → length marks ≡ 1024 → get_or marks n 0 ≡ 0 →
-      RowsLeft rows roots names from (get_or roots n 0 + node.size) (set marks n 2) [] from (get_or roots n 0 + node.size) (set marks n 2)
+      RowsLeft rows roots names from (root + node.size) (set marks n 2) [] from (root + node.size) (set marks n 2)
   begun marks long new = rows-visiting types k marks long new
 
 pub next_name-requires : goal.next_name-requires
 next_name-requires c =
-    let l = begun c.at-t.result c.names_from-from.result (laws.env-of c.args.scope) c.requires c.if-root.false c.at-t.ensures c.names_from-from.ensures _ c.told-marks c.if-mark-3.false in
+    let l = begun c.at-t.result c.names_from-from.result (laws.env-of c.args.scope) c.requires c.in-Some.ensures.some c.at-t.ensures c.names_from-from.ensures _ c.told-marks c.if-mark-3.false in
     (l.whole, rows-marks l)
 
 pub returns-then-is_none : goal.returns-then-is_none
 returns-then-is_none c =
-    let l = begun c.at-t.result c.names_from-from.result (laws.env-of c.args.scope) c.requires c.if-root.false c.at-t.ensures c.names_from-from.ensures _ c.told-marks c.if-mark-3.false in
-    stores c.at-t.result c.names_from-from.result (laws.env-of c.args.scope) c.requires c.if-mark-3.false c.if-root.false c.at-t.ensures c.names_from-from.ensures
+    let l = begun c.at-t.result c.names_from-from.result (laws.env-of c.args.scope) c.requires c.in-Some.ensures.some c.at-t.ensures c.names_from-from.ensures _ c.told-marks c.if-mark-3.false in
+    stores c.at-t.result c.names_from-from.result (laws.env-of c.args.scope) c.requires c.if-mark-3.false c.in-Some.ensures.some c.at-t.ensures c.names_from-from.ensures
     (rows-end (rows-next l (none-next c.next_name.result c.next_name.ensures (c.is_none.ensures ∙ ap not c.if-is_none.true))) (omega arith) refl) 3 (laws.mark-not-empty refl)
 
 pub visit_fields-empty-requires : goal.visit_fields-empty-requires
 visit_fields-empty-requires c = (
-  types c.at-t.result c.names_from-from.result (laws.env-of c.args.scope) c.requires c.if-root.false c.at-t.ensures c.names_from-from.ensures,
+  types c.at-t.result c.names_from-from.result (laws.env-of c.args.scope) c.requires c.in-Some.ensures.some c.at-t.ensures c.names_from-from.ensures,
   visiting-few (laws.env-of c.args.scope) c.requires c.args.marks.now c.told-marks c.if-mark-3.false,
 )
 
@@ -85,5 +85,5 @@ returns c =
       | then-empty w ↦ rw w.marks-is (laws.mark-empty w.if-empty.true)
       | else-empty w ↦ rw w.marks-is (laws.mark-not-empty w.if-empty.false)
     ] in
-    stores c.at-t.result c.names_from-from.result (laws.env-of c.args.scope) c.requires c.if-mark-3.false c.if-root.false c.at-t.ensures c.names_from-from.ensures
+    stores c.at-t.result c.names_from-from.result (laws.env-of c.args.scope) c.requires c.if-mark-3.false c.in-Some.ensures.some c.at-t.ensures c.names_from-from.ensures
     c.visit_fields-empty.ensures c.if-empty.marks stored

@@ -12,30 +12,30 @@ returns-then-marks-n c =
     let here = met c.walk.invariant c.in-Some.ensures in
     rows-stop here c.if-marks-n.true (rw c.as_slice.ensures.value at c.all_empty.ensures)
 
-pub walk-smaller-then-root : goal.walk-smaller-then-root
-walk-smaller-then-root c =
+pub walk-smaller-in_default-root_of : goal.walk-smaller-in_default-root_of
+walk-smaller-in_default-root_of c =
     let here = met c.walk.invariant c.in-Some.ensures in
     omega (arith, met-fewer here c.if-marks-n.false 3 (λ e. absurd (omega arith)))
 
-pub walk-preserved-then-root : goal.walk-preserved-then-root
-walk-preserved-then-root c =
+pub walk-preserved-in_default-root_of : goal.walk-preserved-in_default-root_of
+walk-preserved-in_default-root_of c =
     let here = met c.walk.invariant c.in-Some.ensures in
-    rows-missing here c.if-marks-n.false c.if-root.true
+    rows-missing here c.if-marks-n.false c.in_default-root_of.ensures.none
 
 pub at-u-requires-in-walk : goal.at-u-requires-in-walk
 at-u-requires-in-walk c =
     let here = met c.walk.invariant c.in-Some.ensures in
-    body-within here c.if-marks-n.false c.if-root.false
+    body-within here c.if-marks-n.false c.in-Some-root_of.ensures.some
 
 pub overflow_add-end : goal.overflow_add-end
 overflow_add-end c =
     let here = met c.walk.invariant c.in-Some.ensures in
-    omega (arith, body-few here c.if-marks-n.false c.if-root.false _ c.at-u-in-walk.ensures)
+    omega (arith, body-few here c.if-marks-n.false c.in-Some-root_of.ensures.some _ c.at-u-in-walk.ensures)
 
 pub names_from-at-requires : goal.names_from-at-requires
 names_from-at-requires c =
     let here = met c.walk.invariant c.in-Some.ensures in
-    body-within here c.if-marks-n.false c.if-root.false
+    body-within here c.if-marks-n.false c.in-Some-root_of.ensures.some
 
 pub walk-smaller : goal.walk-smaller
 walk-smaller c =
@@ -45,7 +45,7 @@ walk-smaller c =
 pub walk-preserved : goal.walk-preserved
 walk-preserved c =
     let here = met c.walk.invariant c.in-Some.ensures in
-    rw c.push.ensures.items (rows-enter here c.if-marks-n.false c.if-root.false _ c.at-u-in-walk.ensures c.names_from-at.ensures)
+    rw c.push.ensures.items (rows-enter here c.if-marks-n.false c.in-Some-root_of.ensures.some _ c.at-u-in-walk.ensures c.names_from-at.ensures)
 
 pub returns-in_default-pop : goal.returns-in_default-pop
 returns-in_default-pop c =
