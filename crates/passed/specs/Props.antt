@@ -13,6 +13,7 @@ use Rattle.judgement.specs.Aliases.{End, unbound, circle, ends}
 use Rattle.environment.specs.Tables.{EndAt}
 use Rattle.book.specs.declared.kinds.Contents.{Contents}
 use Rattle.book.specs.Reading.{contents_of, Admitted}
+use Rattle.syntax.specs.declared.interface.Interface.{Interface}
 use Rattle.typing.specs.Props as typing
 use Rattle.typing.specs.Passing.{PassedBook}
 use Rattle.typing.specs.declared.prog.Passed.{Passed}
@@ -86,5 +87,12 @@ EndAt-prop ns o (ends t) x y =
       is_prop→PathP (λ i. t ≡ tree_at ns (e i)) (λ i. Forest-set t (tree_at ns (e i))) x.2 y.2 i,
     )
 
-pub PassedBook-prop : (bs roots ends' : List ℕ) (p : Passed) → IsProp (PassedBook bs roots ends' p)
+PassedBook-prop : (bs roots ends' : List ℕ) (p : Passed) → IsProp (PassedBook bs roots ends' p)
 PassedBook-prop bs roots ends' p = Prim.hlevel (typing.props, Forest-set, Admitted-prop, EndAt-prop)
+
+-- A book passed, and this is its own: what a checked book holds.
+abbrev pub Passes : List ℕ → Contents → ℕ → Interface → List ℕ → List ℕ → Type 0
+Passes bs c main i roots ends' = PassedBook bs roots ends' (record { contents = c; main = main; interface = i })
+
+pub Passes-prop : (bs : List ℕ) (c : Contents) (main : ℕ) (i : Interface) (roots ends' : List ℕ) → IsProp (Passes bs c main i roots ends')
+Passes-prop bs c main i roots ends' = PassedBook-prop bs roots ends' (record { contents = c; main = main; interface = i })

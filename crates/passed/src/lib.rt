@@ -2,8 +2,7 @@
 // each; the draft list's is on an admitted book. Who asks several questions of one book, as the program list does, lets it pass once.
 #![tactic(auto)]
 
-ghost use Rattle.typing.specs.Passing.{PassedBook};
-ghost use Rattle.passed.specs.Props.{PassedBook-prop};
+ghost use Rattle.passed.specs.Props.{Passes, Passes-prop};
 
 pub mod alias;
 pub mod draft_list;
@@ -29,7 +28,7 @@ pub struct CheckedBook<'b> {
     pub interface: Interface,
     pub roots: [u16; Limits::NAMES],
     pub ends: [u32; Limits::NAMES],
-    pub ghost passes: { PassedBook book.bytes.now roots ends (record { contents = book.contents; main = main; interface = interface }) } by { PassedBook-prop book.bytes.now roots ends (record { contents = book.contents; main = main; interface = interface }) },
+    pub ghost passes: { Passes book.bytes.now book.contents main interface roots ends } by { Passes-prop _ _ _ _ _ _ },
 }
 
 impl<'b> CheckedBook<'b> {
