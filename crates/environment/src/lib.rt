@@ -1,6 +1,7 @@
 // What names stand for: type_env.rs. A table from name number to definition is made once a call, and so is one of alias ends, with the length of
 // each chain; both are lent by the caller, from fixed memory, so that a number in them stands for nothing: Entry::NO_ROOT, and chain_end::NONE.
-// Functions ask of their caller what an admitted book gives: nodes that are whole trees with numbers in range (specs/Tables.antt).
+// What an admitted book gives is in a Scope; functions without one ask it of their caller: nodes that are whole trees with numbers in range
+// (specs/Tables.antt).
 #![tactic(auto)]
 
 ghost use Rattle.std.specs.Prelude.{◌≡◌, List, ℕ, ◌+◌, ◌-◌, ◌/◌, ◌≤◌, ◌<◌, length, get_or, IfNone, IfSome};

@@ -91,6 +91,7 @@ impl<'b, 't> Scope<'b, 't> {
             result.crossed ≡ length (chain_from left ds (tree_at self.entry.rows.now node)).crossed }
         ensures few { result.crossed ≤ left }
     {
+        // Counted by hand: the name that would be one too many has to have a definition before it ends the chain.
         let mut at = node;
         let mut next = self.var_at(node);
         let mut crossed = 0;

@@ -112,6 +112,7 @@ impl<'b, 't> Walk<'b, 't> {
 
     // The types from node `from` up to node `until`: how many there are. They may be a service's `methods`, each of which is tested right after its
     // own type, so that the first refusal is told: one function as in the definition, `check_forest`.
+    // From and until: methods have to fit besides (`TreesIn`), of which a `Siblings` would hold one part in three.
     #[cycle(types)]
     pub(crate) fn check_types(&self, methods: bool, from: usize, until: usize) -> Answer
         requires { TreesIn self.now methods from until }
@@ -129,7 +130,8 @@ impl<'b, 't> Walk<'b, 't> {
         Ok(kids)
     }
 
-    // Whether each method of each service in the trees from node `from` up to node `until`, which may be `methods`, is a function.
+    // Whether each method of each service in the trees from node `from` up to node `until`, which may be `methods`, is a function:
+    // one function as in the definition, `methods_fit`.
     pub(crate) fn services_fit(&self, methods: bool, from: usize, until: usize) -> bool
         requires { TreesIn self.now false from until }
         ensures { IsSome self.now.ends → Under self.now (λ pre ds. result ≡ methods_fit ds methods (siblings self.now.scope.rows.now from until)) }

@@ -1,5 +1,4 @@
 -- `enter` meets its contract: what the table lacks is found in the entries that are left. Assumes nothing.
-use Prim.Native.Nat.{◌<◌}
 use mathlib.Core.Path.{sym, ◌∙◌}
 use native.Mathlib.Omega.{arith}
 use Rattle.book.proofs.Named.{book-of}

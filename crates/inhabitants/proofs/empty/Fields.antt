@@ -35,7 +35,7 @@ use Rattle.book.specs.Reading.{as_row}
 use Rattle.inhabitants.specs.Empty.{Environment, mark_of_byte, marks_of, Visited, names_from, open_row, may_be_empty, MarkEach, Unchanged, PassedOver, NextName, NextAs, Fields, new_in, new_marks, Stacked, all_empty}
 use Rattle.inhabitants.specs.declared.empty.Waiting.{Waiting}
 use Rattle.environment.proofs.Links.{head-var, head-other, found-some}
-use Rattle.inhabitants.proofs.empty.Visits.{mark-set, root-read, rooted-inside, visit-known, visit-dull, visit-missing, by-root, head-at, Names, names-of, whole-here, type-within, type-ends}
+use Rattle.inhabitants.proofs.empty.Visits.{mark-set, rooted-inside, visit-known, visit-dull, visit-missing, by-root, head-at, Names, names-of, whole-here, type-within, type-ends}
 
 -- ---- The next type that is a name that may be empty
 module _ (ns bytes : List ℕ) (n : ℕ) where

@@ -1,5 +1,5 @@
 -- The walk of `replace_empty` over stored nodes, with its marks as bytes. Assumes nothing.
---     root-small, root-read, root-inside                                      a name's root
+--     root-small, root-read, rooted-inside                                    a name's root
 --     visit-empty, visit-circle, visit-other, visit-missing, visit-type, ..   the visit of a name, by its mark and its root
 --     Names, names-of                                                         the types by which the type at its root is visited
 --     key-missing, key-answered, key-visited, KeysLeft, keys-start, ..        all names
@@ -67,9 +67,6 @@ module _ {ns roots : List ℕ} {names : ℕ} (x : Environment ns roots names) {n
 
   pub root-read : get_or roots n 0 ≡ get_or roots n 65535
   root-read = in-table {n = n} x.table root-small
-
-  pub root-inside : (get_or roots n 0 ≡ 65535 → ⊥) → get_or roots n 0 < x.count
-  root-inside some = subst (λ (r : ℕ). r < x.count) (sym root-read) (x.table.node n (λ e. some (root-read ∙ e)))
 
 -- ---- one visit
 pub one-deep : (names : ℕ) → suc names ≡ 0 → ⊥

@@ -1,7 +1,7 @@
 -- `check_entered` meets its contract. Assumes nothing.
 use Rattle.environment.proofs.BlankTable.{zero-filled}
 use Rattle.refusals.proofs.Handing.{handed-on}
-use Rattle.typing.proofs.decs.Laws.{nodes, few, tabled, table, decs-body, decs-circle, decs-unfit, decs-passed}
+use Rattle.typing.proofs.decs.Laws.{few, tabled, table, decs-body, decs-circle, decs-unfit, decs-passed}
 use Rattle.typing.proofs.decs.Decs.check_entered.Goals as goal
 
 pub returns-in_err-check_bodies : goal.returns-in_err-check_bodies
