@@ -30,24 +30,24 @@ impl<'a> AdmittedBook<'a> {
     pub fn names(self) -> &'a [u8]
         ensures { result.now ≡ names_part self.entry.bytes.now }
     {
-        self.contents.names(self.bytes)
+        &self.bytes[Contents::SIZE..self.contents.nodes_at]
     }
 
     pub fn nodes(self) -> &'a [u8]
         ensures { result.now ≡ nodes_part self.entry.bytes.now }
     {
-        self.contents.nodes(self.bytes)
+        &self.bytes[self.contents.nodes_at..self.contents.definitions_at]
     }
 
     pub fn definitions(self) -> &'a [u8]
         ensures { result.now ≡ definitions_part self.entry.bytes.now }
     {
-        self.contents.definitions(self.bytes)
+        &self.bytes[self.contents.definitions_at..self.contents.files_at]
     }
 
     pub fn files(self) -> &'a [u8]
         ensures { result.now ≡ files_part self.entry.bytes.now }
     {
-        self.contents.files(self.bytes)
+        &self.bytes[self.contents.files_at..]
     }
 }

@@ -1,8 +1,6 @@
 // The kinds, roles and modes of document 01 in the order of their numbers there, and the table of contents.
 ghost use Rattle.std.specs.Prelude.{◌≡◌};
 ghost use Rattle.format.specs.Rules.{below_kind};
-ghost use Rattle.format.specs.Layout.{names_part, nodes_part, definitions_part, files_part};
-ghost use Rattle.book.specs.Reading.{Admitted};
 
 use format::Place;
 
@@ -78,41 +76,6 @@ pub struct Contents {
 impl Contents {
     // The bytes of the table itself.
     pub const SIZE: usize = 32;
-
-    // The names' part of the book whose table this is; then its nodes', definitions' and files'.
-    pub fn names(self, book: &[u8]) -> &[u8]
-        requires { Admitted book.now self }
-        ensures { result.now ≡ names_part book.now }
-    {
-        let end = self.nodes_at;
-        &book[Contents::SIZE..end]
-    }
-
-    pub fn nodes(self, book: &[u8]) -> &[u8]
-        requires { Admitted book.now self }
-        ensures { result.now ≡ nodes_part book.now }
-    {
-        let at = self.nodes_at;
-        let end = self.definitions_at;
-        &book[at..end]
-    }
-
-    pub fn definitions(self, book: &[u8]) -> &[u8]
-        requires { Admitted book.now self }
-        ensures { result.now ≡ definitions_part book.now }
-    {
-        let at = self.definitions_at;
-        let end = self.files_at;
-        &book[at..end]
-    }
-
-    pub fn files(self, book: &[u8]) -> &[u8]
-        requires { Admitted book.now self }
-        ensures { result.now ≡ files_part book.now }
-    {
-        let at = self.files_at;
-        &book[at..]
-    }
 }
 
 // A function's mode, a digit in base 4 of its value's upper half.

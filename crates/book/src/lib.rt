@@ -13,6 +13,7 @@ mod rules;
 pub mod tables;
 pub mod walks;
 
+use crate::admitted::AdmittedBook;
 use crate::kinds::Contents;
 use crate::read::{Entry, Node};
 use crate::walks::Siblings;
@@ -71,7 +72,13 @@ pub fn name(book: &[u8], number: u16) -> &[u8]
     ensures { result.now ≡ name_in book.now number }
 {
     match layout(book) {
-        Some(c) if (number as usize) < c.names => { read::name_at(c.names(book), number as usize) }
+        Some(c) if (number as usize) < c.names => {
+            let admitted = AdmittedBook {
+                bytes: book,
+                contents: c,
+            };
+            read::name_at(admitted.names(), number as usize)
+        }
         _ => &book[0..0],
     }
 }

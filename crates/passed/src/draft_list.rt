@@ -5,7 +5,6 @@ ghost use Rattle.listing.specs.DraftList.{draft_list};
 ghost use Rattle.passed.specs.Drafts.{OwnAs, MainWritten};
 
 use book::admitted::AdmittedBook;
-use book::kinds::Contents;
 use book::read::{Entry, Node};
 use format::Limits;
 use refusals::{Answer, Refusal};
@@ -22,15 +21,15 @@ fn own_definitions(entries: &[u8], count: usize) -> usize
 }
 
 // Main's tree as written stands at this root.
-fn draft_list_written(book: &[u8], c: Contents, root: u16, out: &mut [u16]) -> Answer
-    requires { (a : Admitted book.now c) × MainWritten book.now root }
-    ensures { (a : Admitted book.now c) → HandedAs (draft_list a.book) out.old out.new result }
+fn draft_list_written(book: AdmittedBook, root: u16, out: &mut [u16]) -> Answer
+    requires { MainWritten book.bytes.now root }
+    ensures { (a : Admitted book.entry.bytes.now book.entry.contents) → HandedAs (draft_list a.book) out.old out.new result }
 {
-    let entries = c.definitions(book);
-    let own = own_definitions(entries, c.definitions);
+    let entries = book.definitions();
+    let own = own_definitions(entries, book.contents.definitions);
     let mut roots = [Entry::NO_ROOT; Limits::NAMES];
-    environment::enter(AdmittedBook::new(book, c), 0, own, &mut roots)?;
-    let rows = c.nodes(book);
+    environment::enter(book, 0, own, &mut roots)?;
+    let rows = book.nodes();
     let n = root as usize;
     let t = Node::at(rows, n);
     let w = analysis::chase::chase_types(rows, &roots, n, n + t.size)?;
@@ -38,15 +37,14 @@ fn draft_list_written(book: &[u8], c: Contents, root: u16, out: &mut [u16]) -> A
 }
 
 // Of an admitted book.
-pub fn draft_list_admitted(book: &[u8], c: Contents, out: &mut [u16]) -> Answer
-    requires { Admitted book.now c }
-    ensures { (a : Admitted book.now c) → HandedAs (draft_list a.book) out.old out.new result }
+pub fn draft_list_admitted(book: AdmittedBook, out: &mut [u16]) -> Answer
+    ensures { (a : Admitted book.entry.bytes.now book.entry.contents) → HandedAs (draft_list a.book) out.old out.new result }
 {
-    let files = c.files(book);
+    let files = book.files();
     let main = Entry::at(files, 0);
     let root = main.root;
     if root == Entry::NO_ROOT {
         return Err(Refusal::NoActor);
     }
-    draft_list_written(book, c, root, out)
+    draft_list_written(book, root, out)
 }

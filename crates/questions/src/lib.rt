@@ -65,7 +65,7 @@ pub fn draft_list(book: &[u8], limits: Limits, out: &mut [u16]) -> Answer
     ensures { HandedAs (on_bytes draft_list (book.now under limits)) out.old out.new result }
 {
     let admitted = admission::admit(book, limits)?;
-    passed::draft_list::draft_list_admitted(admitted.bytes, admitted.contents, out)
+    passed::draft_list::draft_list_admitted(admitted, out)
 }
 
 // The names that have to be boxed where these definitions are laid out in this order, ascending: the check's refusals, 3 for the first

@@ -97,11 +97,11 @@ fn check_seen(
     ensures { (roots ends : List ℕ) (x : PassedBook book.now roots ends p) → OwnPassed x.admitted own.now init p.main →
         Merged x.admitted own.now roots both.now → InitSeenAs x.admitted both.now result }
 {
-    let c = p.contents;
-    let entries = c.definitions(book);
-    let count = merged_count(entries, own, c.definitions - p.main, p.main);
-    let e = Entry::at(c.files(book), init);
-    check_arguments(AdmittedBook::new(book, c), both, count, e.root as usize)
+    let admitted = AdmittedBook::new(book, p.contents);
+    let entries = admitted.definitions();
+    let count = merged_count(entries, own, p.contents.definitions - p.main, p.main);
+    let e = Entry::at(admitted.files(), init);
+    check_arguments(admitted, both, count, e.root as usize)
 }
 
 // The init arguments of a book that passed: refusals 2 to 9 and 11. The table of the definitions that they see goes into `both`, which has

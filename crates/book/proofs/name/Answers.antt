@@ -9,9 +9,6 @@ use Rattle.book.proofs.Opened.{names-here}
 use Rattle.book.proofs.name.Goals.{in_default-via-in-Some+else-number-c, in_default-via-in_default}
 use Rattle.book.proofs.name.Goals as goal
 
-pub names-requires : goal.names-requires
-names-requires c = book-of _ _ c.in-Some.ensures
-
 pub returns-in-Some : goal.returns-in-Some
 returns-in-Some c =
     let o = book-of _ _ c.in-Some.ensures in

@@ -1,6 +1,7 @@
 -- `draft_list_written` meets its contract. Assumes nothing.
 use Rattle.environment.proofs.Book.{definitions-within}
 use Rattle.book.specs.Tables.{blank_table}
+use Rattle.book.proofs.Named.{book-of}
 use Rattle.book.proofs.Opened.{definitions-count}
 use Rattle.refusals.proofs.Handing.{handed-on}
 use Rattle.passed.proofs.Asking.{handed-refused, handed-as}
@@ -13,48 +14,48 @@ use Rattle.analysis.proofs.chase.Actor.{walked-same, written-is}
 use Rattle.passed.proofs.draft_list.draft_list_written.Goals as goal
 
 pub own_definitions-own-requires : goal.own_definitions-own-requires
-own_definitions-own-requires c = let a = c.requires.0 in rw (c.definitions-entries.ensures, definitions-count a) (definitions-within _ a.laid)
+own_definitions-own-requires c = let a = book-of _ _ c.args.book.laid in rw (c.definitions-entries.ensures, definitions-count a) (definitions-within _ a.laid)
 
 pub enter-requires : goal.enter-requires
 unfolding blank_table
 enter-requires c =
     record {
       ordered = omega arith;
-      within = rw c.new.ensures.contents (within c.requires.0 c.requires.1 c.definitions-entries.ensures c.own_definitions-own.ensures);
+      within = (within (book-of _ _ c.args.book.laid) c.requires c.definitions-entries.ensures c.own_definitions-own.ensures);
       empty = refl;
     }
 
 pub returns-in_err-enter : goal.returns-in_err-enter
 returns-in_err-enter c =
     rw (handed-on c.from_residual.result c.from_residual.ensures)
-    (λ a. handed-refused _ (draft-twice a c.requires.1 c.definitions-entries.ensures c.own_definitions-own.ensures (rw (c.new.ensures.bytes, c.new.ensures.contents) at c.enter.ensures) c.in_err-enter.was))
+    (λ a. handed-refused _ (draft-twice a c.requires c.definitions-entries.ensures c.own_definitions-own.ensures c.enter.ensures c.in_err-enter.was))
 
 pub at-t-requires : goal.at-t-requires
 at-t-requires c =
-    let ready = written c.requires.0 c.requires.1 c.definitions-entries.ensures c.own_definitions-own.ensures (rw (c.new.ensures.bytes, c.new.ensures.contents) at c.enter.ensures) c.in_ok-enter.was c.nodes-rows.ensures in
+    let ready = written (book-of _ _ c.args.book.laid) c.requires c.definitions-entries.ensures c.own_definitions-own.ensures c.enter.ensures c.in_ok-enter.was c.nodes-rows.ensures in
     here-within ready.0.rooted ready.0.node
 
 pub overflow_add-n : goal.overflow_add-n
 overflow_add-n c =
-    let ready = written c.requires.0 c.requires.1 c.definitions-entries.ensures c.own_definitions-own.ensures (rw (c.new.ensures.bytes, c.new.ensures.contents) at c.enter.ensures) c.in_ok-enter.was c.nodes-rows.ensures in
+    let ready = written (book-of _ _ c.args.book.laid) c.requires c.definitions-entries.ensures c.own_definitions-own.ensures c.enter.ensures c.in_ok-enter.was c.nodes-rows.ensures in
     omega (arith, here-small ready.0.rooted ready.0.node (ap (λ (q : Row). q.size) c.at-t.ensures))
 
 pub chase_types-requires : goal.chase_types-requires
 chase_types-requires c =
-    let ready = written c.requires.0 c.requires.1 c.definitions-entries.ensures c.own_definitions-own.ensures (rw (c.new.ensures.bytes, c.new.ensures.contents) at c.enter.ensures) c.in_ok-enter.was c.nodes-rows.ensures in
+    let ready = written (book-of _ _ c.args.book.laid) c.requires c.definitions-entries.ensures c.own_definitions-own.ensures c.enter.ensures c.in_ok-enter.was c.nodes-rows.ensures in
     (here-readable ready.0.rooted ready.0.node (ap (λ (q : Row). q.size) c.at-t.ensures), ready.1)
 
 pub returns-in_err-w : goal.returns-in_err-w
 returns-in_err-w c =
-    let ready = written c.requires.0 c.requires.1 c.definitions-entries.ensures c.own_definitions-own.ensures (rw (c.new.ensures.bytes, c.new.ensures.contents) at c.enter.ensures) c.in_ok-enter.was c.nodes-rows.ensures in
+    let ready = written (book-of _ _ c.args.book.laid) c.requires c.definitions-entries.ensures c.own_definitions-own.ensures c.enter.ensures c.in_ok-enter.was c.nodes-rows.ensures in
     rw (handed-on c.from_residual-in_err-w.result c.from_residual-in_err-w.ensures)
-    (λ a. handed-refused _ (draft-says a c.requires.1 c.definitions-entries.ensures c.own_definitions-own.ensures (rw (c.new.ensures.bytes, c.new.ensures.contents) at c.enter.ensures) c.in_ok-enter.was c.nodes-rows.ensures _
+    (λ a. handed-refused _ (draft-says a c.requires c.definitions-entries.ensures c.own_definitions-own.ensures c.enter.ensures c.in_ok-enter.was c.nodes-rows.ensures _
     (walked-same ready.1 _ (written-is _ _ _ c.at-t.ensures) c.in_err-w.ensures)))
 
 pub returns : goal.returns
 returns c =
-    let ready = written c.requires.0 c.requires.1 c.definitions-entries.ensures c.own_definitions-own.ensures (rw (c.new.ensures.bytes, c.new.ensures.contents) at c.enter.ensures) c.in_ok-enter.was c.nodes-rows.ensures in
+    let ready = written (book-of _ _ c.args.book.laid) c.requires c.definitions-entries.ensures c.own_definitions-own.ensures c.enter.ensures c.in_ok-enter.was c.nodes-rows.ensures in
     λ a. handed-as
-    (draft-says a c.requires.1 c.definitions-entries.ensures c.own_definitions-own.ensures (rw (c.new.ensures.bytes, c.new.ensures.contents) at c.enter.ensures) c.in_ok-enter.was c.nodes-rows.ensures _
+    (draft-says a c.requires c.definitions-entries.ensures c.own_definitions-own.ensures c.enter.ensures c.in_ok-enter.was c.nodes-rows.ensures _
     (walked-same ready.1 _ (written-is _ _ _ c.at-t.ensures) c.in_ok-w.ensures))
     (rw c.as_slice.ensures.value at c.hand.ensures)

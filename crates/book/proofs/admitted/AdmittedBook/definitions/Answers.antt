@@ -1,6 +1,18 @@
 -- `AdmittedBook::definitions` meets its contract. Assumes nothing.
+use Rattle.format.specs.Layout.{part}
 use Rattle.book.proofs.Named.{book-of}
+use Rattle.book.proofs.Opened.{bounds, definitions-here}
 use Rattle.book.proofs.admitted.AdmittedBook.definitions.Goals as goal
 
-pub definitions-requires : goal.definitions-requires
-definitions-requires c = book-of _ _ c.args.self.laid
+pub slice_bounds-result-count : goal.slice_bounds-result-count
+slice_bounds-result-count c = (bounds (book-of _ _ c.args.self.laid)).three
+
+pub slice_bounds-result-start : goal.slice_bounds-result-start
+slice_bounds-result-start c = (bounds (book-of _ _ c.args.self.laid)).three
+
+pub slice_bounds-result-end : goal.slice_bounds-result-end
+slice_bounds-result-end c = let b = bounds (book-of _ _ c.args.self.laid) in b.four
+
+pub returns : goal.returns
+unfolding part
+returns c = definitions-here (book-of _ _ c.args.self.laid)
