@@ -222,7 +222,7 @@ class SmallCrates(InFolder):
         self.is_wrong("environment::scope::Scope::step has to be a loop and is not there")
         folder = os.path.join(self.root, "crates", "environment", "src")
         write(os.path.join(folder, "lib.rt"), source + "pub mod scope;\n")
-        write(os.path.join(folder, "scope.rt"), "pub struct Scope;\nimpl Scope {\n    pub fn step(self, n: u64) -> u64 { n }\n}\n")
+        write(os.path.join(folder, "scope.rt"), "#[derive(Clone, Copy)]\npub struct Scope;\nimpl Scope {\n    pub fn step(self, n: u64) -> u64 { n }\n}\n")
         self.is_wrong("environment::scope::Scope::alias_end has to be a loop and is not there")
 
     def test_usage(self):
