@@ -47,7 +47,6 @@ module _ (ds : List Definition) where
   visit_names (suc k) n (going seen out) = meet_name (λ t. each (visit_names k) (references t)) n (member n seen) (find_type ds n) seen out
 
   each-same : (f g : ℕ → Walk → Walk) → ((n : ℕ) (w : Walk) → f n w ≡ g n w) → (l : List ℕ) (w : Walk) → each f l w ≡ each g l w
-  unfolding each
   each-same f g h [] w = refl
   each-same f g h (n ∷ l) w = ap (each f l) (h n w) ∙ each-same f g h l (g n w)
 
@@ -80,7 +79,6 @@ module _ (ds : List Definition) where
   visit-stopped (suc k) n m = refl
 
   each-stopped : (k : ℕ) (l : List ℕ) (m : ℕ) → each (visit_names k) l (unbound m) ≡ unbound m
-  unfolding each
   each-stopped k [] m = refl
   each-stopped k (n ∷ l) m = ap (each (visit_names k) l) (visit-stopped k n m) ∙ each-stopped k l m
 
@@ -120,7 +118,6 @@ module _ (ds : List Definition) where
 
   each-done : (k : ℕ) → ((n : ℕ) (s o : List ℕ) → Fresh s → Enough k s → Met n s o (visit_names k n (going s o))) →
       (l s o : List ℕ) → Fresh s → Enough k s → Done l s o (each (visit_names k) l (going s o))
-  unfolding each
   each-done k v [] s o f h = done
   each-done k v (n ∷ l) s o f h = next (visit_names k n (going s o)) (v n s o f h) (each-done k v l)
     where
@@ -192,11 +189,10 @@ module _ (ds : List Definition) where
 
     each-on : (n : ℕ) (l s o : List ℕ) {v w : Walk} → Runs (λ k. visit_names k n (going s o)) v → Runs (λ k. each (visit_names k) l v) w →
         Runs (λ k. each (visit_names k) (n ∷ l) (going s o)) w
-    unfolding each
     each-on n l s o p q = (p.0 + q.0, λ k h. ap (each (visit_names k) l) (p.1 k (omega arith)) ∙ q.1 k (omega arith))
 
     run-rules : Rules ds MeetsRun ChasesRun
-    unfolding push each
+    unfolding push
     run-rules = record {
       at-again = λ {n} {s} {o} i. (0, λ k h. visit-again k n s o i);
       at-anew = λ {n} {s} {o} {s'} {o'} new i e c q. visit-over n s o (going s' o') new i e q;

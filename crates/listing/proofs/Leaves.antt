@@ -1,6 +1,6 @@
 -- A walk over trees is a walk over the names that they refer to, from left to right. Assumes that leaves have no children, as in a book
 -- that fits.
---     each, each-append              steps at names from left to right
+--     each                           steps at names from left to right
 --     Leafy, fits-leafy, ..          leaves have no children: trees that fit, and those that are made of them
 --     chase-each                     the walk over trees
 --     resolved-leafy, init-leafy, .. the trees of a book
@@ -10,6 +10,8 @@ use mathlib.Core.List.{List, [], ◌∷◌, ◌++◌, append_assoc, Memᴰ}
 use Prim.Native.Nat.{ℕ, suc}
 use native.Mathlib.Omega.{arith}
 use lib.Dec.{T, eqb, ltb, eqb→eq}
+use Rattle.std.specs.List.{fold}
+use Rattle.std.proofs.lemmas.List.Sums.{fold-append}
 use Rattle.format.specs.declared.Place.{Place}
 use Rattle.format.specs.declared.Place.TheVariants.{Root}
 use Rattle.format.specs.Forest.{Forest, end, tree, breadth, beside}
@@ -30,14 +32,9 @@ use Rattle.judgement.proofs.Books.{main-definitions-fit, init-definitions-fit, m
 use Rattle.listing.specs.Chase.{Walk, arm, chase}
 
 -- ---- Names from left to right
-unfoldable pub each : {S : Type 0} → (ℕ → S → S) → List ℕ → S → S
-each meet [] s = s
-each meet (n ∷ l) s = each meet l (meet n s)
-
-pub each-append : {S : Type 0} (meet : ℕ → S → S) (l m : List ℕ) (s : S) → each meet (l ++ m) s ≡ each meet m (each meet l s)
-unfolding each
-each-append meet [] m s = refl
-each-append meet (n ∷ l) m s = each-append meet l m (meet n s)
+-- The library's `fold`, with the name before the state, as steps at names have it.
+abbrev pub each : {S : Type 0} → (ℕ → S → S) → List ℕ → S → S
+each meet l s = fold (λ s n. meet n s) s l
 
 -- ---- Leaves have no children
 abbrev pub Bare : Kind → Forest Node → Type 0
@@ -86,7 +83,7 @@ fits-leafy names p (tree n kids next) t =
 module _ (meet : ℕ → Walk → Walk) where
   arm-each : (κ : Kind) (kids : Forest Node) → Bare κ kids → ((w : Walk) → chase meet kids w ≡ each meet (references kids) w) → (w : Walk) →
       arm meet (chase meet kids) κ w ≡ each meet (reference_of κ ++ references kids) w
-  unfolding arm reference_of each references
+  unfolding arm reference_of references
   arm-each (PrimT p) kids bare below w = rw bare
   arm-each (VarT n) kids bare below w = rw bare
   arm-each OptT kids bare below w = below w
@@ -99,12 +96,12 @@ module _ (meet : ℕ → Walk → Walk) where
   arm-each InitT kids bare below w = below w
 
   pub chase-each : (f : Forest Node) → Leafy f → (w : Walk) → chase meet f w ≡ each meet (references f) w
-  unfolding chase references each
+  unfolding chase references
   chase-each end leafy w = refl
   chase-each (tree n kids next) leafy w =
       chase-each next leafy.2 (arm meet (chase meet kids) n.kind w)
       ∙ ap (each meet (references next)) (arm-each n.kind kids leafy.0 (chase-each kids leafy.1) w)
-      ∙ sym (each-append meet (reference_of n.kind ++ references kids) (references next) w)
+      ∙ sym (fold-append (λ s n. meet n s) w (reference_of n.kind ++ references kids) (references next))
       ∙ ap (λ (l : List ℕ). each meet l w) (append_assoc (reference_of n.kind) (references kids) (references next))
 
 -- ---- The trees of a book

@@ -14,6 +14,7 @@ use native.Mathlib.Decide.{ℕ_discrete}
 use native.Mathlib.Omega.{arith}
 use lib.Dec.{T}
 use lib.ListN.{length, length-append}
+use Rattle.std.proofs.lemmas.List.Sums.{fold-append}
 use Rattle.format.specs.Forest.{Forest, end, tree}
 use Rattle.format.specs.Node.{Kind, PrimT, VarT, OptT, VecT, RecordT, VariantT, FuncT, ServT, ClassT, InitT, Node}
 use Rattle.format.specs.Book.{Definition}
@@ -27,7 +28,7 @@ use Rattle.judgement.proofs.Lookup.{member-says, listed-or-not, found-cases, Fou
 use Rattle.listing.specs.Recursive.{Marks, marking, unbound, note, note_name, mark_arm, go, see, listed, infer_from, infer_rec, sorted}
 use Rattle.listing.specs.Marks.{AtPlace, MarkedBy, AllDefined, FirstUnbound}
 use Rattle.listing.specs.References.{Refers}
-use Rattle.listing.proofs.Leaves.{each, each-append, Bare, Leafy, LeafyBodies}
+use Rattle.listing.proofs.Leaves.{each, Bare, Leafy, LeafyBodies}
 
 -- ---- A list by its first name
 no-place : {A : Type 0} {P : List ℕ → ℕ → Type 0} → AtPlace [] P → A
@@ -66,7 +67,7 @@ module _ {u : ℕ} {l : List ℕ} where
 -- ---- A definition is gone through by its references, one after the other
 arm-each : (κ : Kind) (kids : Forest Node) → Bare κ kids → (s : Marks) → go kids s ≡ each note_name (references kids) s →
     mark_arm (go kids) κ s ≡ each note_name (reference_of κ ++ references kids) s
-unfolding mark_arm reference_of references each
+unfolding mark_arm reference_of references
 arm-each (PrimT p) kids bare s below = rw bare
 arm-each (VarT n) kids bare s below = rw bare
 arm-each OptT kids bare s below = below
@@ -79,13 +80,13 @@ arm-each ClassT kids bare s below = below
 arm-each InitT kids bare s below = below
 
 pub go-each : (f : Forest Node) → Leafy f → (s : Marks) → go f s ≡ each note_name (references f) s
-unfolding go references each
+unfolding go references
 go-each end leafy s = refl
 go-each (tree n kids next) leafy s =
     let κ = n.kind in
     ap (go next) (arm-each κ kids leafy.0 s (go-each kids leafy.1 s))
     ∙ go-each next leafy.2 (each note_name (reference_of κ ++ references kids) s)
-    ∙ sym (each-append note_name (reference_of κ ++ references kids) (references next) s)
+    ∙ sym (fold-append (λ s n. note_name n s) s (reference_of κ ++ references kids) (references next))
     ∙ ap (λ (l : List ℕ). each note_name l s) (append_assoc (reference_of κ) (references kids) (references next))
 
 -- ---- What has been marked: p are the names gone through, Q is what is marked so far
@@ -160,7 +161,6 @@ name-noted {p} {Q} {s} v h = look (member v h.seen) refl (member-says v h.seen)
     }
 
 all-noted : {p : List ℕ} {Q : ℕ → Type 0} {s : Marks} (vs : List ℕ) → Noted p Q s → Noted p (OrIn p Q vs) (each note_name vs s)
-unfolding each
 all-noted [] h = noted-as (λ n. (inl, ⊎_elim (λ q. q) (λ x. absurd (Memᴰ.not-nil x.0)))) h
 all-noted {p} {Q} (v ∷ vs) h = noted-as (λ n. (join n, part n)) (all-noted {Q = OrIn p Q (v ∷ [])} vs (name-noted v h))
   where

@@ -67,7 +67,6 @@ module _ (ds : List Definition) where
   visit-stopped (suc k) n m = refl
 
   pub each-stopped : (d : ℕ) (l : List ℕ) (m : ℕ) → each (visit d ds) l (unbound m) ≡ unbound m
-  unfolding each
   each-stopped d [] m = refl
   each-stopped d (n ∷ l) m = ap (each (visit d ds) l) (visit-stopped d n m) ∙ each-stopped d l m
 
@@ -88,12 +87,10 @@ module _ (ds : List Definition) where
 -- ---- Rows: the next name, and those that change nothing
 module _ (ns : List ℕ) (ds : List Definition) (d : ℕ) (s : State) where
   pub rows-none : (i e : ℕ) → e ≤ i → each (visit d ds) (row_names ns i e) s ≡ s
-  unfolding each
   rows-none i e h = ap (λ (l : List ℕ). each (visit d ds) l s) (names-none ns i e h)
 
   pub rows-name : (i e : ℕ) → i < e → (row_at ns i).kind ≡ 18 →
       each (visit d ds) (row_names ns i e) s ≡ each (visit d ds) (row_names ns (i + 1) e) (visit d ds (row_at ns i).value s)
-  unfolding each
   rows-name i e h k = ap (λ (l : List ℕ). each (visit d ds) l s) (names-name ns i e h k)
 
 module _ {ns : List ℕ} {names count : ℕ} (nodes : Nodes ns names count) (marks : List ℕ) (ds : List Definition) (k : ℕ) (seen out : List ℕ) (a : Agrees marks seen) (e : ℕ) (inside : e ≤ count) where

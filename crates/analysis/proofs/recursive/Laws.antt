@@ -61,7 +61,7 @@ known-on : {vs l m : List ℕ} → Known vs l → Grows l m → Known vs m
 known-on k g = record { each-is = λ v i. g.keeps v (k.each-is v i) }
 
 each-known : (vs seen set' : List ℕ) → Known vs seen → each note_name vs (marking seen set') ≡ marking seen set'
-unfolding each note_name note
+unfolding note_name note
 each-known [] seen set' k = refl
 each-known (v ∷ vs) seen set' k =
     ap (λ (b : Bool). each note_name vs (note v b seen set')) (k.each-is v (Memᴰ.head refl))
@@ -76,7 +76,7 @@ record After (vs seen set' : List ℕ) : Type 0 where
   known : Known vs now-seen
 
 each-after : (vs seen set' : List ℕ) → After vs seen set'
-unfolding each note_name note
+unfolding note_name note
 each-after [] seen set' =
     record { now-seen = seen; now-set = set'; state = refl; grows = record { keeps = λ v e. e }; known = record { each-is = λ v i. absurd (Memᴰ.not-nil i) } }
 each-after (v ∷ vs) seen set' = look (member v seen) refl (each-after vs)

@@ -137,7 +137,6 @@ pub record GoLeft (ns : List ℕ) (root until : ℕ) (m v : Marks) (i : ℕ) : T
 module _ {ns : List ℕ} {root until : ℕ} {m : Marks} where
   module _ {v : Marks} {i : ℕ} (l : GoLeft ns root until m v i) where
     pub go-end : NodeIn ns root → until ≤ i → GoneThrough (tree_at ns root) m v
-    unfolding each
     go-end n h s k =
         let x = l.noting s k in
         subst (λ (t : listing.Marks). MarksHold t (Ok v))
@@ -162,7 +161,6 @@ module _ {ns : List ℕ} {root until : ℕ} {m : Marks} where
       go-other d = go-on (λ s. s) (λ s. ap (λ (q : List ℕ). each note_name q s) (names-other ns i until h (λ e. d (ap (λ (z : Row). z.kind) is ∙ e)))) (λ s k. k)
 
       go-name : r.kind ≡ 18 → {w : Marks} → ((s : listing.Marks) → MarksHold s (Ok v) → MarksHold (note_name r.value s) (Ok w)) → GoLeft ns root until m w (i + 1)
-      unfolding each
       go-name e =
           go-on (note_name r.value)
           (λ s. ap (λ (q : List ℕ). each note_name q s) (names-name ns i until h (ap (λ (z : Row). z.kind) (sym is) ∙ e) ∙ ap (λ (z : Row). z.value ∷ row_names ns (i + 1) until) (sym is)))
