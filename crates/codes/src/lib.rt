@@ -8,7 +8,7 @@ ghost use Rattle.codes.specs.Coded.{coded, low_of, coded_by, coded_answer, coded
 
 use refusals::{AliasAnswer, Answer, Refusal, Verdict};
 
-// A refusal's number stands above what it tells: a name's number, or the entries needed. C wants one number, so no enum comes here.
+// A refusal's number stands above what it tells: a name's number, or the entries needed. The C interface asks for one number, so no enum comes here.
 const BELOW: u64 = 65536;
 
 // There may be more uses.

@@ -1,2 +1,2 @@
--- What is answered with so many places.
-pub mod Places
+-- What is handed over to C.
+pub mod Handed

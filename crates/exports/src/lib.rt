@@ -1,8 +1,9 @@
 // What programs in other languages link: `#[unsafe(no_mangle)] pub extern "C"` functions over byte slices, with numbers for limits and answers. Each
 // promises the number (`answer`), that the arithmetic of include/ludzepin.h gives back from it what is said (`read`), and the lent list (`left`).
+// The C interface asks for it: limits in three numbers, one number for an answer, names by number, and a list whose entries the answer counts.
 #![tactic(auto)]
 
-ghost use Rattle.std.specs.Prelude.{◌≡◌, ◌/◌, length};
+ghost use Rattle.std.specs.Prelude.{◌≡◌};
 ghost use Rattle.format.specs.Admission.{◌under◌, on_bytes};
 ghost use Rattle.judgement.specs.Check.{check_bytes, init_check_bytes};
 ghost use Rattle.listing.specs.List.{list};
@@ -13,9 +14,9 @@ ghost use Rattle.listing.specs.Uses.{uses};
 ghost use Rattle.listing.specs.Alias.{alias};
 ghost use Rattle.listing.specs.Project.{project};
 ghost use Rattle.listing.specs.Empty.{emptiness};
-ghost use Rattle.refusals.specs.Handed.{answer_of, left_in, uses_left, alias_answer};
-ghost use Rattle.codes.specs.Coded.{coded, coded_answer, coded_uses, coded_alias, ReadVerdict, ReadAnswer, ReadUses, ReadAlias};
-ghost use Rattle.exports.specs.Places.{limits_of, in_places};
+ghost use Rattle.refusals.specs.Handed.{alias_answer};
+ghost use Rattle.codes.specs.Coded.{coded, coded_alias, ReadVerdict, ReadAlias};
+ghost use Rattle.exports.specs.Handed.{limits_of, CodedAs, UsesCodedAs};
 
 use format::Limits;
 
@@ -59,11 +60,7 @@ pub extern "C" fn ludzepin_list(
     definitions: u32,
     out: &mut [u16],
 ) -> u32
-    ensures answer { result ≡
-        coded_answer (answer_of (in_places list (book.now under limits_of names nodes definitions) (length out.old))) }
-    ensures read { ReadAnswer (answer_of (in_places list (book.now under limits_of names nodes definitions) (length out.old))) result }
-    ensures left { out.new ≡
-        left_in (in_places list (book.now under limits_of names nodes definitions) (length out.old)) out.old }
+    ensures { CodedAs (on_bytes list (book.now under limits_of names nodes definitions)) out.old out.new result }
 {
     let limits = limits_of(names, nodes, definitions);
     codes::answer_code(questions::list(book, limits, out))
@@ -78,11 +75,7 @@ pub extern "C" fn ludzepin_init_list(
     definitions: u32,
     out: &mut [u16],
 ) -> u32
-    ensures answer { result ≡
-        coded_answer (answer_of (in_places init_list (book.now under limits_of names nodes definitions) (length out.old))) }
-    ensures read { ReadAnswer (answer_of (in_places init_list (book.now under limits_of names nodes definitions) (length out.old))) result }
-    ensures left { out.new ≡
-        left_in (in_places init_list (book.now under limits_of names nodes definitions) (length out.old)) out.old }
+    ensures { CodedAs (on_bytes init_list (book.now under limits_of names nodes definitions)) out.old out.new result }
 {
     let limits = limits_of(names, nodes, definitions);
     codes::answer_code(questions::init_list(book, limits, out))
@@ -97,11 +90,7 @@ pub extern "C" fn ludzepin_draft_list(
     definitions: u32,
     out: &mut [u16],
 ) -> u32
-    ensures answer { result ≡
-        coded_answer (answer_of (in_places draft_list (book.now under limits_of names nodes definitions) (length out.old))) }
-    ensures read { ReadAnswer (answer_of (in_places draft_list (book.now under limits_of names nodes definitions) (length out.old))) result }
-    ensures left { out.new ≡
-        left_in (in_places draft_list (book.now under limits_of names nodes definitions) (length out.old)) out.old }
+    ensures { CodedAs (on_bytes draft_list (book.now under limits_of names nodes definitions)) out.old out.new result }
 {
     let limits = limits_of(names, nodes, definitions);
     codes::answer_code(questions::draft_list(book, limits, out))
@@ -117,11 +106,7 @@ pub extern "C" fn ludzepin_marks(
     list: &[u16],
     out: &mut [u16],
 ) -> u32
-    ensures answer { result ≡
-        coded_answer (answer_of (in_places (λ b. marks_over b list.now) (book.now under limits_of names nodes definitions) (length out.old))) }
-    ensures read { ReadAnswer (answer_of (in_places (λ b. marks_over b list.now) (book.now under limits_of names nodes definitions) (length out.old))) result }
-    ensures left { out.new ≡
-        left_in (in_places (λ b. marks_over b list.now) (book.now under limits_of names nodes definitions) (length out.old)) out.old }
+    ensures { CodedAs (on_bytes (λ b. marks_over b list.now) (book.now under limits_of names nodes definitions)) out.old out.new result }
 {
     let limits = limits_of(names, nodes, definitions);
     codes::answer_code(questions::marks(book, limits, list, out))
@@ -136,11 +121,7 @@ pub extern "C" fn ludzepin_emptiness(
     definitions: u32,
     out: &mut [u16],
 ) -> u32
-    ensures answer { result ≡
-        coded_answer (answer_of (in_places emptiness (book.now under limits_of names nodes definitions) (length out.old))) }
-    ensures read { ReadAnswer (answer_of (in_places emptiness (book.now under limits_of names nodes definitions) (length out.old))) result }
-    ensures left { out.new ≡
-        left_in (in_places emptiness (book.now under limits_of names nodes definitions) (length out.old)) out.old }
+    ensures { CodedAs (on_bytes emptiness (book.now under limits_of names nodes definitions)) out.old out.new result }
 {
     let limits = limits_of(names, nodes, definitions);
     codes::answer_code(questions::emptiness(book, limits, out))
@@ -156,11 +137,7 @@ pub extern "C" fn ludzepin_project(
     asked: &[u16],
     out: &mut [u16],
 ) -> u32
-    ensures answer { result ≡
-        coded_answer (answer_of (in_places (λ b. project b asked.now) (book.now under limits_of names nodes definitions) (length out.old))) }
-    ensures read { ReadAnswer (answer_of (in_places (λ b. project b asked.now) (book.now under limits_of names nodes definitions) (length out.old))) result }
-    ensures left { out.new ≡
-        left_in (in_places (λ b. project b asked.now) (book.now under limits_of names nodes definitions) (length out.old)) out.old }
+    ensures { CodedAs (on_bytes (λ b. project b asked.now) (book.now under limits_of names nodes definitions)) out.old out.new result }
 {
     let limits = limits_of(names, nodes, definitions);
     codes::answer_code(questions::project(book, limits, asked, out))
@@ -176,11 +153,7 @@ pub extern "C" fn ludzepin_uses(
     name: u16,
     out: &mut [u16],
 ) -> u64
-    ensures answer { result ≡
-        coded_uses (answer_of (in_places (λ b. uses b name) (book.now under limits_of names nodes definitions) (length out.old / 3))) }
-    ensures read { ReadUses (answer_of (in_places (λ b. uses b name) (book.now under limits_of names nodes definitions) (length out.old / 3))) result }
-    ensures left { out.new ≡
-        uses_left (in_places (λ b. uses b name) (book.now under limits_of names nodes definitions) (length out.old / 3)) out.old }
+    ensures { UsesCodedAs (on_bytes (λ b. uses b name) (book.now under limits_of names nodes definitions)) out.old out.new result }
 {
     let limits = limits_of(names, nodes, definitions);
     codes::uses_code(questions::uses(book, limits, name, out))

@@ -1,9 +1,9 @@
 -- `ludzepin_emptiness` meets its contract. Assumes nothing.
-use mathlib.Core.Path.{sym, ap, subst, ◌∙◌}
+use mathlib.Core.Path.{sym, subst}
 use native.Mathlib.Omega.{arith}
-use Rattle.refusals.specs.Handed.{Answer}
-use Rattle.codes.specs.Coded.{coded_answer, Below, small, ReadAnswer}
+use Rattle.codes.specs.Coded.{Below, small}
 use Rattle.exports.proofs.Small.{most-below}
+use Rattle.exports.proofs.Handed.{coded-as}
 use Rattle.listing.proofs.Empty.{emptiness-bytes-most}
 use Rattle.exports.proofs.ludzepin_emptiness.Goals as goal
 
@@ -13,6 +13,5 @@ answer_code-requires c =
 
 pub returns : goal.returns
 returns c =
-    let said = rw c.limits_of-limits.ensures at c.emptiness.ensures in
     let code = c.answer_code.ensures in
-    record { answer = code.answer ∙ ap coded_answer said.answer; read = subst (λ (a : Answer). ReadAnswer a c.answer_code.result) said.answer code.read; left = said.left }
+    coded-as (rw c.limits_of-limits.ensures at c.emptiness.ensures) code.answer code.read
