@@ -1,8 +1,5 @@
 // The names to be boxed: `infer_rec`. Asks for a book's nodes and its table of roots. A definition's rows are gone through in order, in the loop
 // over the list itself. A name listed again is passed over: all that its definition refers to is seen by then.
-ghost use Rattle.std.specs.Prelude.{◌≡◌, length, get_or};
-ghost use Rattle.analysis.specs.Book.{Rooted};
-ghost use Rattle.analysis.specs.Marking.{nothing_marked, Begun, InferredAs};
 
 use book::kinds::Kind;
 use book::read::Node;
@@ -18,9 +15,13 @@ pub struct Marks {
 }
 
 impl Marks {
+    ghost use Rattle.std.specs.Prelude.{◌≡◌};
+    ghost use Rattle.analysis.specs.Book.{Rooted};
+    ghost use Rattle.analysis.specs.Marking.{nothing_marked, Begun, InferredAs};
+
     // Marks before any name is listed.
     #[tactic(auto, unfolding(crate::specs::Marking::nothing_marked, book::specs::Tables::no_flags))]
-    fn new() -> Marks
+    pub fn new() -> Marks
         ensures { result ≡ nothing_marked }
     {
         Marks {
@@ -28,38 +29,38 @@ impl Marks {
             marked: [0; Limits::NAMES],
         }
     }
-}
 
-// Name by name of the list: what its definition refers to is marked, save what was seen, that is, listed before or marked already.
-// The first listed name without definition stops it.
-pub fn infer_rec(rows: &[u8], roots: &[u16], list: &[u16]) -> Result<Marks, Refusal>
-    requires { Rooted rows.now roots.now × Begun rows.now roots.now nothing_marked }
-    ensures { InferredAs rows.now roots.now list.now nothing_marked result }
-{
-    let mut marks = Marks::new();
-    let mut done: Flags = [0; Limits::NAMES];
-    for name in list {
-        let n = *name as usize;
-        let Some(from) = environment::root_of(roots, n) else {
-            return Err(Refusal::Unbound(*name));
-        };
-        if done[n] == 1 {
-            continue;
-        }
-        let t = Node::at(rows, from);
-        for k in from..from + t.size {
-            let row = Node::at(rows, k);
-            if row.kind != Kind::Var as u8 {
+    // Name by name of the list: what its definition refers to is marked, save what was seen, that is, listed before or marked already.
+    // The first listed name without definition stops it.
+    pub fn infer_rec(self, rows: &[u8], roots: &[u16], list: &[u16]) -> Result<Marks, Refusal>
+        requires { Rooted rows.now roots.now × Begun rows.now roots.now self }
+        ensures { InferredAs rows.now roots.now list.now self result }
+    {
+        let mut marks = self;
+        let mut done: Flags = [0; Limits::NAMES];
+        for name in list {
+            let n = *name as usize;
+            let Some(from) = environment::root_of(roots, n) else {
+                return Err(Refusal::Unbound(*name));
+            };
+            if done[n] == 1 {
                 continue;
             }
-            let met = row.value as usize;
-            if marks.seen[met] != 1 {
-                marks.seen[met] = 1;
-                marks.marked[met] = 1;
+            let t = Node::at(rows, from);
+            for k in from..from + t.size {
+                let row = Node::at(rows, k);
+                if row.kind != Kind::Var as u8 {
+                    continue;
+                }
+                let met = row.value as usize;
+                if marks.seen[met] != 1 {
+                    marks.seen[met] = 1;
+                    marks.marked[met] = 1;
+                }
             }
+            marks.seen[n] = 1;
+            done[n] = 1;
         }
-        marks.seen[n] = 1;
-        done[n] = 1;
+        Ok(marks)
     }
-    Ok(marks)
 }

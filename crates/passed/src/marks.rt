@@ -3,6 +3,7 @@ ghost use Rattle.refusals.specs.Handed.{HandedAs};
 ghost use Rattle.listing.specs.Marks.{marks_over};
 
 use crate::CheckedBook;
+use analysis::recursive::Marks;
 use refusals::Answer;
 
 impl CheckedBook<'_> {
@@ -11,7 +12,7 @@ impl CheckedBook<'_> {
     pub fn marks(&self, list: &[u16], out: &mut [u16]) -> Answer
         ensures { HandedAs (marks_over (book_of self.now) list.now) out.old out.new result }
     {
-        let marks = analysis::recursive::infer_rec(self.book.nodes(), &self.roots, list)?;
+        let marks = Marks::new().infer_rec(self.book.nodes(), &self.roots, list)?;
         let marked = analysis::hand::names_of(&marks.marked, self.book.contents.names);
         refusals::hand(marked.as_slice(), out)
     }

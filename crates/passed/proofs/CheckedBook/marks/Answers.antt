@@ -20,7 +20,7 @@ use Rattle.listing.specs.Recursive.{infer_rec}
 use Rattle.listing.specs.Marks.{marked, marks_over}
 use Rattle.analysis.specs.declared.recursive.Marks.{Marks}
 use Rattle.analysis.specs.Book.{Rooted}
-use Rattle.analysis.specs.Marking.{MarksHold, nothing_marked, Begun, InferredAs}
+use Rattle.analysis.specs.Marking.{MarksHold, Flagged, nothing_marked, Begun, InferredAs}
 use Rattle.analysis.proofs.recursive.Rows.{nothing-held}
 use Rattle.analysis.proofs.recursive.Answers.{marked-stopped, marked-long, marked-given}
 use Rattle.refusals.proofs.Outcomes.{after-passed}
@@ -36,29 +36,29 @@ module _ {bs : List ℕ} {c : Contents} {a : Admitted bs c} {roots ends' : List 
   names-few : p.contents.names ≤ 1024
   names-few = omega (arith, names-are x, x.all.nodes.few_names)
 
-  module _ {rows : List ℕ} (here : rows ≡ nodes_part bs) where
-    begun : Begun rows roots nothing_marked
+  module _ {rows : List ℕ} (here : rows ≡ nodes_part bs) {fresh : Marks} (none : fresh ≡ nothing_marked) where
+    begun : Begun rows roots fresh
     begun = record {
       definitions = main_definitions a.book;
       binds = subst (λ (ns : List ℕ). Binds ns roots (main_definitions a.book)) (sym here) (tabled x).0;
       seen-by = [];
       marked-by = [];
-      holds = nothing-held;
+      holds = subst (Flagged [] []) (sym none) nothing-held;
     }
 
-    marks-from : Rooted rows roots × Begun rows roots nothing_marked
+    marks-from : Rooted rows roots × Begun rows roots fresh
     marks-from = (subst (λ (ns : List ℕ). Rooted ns roots) (sym here) rooted, begun)
 
-  module _ {rows : List ℕ} (here : rows ≡ nodes_part bs) (l : List ℕ) where
-    h : (r : Result Marks Refusal) → InferredAs rows roots l nothing_marked r → MarksHold (infer_rec (main_definitions a.book) l) r
+  module _ {rows : List ℕ} (here : rows ≡ nodes_part bs) {fresh : Marks} (none : fresh ≡ nothing_marked) (l : List ℕ) where
+    h : (r : Result Marks Refusal) → InferredAs rows roots l fresh r → MarksHold (infer_rec (main_definitions a.book) l) r
     unfolding infer_rec begun
-    h r k = k.holds (begun here)
+    h r k = k.holds (begun here none)
 
-    marks-stop : (why : Refusal) → InferredAs rows roots l nothing_marked (Err why) → marks_over a.book l ≡ refused why
+    marks-stop : (why : Refusal) → InferredAs rows roots l fresh (Err why) → marks_over a.book l ≡ refused why
     unfolding marks_over
     marks-stop why k = after-passed (check a.book) _ x.passed ∙ marked-stopped (length a.book.names) (infer_rec (main_definitions a.book) l) why (h (Err why) k)
 
-    module _ (m : Marks) (k : InferredAs rows roots l nothing_marked (Ok m)) where
+    module _ (m : Marks) (k : InferredAs rows roots l fresh (Ok m)) where
       marks-ready : (length m.marked ≡ 1024) × (p.contents.names ≤ 1024)
       marks-ready = (marked-long (infer_rec (main_definitions a.book) l) m (h (Ok m) k), names-few)
 
@@ -71,17 +71,17 @@ module _ {bs : List ℕ} {c : Contents} {a : Admitted bs c} {roots ends' : List 
           ∙ ap given (sym e)
 
 pub infer_rec-requires : goal.infer_rec-requires
-infer_rec-requires c = marks-from c.args.self.now.passes.passed c.nodes.ensures
+infer_rec-requires c = marks-from c.args.self.now.passes.passed c.nodes.ensures c.new.ensures
 
 pub returns-in_err-marks : goal.returns-in_err-marks
 returns-in_err-marks c =
     rw (handed-on c.from_residual.result c.from_residual.ensures)
-    (handed-refused _ (marks-stop c.args.self.now.passes.passed c.nodes.ensures _ _ c.in_err-marks.ensures))
+    (handed-refused _ (marks-stop c.args.self.now.passes.passed c.nodes.ensures c.new.ensures _ _ c.in_err-marks.ensures))
 
 pub names_of-marked-requires : goal.names_of-marked-requires
-names_of-marked-requires c = marks-ready c.args.self.now.passes.passed c.nodes.ensures _ _ c.in_ok-marks.ensures
+names_of-marked-requires c = marks-ready c.args.self.now.passes.passed c.nodes.ensures c.new.ensures _ _ c.in_ok-marks.ensures
 
 pub returns : goal.returns
 returns c =
-    handed-as (marks-given c.args.self.now.passes.passed c.nodes.ensures _ _ c.in_ok-marks.ensures c.names_of-marked.ensures)
+    handed-as (marks-given c.args.self.now.passes.passed c.nodes.ensures c.new.ensures _ _ c.in_ok-marks.ensures c.names_of-marked.ensures)
     (rw c.as_slice.ensures.value at c.hand.ensures)

@@ -1,10 +1,9 @@
-use Rattle.analysis.specs.Marking.{nothing_marked}
 use Rattle.analysis.proofs.recursive.Rows.{GoLeft}
 use Rattle.analysis.proofs.recursive.Laws.{InferLeft}
-use Rattle.analysis.proofs.recursive.infer_rec.Given as goal
+use Rattle.analysis.proofs.recursive.Marks.infer_rec.Given as goal
 
 abbrev pub invariant-loop-k : goal.invariant-loop-k
 invariant-loop-k l = GoLeft l.rows l.from l.k-end l.initial.marks l.marks l.k
 
 abbrev pub invariant-loop-name : goal.invariant-loop-name
-invariant-loop-name l = InferLeft l.rows l.roots l.list nothing_marked l.marks l.done l.name-index
+invariant-loop-name l = InferLeft l.rows l.roots l.list l.fn.self l.marks l.done l.name-index

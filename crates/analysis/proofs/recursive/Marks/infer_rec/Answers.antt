@@ -4,12 +4,12 @@ use mathlib.Core.Path.{refl}
 use Rattle.book.specs.Tables.{no_flags}
 use Rattle.analysis.proofs.recursive.Rows.{go-end, go-other, go-again, go-anew}
 use Rattle.analysis.proofs.recursive.Laws.{infer-start, infer-end, infer-stop, root-node, infer-again, infer-on}
-use Rattle.analysis.proofs.recursive.infer_rec.Goals.{then-marks-met-ne1, else-marks-met-ne1}
-use Rattle.analysis.proofs.recursive.infer_rec.Goals as goal
+use Rattle.analysis.proofs.recursive.Marks.infer_rec.Goals.{then-marks-met-ne1, else-marks-met-ne1}
+use Rattle.analysis.proofs.recursive.Marks.infer_rec.Goals as goal
 
 pub loop-name-init : goal.loop-name-init
 unfolding no_flags
-loop-name-init c = rw c.new-marks.ensures (infer-start refl)
+loop-name-init c = infer-start refl
 
 pub returns-in_default : goal.returns-in_default
 returns-in_default c =
