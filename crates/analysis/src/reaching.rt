@@ -103,16 +103,30 @@ fn reaching(owner: &ByRow, head: &ByName, next: &Near, wanted: usize) -> Flags
     flagged
 }
 
-// Finds for each row the first row from it on that is a name which is the wanted one or reaches it by references of main's definitions; the number of
-// rows where there is none. The table is lent with nothing in it, and has the links of the rows before.
+// Finds for each row of a book the first row from it on that is a name which is the wanted one or reaches it by references of main's definitions.
 pub fn find_nearest(book: AdmittedBook<'_>, main: usize, wanted: usize, near: &mut Near)
     requires { (main ≤ book.contents.definitions) × (wanted < 1024) × (near.old ≡ no_places) }
     ensures { NearestAs (nodes_part book.entry.bytes.now) (definitions_part book.entry.bytes.now) book.entry.contents.nodes main wanted near.new }
 {
-    let rows = book.nodes();
     let nodes = book.contents.nodes;
+    find_nearest_in(book.definitions(), book.nodes(), nodes, main, wanted, near);
+}
+
+// The same of rows and entries, which may be of no book; `nodes` where there is none. The table is lent with nothing in it, and has the links of the
+// rows before.
+pub fn find_nearest_in(
+    entries: &[u8],
+    rows: &[u8],
+    nodes: usize,
+    definitions: usize,
+    wanted: usize,
+    near: &mut Near,
+)
+    requires { ((names : ℕ) × Defining rows.now entries.now names nodes definitions) × (wanted < 1024) × (near.old ≡ no_places) }
+    ensures { NearestAs rows.now entries.now nodes definitions wanted near.new }
+{
     let mut owner = [0; Limits::NODES];
-    owners(book.definitions(), rows, main, &mut owner);
+    owners(entries, rows, definitions, &mut owner);
     let mut head = [0; Limits::NAMES];
     link(rows, nodes, &mut head, near);
     let flags = reaching(&owner, &head, near, wanted);

@@ -1,7 +1,7 @@
 // Tables by name number, which there are 1,024 of: the label numbers of all names, and where each begins.
-ghost use Rattle.std.specs.Prelude.{◌≡◌};
-ghost use Rattle.format.specs.Layout.{read, name_in};
-ghost use Rattle.book.specs.Tables.{HashesOf, PlacesOf};
+ghost use Rattle.std.specs.Prelude.{◌≡◌, length};
+ghost use Rattle.format.specs.Layout.{read, name_in, names_of};
+ghost use Rattle.book.specs.Tables.{NamesIn, HashesOf, PlacesOf};
 
 use crate::admitted::AdmittedBook;
 use crate::kinds::Contents;
@@ -18,13 +18,20 @@ pub type Flags = [u8; Limits::NAMES];
 // A label number for each of the 1,024 names.
 pub type HashByName = [u32; Limits::NAMES];
 
-// The label number of each name of a book, in one pass over their bytes. Beyond the names it has 0.
+// The label number of each name of a book. Beyond the names it has 0.
 pub fn name_hashes(book: AdmittedBook) -> HashByName
     ensures { HashesOf result (read book.entry.bytes.now).names }
 {
+    hashes_of(book.names(), book.contents.names)
+}
+
+// The label number of each of the `count` names that bytes are, in one pass over them. The bytes may be of no book.
+pub fn hashes_of(names: &[u8], count: usize) -> HashByName
+    requires { NamesIn names.now count }
+    ensures { HashesOf result (names_of (length names.now) names.now) }
+{
     let mut hashes = [0; Limits::NAMES];
-    let names = Names { rest: book.names() };
-    for (n, name) in names.enumerate() {
+    for (n, name) in (Names { rest: names }).enumerate() {
         hashes[n] = labels::idl_hash(name);
     }
     hashes

@@ -7,7 +7,7 @@
 ghost use Rattle.std.specs.Prelude.{◌≡◌, List, ℕ, ◌+◌, ◌-◌, ◌/◌, ◌≤◌, ◌<◌, length, get_or, IfNone, IfSome};
 ghost use Rattle.format.specs.Layout.{definitions_part};
 ghost use Rattle.book.specs.Tables.{blank_table, zero_table};
-ghost use Rattle.environment.specs.Tables.{DefinesAs, end_of, crossed_in, Ended, ReachedAs, LookupAs};
+ghost use Rattle.environment.specs.Tables.{Entries, DefinesAs, end_of, crossed_in, Ended, ReachedAs, LookupAs};
 
 pub mod chain_end;
 pub mod merge;
@@ -19,15 +19,30 @@ use book::read::{Entry, Node};
 use format::Limits;
 use refusals::{Refusal, Verdict};
 
-// Enters the definitions of entries `from` up to `to` in a table that has nothing: 2 with the first name defined twice. Then the table has
-// nothing, as it was lent.
+// Enters the definitions of a book's entries `from` up to `to`.
 pub fn enter(book: AdmittedBook, from: usize, to: usize, roots: &mut [u16]) -> Verdict
     requires ordered { from ≤ to }
     requires within { to ≤ book.contents.definitions }
     requires empty { roots.old ≡ blank_table }
     ensures { DefinesAs (definitions_part book.entry.bytes.now) book.entry.contents.nodes from to roots.new result }
 {
-    let entries = book.definitions();
+    let c = book.contents;
+    enter_entries(book.definitions(), c.names, c.nodes, from, to, roots)
+}
+
+// Enters the definitions of entries `from` up to `to` in a table that has nothing: 2 with the first name defined twice. Then the table has
+// nothing, as it was lent. What is asked is said of the entries alone, which may be of no book; names and nodes are numbers of the contract.
+pub fn enter_entries(
+    entries: &[u8],
+    names: usize,
+    nodes: usize,
+    from: usize,
+    to: usize,
+    roots: &mut [u16],
+) -> Verdict
+    requires { Entries entries.now names nodes from to × (names ≤ 1024) × (nodes ≤ 4096) × (roots.old ≡ blank_table) }
+    ensures { DefinesAs entries.now nodes from to roots.new result }
+{
     for d in from..to {
         let e = Entry::at(entries, d);
         let n = e.name as usize;

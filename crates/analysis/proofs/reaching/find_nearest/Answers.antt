@@ -1,61 +1,13 @@
--- `reaching::find_nearest` meets its contract: the table of links is the table of first rows, before that is made. Assumes nothing.
-use mathlib.Core.Path.{refl, ap, ◌∙◌}
-use mathlib.Core.List.{List}
-use Prim.Native.Nat.{ℕ}
-use native.Mathlib.Omega.{arith}
-use lib.ListN.{get_or}
-use Rattle.book.specs.Tables.{zero_table}
-use Rattle.analysis.specs.Reaching.{NearestAs, no_rows}
-use Rattle.analysis.proofs.reaching.Near.{places-at}
+-- `reaching::find_nearest` meets its contract: a book's rows and entries are what is asked. Assumes nothing.
 use Rattle.analysis.proofs.reaching.Ownership.{book-defining}
 use Rattle.analysis.proofs.reaching.find_nearest.Goals as goal
 
-pub owners-requires : goal.owners-requires
-unfolding no_rows
-owners-requires c = ((_, _, book-defining c.args.book c.args.main c.requires.0 c.nodes-rows.ensures c.definitions.ensures), refl)
-
-pub link-requires : goal.link-requires
-unfolding zero_table
-link-requires c = (record { names = _; known = (book-defining c.args.book c.args.main c.requires.0 c.nodes-rows.ensures c.definitions.ensures).known }, refl)
-
-pub reaching-flags-requires : goal.reaching-flags-requires
-reaching-flags-requires c = (
-  record {
-    rows = _;
-    entries = _;
-    names = _;
-    nodes = _;
-    definitions = _;
-    book = book-defining c.args.book c.args.main c.requires.0 c.nodes-rows.ensures c.definitions.ensures;
-    owned = c.owners.ensures;
-    links = c.link.ensures.0;
-  },
+pub find_nearest_in-requires : goal.find_nearest_in-requires
+find_nearest_in-requires c = (
+  (_, book-defining c.args.book c.args.main c.requires.0 c.nodes.ensures c.definitions.ensures),
   c.requires.1,
+  c.requires.2,
 )
 
-pub nearest-requires : goal.nearest-requires
-nearest-requires c = record { names = _; known = (book-defining c.args.book c.args.main c.requires.0 c.nodes-rows.ensures c.definitions.ensures).known }
-
 pub returns : goal.returns
-returns c =
-    let p = c.requires in
-    let b = c.args.book in
-    let here : NearestAs c.nodes-rows.result.now c.definitions.result.now b.contents.nodes c.args.main c.args.wanted c.nearest.new.near = record {
-      flags = _;
-      reach = c.reaching-flags.ensures record {
-        rows = _;
-        entries = _;
-        names = _;
-        nodes = _;
-        definitions = _;
-        book = book-defining b c.args.main p.0 c.nodes-rows.ensures c.definitions.ensures;
-        owned = c.owners.ensures;
-        links = c.link.ensures.0;
-      };
-      first = c.nearest.ensures.0;
-      rest = λ i h. c.nearest.ensures.1.kept i (omega arith)
-          ∙ c.link.ensures.1.kept i (λ v b n. omega arith)
-          ∙ ap (λ (t : List ℕ). get_or t i 0) p.2
-          ∙ places-at i;
-    } in
-    rw (c.nodes-rows.ensures, c.definitions.ensures) at here
+returns c = rw (c.nodes.ensures, c.definitions.ensures) at c.find_nearest_in.ensures

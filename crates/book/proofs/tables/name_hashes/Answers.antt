@@ -1,30 +1,12 @@
--- `tables::name_hashes` meets its contract: the names that are walked have their numbers. Assumes nothing.
-use Rattle.std.proofs.Common.{arith, ap, ◌∙◌, length}
-use Rattle.labels.specs.Number.{label_number}
-use Rattle.format.specs.Layout.{read, names_of}
-use Rattle.book.specs.Tables.{zero_table}
-use Rattle.book.specs.Walks.{names_left}
-use Rattle.book.proofs.Blank.{filling-start, filling-here, filling-name, filling-on, hashes-end}
+-- `tables::name_hashes` meets its contract: a book's names are what its names' part has. Assumes nothing.
+use Rattle.format.specs.Layout.{read}
 use Rattle.book.proofs.Named.{book-of}
 use Rattle.book.proofs.Placed.{names-in}
 use Rattle.book.proofs.tables.name_hashes.Goals as goal
 
-pub loop-n-init : goal.loop-n-init
-unfolding zero_table read
-loop-n-init c =
-    let e = c.into_iter-n-iterator.ensures.into_iter_gives in
-    let s = c.enumerate-n-items.ensures in
-    let f = names-in (book-of _ _ c.args.book.laid) in
-    rw (e, s.count) (filling-start (omega (arith, f.counted, f.few)) (ap names_left s.source ∙ ap (λ l. names_of (length l) l) c.names.ensures))
-
-pub bounds-hashes-n : goal.bounds-hashes-n
-bounds-hashes-n c = let z = c.in-Some.ensures.steps in omega (arith, filling-here c.loop-n.invariant z.0, c.loop-n.invariant.few, z.1)
-
-pub loop-n-preserved : goal.loop-n-preserved
-loop-n-preserved c =
-    let z = c.in-Some.ensures.steps in
-    let i = c.loop-n.invariant in
-    rw (z.1, z.2) (filling-on i z.0 c.idl_hash.result (c.idl_hash.ensures ∙ ap label_number (filling-name i z.0)))
+pub hashes_of-requires : goal.hashes_of-requires
+hashes_of-requires c = rw c.names.ensures (names-in (book-of _ _ c.args.book.laid))
 
 pub returns : goal.returns
-returns c = hashes-end c.loop-n.invariant c.in-None.ensures.steps.0.0
+unfolding read
+returns c = rw c.names.ensures at c.hashes_of.ensures
