@@ -110,7 +110,7 @@ pub fn chase_types(rows: &[u8], roots: &[u16], from: usize, until: usize) -> Res
     chase(rows, roots, from, until, Walk::new())
 }
 
-// An actor as written. A second caller would keep the compiler from inlining it, and the list pay a copy of the walk.
+// An actor as written. A second caller would keep the compiler from inlining this function, and the list pay a copy of the walk.
 fn chase_written(rows: &[u8], roots: &[u16], root: usize) -> Result<Walk, Refusal>
     requires { RootIn rows.now roots.now root × Counted rows.now roots.now }
     ensures { WalkedAs rows.now roots.now (tree_at rows.now root) result }

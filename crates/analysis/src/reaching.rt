@@ -59,8 +59,8 @@ fn owners(entries: &[u8], rows: &[u8], definitions: usize, owner: &mut ByRow)
     }
 }
 
-// Links rows that are the same name in one pass, from the last one to the first. A link is one more than a row, or 0 for none: `head` has
-// nothing before, and what `next` has is not read.
+// Links rows that are the same name in one pass, from the last one to the first. A link is one more than a row, or 0 for none, as in `ByRow`; links stand
+// in the table that is lent for the first rows, before those are found. `head` has nothing before, and what `next` has is not read.
 fn link(rows: &[u8], nodes: usize, head: &mut ByName, next: &mut Near)
     requires { BookRows rows.now nodes × (head.old ≡ zero_table) }
     ensures { LinksAs rows.now nodes head.new next.new × KeptElse rows.now nodes next.old next.new }

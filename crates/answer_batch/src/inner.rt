@@ -80,7 +80,10 @@ fn say_lookups(lines: Lines, passed: &CheckedBook) {
     }
     if let Some(n) = passed.interface.main() {
         let top = syntax::class::top_of(rows, n);
-        print_actor(lines, environment::as_service(rows, &passed.ends, top.below));
+        print_actor(
+            lines,
+            environment::as_service(rows, &passed.ends, top.below),
+        );
     }
     lines.write(b"\n");
 }

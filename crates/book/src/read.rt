@@ -119,7 +119,7 @@ pub fn name_from(bytes: &[u8], at: usize) -> &[u8]
     &bytes[from..end]
 }
 
-// Name `number` of the names' bytes; an empty part where there are fewer.
+// Name `number` of the names' bytes; an empty part where there are fewer, as `book::name` has it.
 pub(crate) fn name_at(names: &[u8], number: usize) -> &[u8]
     ensures { result.now ≡ get_or (names_of (length names.now) names.now) number [] }
 {

@@ -69,7 +69,7 @@ impl<'a> NameIndex<'a> {
         }
     }
 
-    // The bytes of a name; an empty part for a number outside the table of names.
+    // The bytes of a name; an empty part for a number outside the table of names, as `book::name` has it.
     pub fn name(&self, number: usize) -> &'a [u8]
         ensures { result.now ≡ name_in self.now.book.bytes.now number }
     {

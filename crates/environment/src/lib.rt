@@ -134,7 +134,9 @@ fn look_up(rows: &[u8], ends: &[u32], node: usize, kind: u8) -> Lookup
     ensures { LookupAs kind rows.now ends.now node result }
 {
     let reached = end_of(rows, ends, node);
-    let found = reached.node.is_some_and(|e| Node::at(rows, e as usize).kind == kind);
+    let found = reached
+        .node
+        .is_some_and(|e| Node::at(rows, e as usize).kind == kind);
     if found { Ok(reached) } else { Err(reached) }
 }
 

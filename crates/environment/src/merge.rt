@@ -90,7 +90,7 @@ impl<'a> Comparison<'a> {
         requires { ComparedRoots self.rows.now a b }
         ensures { ByNames self.entry.hashes.now (λ names. result ≡ same_roots names self.entry.rows.now a b) }
     {
-        // The numbers as the tables have them, since `merged` copies them: an option of each would be made to be taken apart.
+        // The numbers as the tables have them: an option of each would be made to be taken apart.
         if a == Entry::NO_ROOT || b == Entry::NO_ROOT {
             return true;
         }

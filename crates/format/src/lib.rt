@@ -48,7 +48,7 @@ impl Limits {
         }
     }
 
-    // Whether none is more than the other's.
+    // Whether none is more than the other's. No derived order: that would compare the names first, and the others where they are equal.
     #[tactic(auto, unfolding(crate::specs::Within::within))]
     pub fn within(self, other: Limits) -> bool
         ensures { result ≡ within self other }

@@ -28,8 +28,8 @@ pub enum LabelKind {
     Unnamed,
 }
 
-// What labels a field, a case or a method. A `Named` label holds a name number, a place in the book's table of names: an enum holds
-// no reference, so the label number of the name is handed over beside the label where its own is asked for.
+// What labels a field, a case or a method. A `Named` label holds a name number, a place in the book's table of names, as a book
+// stores it; the label number of the name is handed over beside the label where its own is asked for.
 #[derive(Clone, Copy, Debug)]
 pub enum Label {
     Id(u32),

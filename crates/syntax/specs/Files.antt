@@ -1,6 +1,6 @@
 -- The files of a book, as the code reads them. Definitions; assumes nothing.
 --     files_in, actor_root, FileTable     the table of files
-----     init_at, SplitAs           the init file, and the definitions before its own
+--     init_at, SplitAs           the init file, and the definitions before its own
 --     Listed                     the numbers of the service imports
 --     ImportsAs, FilesAs         what is found of them
 use Rattle.std.specs.Prelude.{◌≡◌, cond, List, Option, Some, None, map, ℕ, ◌-◌, ◌≤◌, ◌<◌, eqb, length, All, Result, IfOk}

@@ -15,7 +15,7 @@ use refusals::{Refusal, Verdict};
 // How many methods are looked at: one more than a book has names, so that among as many two have one name, and one hash.
 const MOST: usize = Limits::NAMES + 1;
 
-// The methods that are looked at: the name that labels each, and its hash.
+// The methods that are looked at: the name that labels each, and its hash. Two lists, since `first_duplicate` takes the hashes as one.
 #[derive(Drop)]
 struct Methods {
     names: ArrayVec<u16, MOST>,

@@ -84,8 +84,8 @@ fn check_arguments(
     Ok(InitArgs { count, from, until })
 }
 
-// Bytes and `p` stay two: that a book passed is said of them, and `p` has its contents.
-// The arguments of file `init` under the definitions of both, whose table is `both`.
+// The arguments of file `init` under the definitions of both, whose table is `both`. Bytes and `p` stay two: that a book passed is said of them, and `p` has
+// its contents.
 fn check_seen(
     book: &[u8],
     p: Passed,
