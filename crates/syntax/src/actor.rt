@@ -63,8 +63,7 @@ impl Resolver<'_, '_> {
         requires { node < self.now.book.contents.nodes }
         ensures { ServiceFrom self.now node other result }
     {
-        let c = self.book.contents;
-        let scope = Scope::new(self.book.nodes(), self.roots, c.names, c.nodes);
+        let scope = Scope::of(self.book, self.roots);
         let chain = scope.alias_end(self.main, node);
         let found = match chain.end {
             End::Unbound(n) => Err(Refusal::Unbound(n)),

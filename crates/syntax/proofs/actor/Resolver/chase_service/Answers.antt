@@ -11,22 +11,17 @@ use Rattle.syntax.proofs.actor.OneService.{chased, chase-unbound, chase-circle, 
 use Rattle.syntax.proofs.actor.Resolver.chase_service.Goals as goal
 
 -- what is said of a scope is said of what it is made of
-in-scope : {rows rows' roots roots' : Bor (List ℕ)} {ns : List ℕ} {nodes nodes' left node : ℕ} {a : Alias} → rows ≡ rows' → rows'.now ≡ ns → roots ≡ roots' → nodes ≡ nodes' →
-    AliasAs rows.now roots.now nodes left node a → AliasAs ns roots'.now nodes' left node a
-in-scope e f g h x = rw (← f, ← e, ← g, ← h) x
-
-pub new-scope-requires : goal.new-scope-requires
-new-scope-requires c =
-    let s = c.args.self.now in
-    rw c.nodes.ensures ((all-trees (book-of _ _ s.book.laid)).nodes, s.table)
+in-scope : {rows ns : List ℕ} {roots roots' : Bor (List ℕ)} {nodes nodes' left node : ℕ} {a : Alias} → rows ≡ ns → roots ≡ roots' → nodes ≡ nodes' →
+    AliasAs rows roots.now nodes left node a → AliasAs ns roots'.now nodes' left node a
+in-scope e g h x = rw (← e, ← g, ← h) x
 
 pub returns-in-Unbound : goal.returns-in-Unbound
 returns-in-Unbound c =
     let s = c.args.self.now in
     let e = c.alias_end-chain.ensures in
-    let here : AliasAs c.new-scope.result.rows.now c.new-scope.result.roots.now c.new-scope.result.nodes s.main c.args.node c.alias_end-chain.result =
+    let here : AliasAs c.of-scope.result.rows.now c.of-scope.result.roots.now c.of-scope.result.nodes s.main c.args.node c.alias_end-chain.result =
     record { within = e.within; is = e.is; crossed-is = e.crossed; few = e.few } in
-    let found = in-scope c.new-scope.ensures.rows c.nodes.ensures c.new-scope.ensures.roots c.new-scope.ensures.nodes here in
+    let found = in-scope c.of-scope.ensures.rows c.of-scope.ensures.roots c.of-scope.ensures.nodes here in
     let t = (all-trees (book-of _ _ s.book.laid)).nodes in
     chased t c.args.other found (chase-unbound t c.args.other found c.in-Unbound.is)
 
@@ -34,9 +29,9 @@ pub returns-in-Circle : goal.returns-in-Circle
 returns-in-Circle c =
     let s = c.args.self.now in
     let e = c.alias_end-chain.ensures in
-    let here : AliasAs c.new-scope.result.rows.now c.new-scope.result.roots.now c.new-scope.result.nodes s.main c.args.node c.alias_end-chain.result =
+    let here : AliasAs c.of-scope.result.rows.now c.of-scope.result.roots.now c.of-scope.result.nodes s.main c.args.node c.alias_end-chain.result =
     record { within = e.within; is = e.is; crossed-is = e.crossed; few = e.few } in
-    let found = in-scope c.new-scope.ensures.rows c.nodes.ensures c.new-scope.ensures.roots c.new-scope.ensures.nodes here in
+    let found = in-scope c.of-scope.ensures.rows c.of-scope.ensures.roots c.of-scope.ensures.nodes here in
     let t = (all-trees (book-of _ _ s.book.laid)).nodes in
     chased t c.args.other found (chase-circle t c.args.other found c.in-Circle.is)
 
@@ -44,8 +39,8 @@ pub returns-in-Ends : goal.returns-in-Ends
 returns-in-Ends c =
     let s = c.args.self.now in
     let e = c.alias_end-chain.ensures in
-    let here : AliasAs c.new-scope.result.rows.now c.new-scope.result.roots.now c.new-scope.result.nodes s.main c.args.node c.alias_end-chain.result =
+    let here : AliasAs c.of-scope.result.rows.now c.of-scope.result.roots.now c.of-scope.result.nodes s.main c.args.node c.alias_end-chain.result =
     record { within = e.within; is = e.is; crossed-is = e.crossed; few = e.few } in
-    let found = in-scope c.new-scope.ensures.rows c.nodes.ensures c.new-scope.ensures.roots c.new-scope.ensures.nodes here in
+    let found = in-scope c.of-scope.ensures.rows c.of-scope.ensures.roots c.of-scope.ensures.nodes here in
     let t = (all-trees (book-of _ _ s.book.laid)).nodes in
-    rw (c.service_at-found.ensures, c.new-scope.ensures.rows, c.nodes.ensures) (chased t c.args.other found (chase-ends t c.args.other found c.in-Ends.is))
+    rw (c.service_at-found.ensures, c.of-scope.ensures.rows) (chased t c.args.other found (chase-ends t c.args.other found c.in-Ends.is))
