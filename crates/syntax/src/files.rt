@@ -1,5 +1,5 @@
 // The files of a book, walked once: which are service imports (12), and which has the init arguments.
-ghost use Rattle.std.specs.Prelude.{◌≡◌, List, ℕ, ◌≤◌};
+ghost use Rattle.std.specs.Prelude.{◌≡◌, List, ℕ};
 ghost use Rattle.format.specs.Layout.{files_part};
 ghost use Rattle.book.specs.Reading.{EntryWithin};
 ghost use Rattle.syntax.specs.Files.{actor_root, FileRoots, FileTable, init_at, SplitAs, ImportsAs, FilesAs};
@@ -49,26 +49,19 @@ fn list_imports(files: &[u8], count: usize) -> Result<ByFile, Refusal>
     Ok(imports)
 }
 
-// How many files come before the init file: only the last file can be one.
+// How many files come before the init file, which is its number: only the last file can be one.
 #[tactic(auto, unfolding(crate::specs::Files::init_at))]
-fn init_number(files: &[u8], count: usize) -> usize
-    requires { EntryWithin files.now count × (1 ≤ count) }
-    ensures { result ≡ init_at files.now count }
+pub fn init_file(book: AdmittedBook) -> usize
+    ensures { result ≡ init_at (files_part book.entry.bytes.now) book.entry.contents.files }
 {
+    let count = book.contents.files;
     let last = count - 1;
-    let e = Entry::at(files, last);
+    let e = Entry::at(book.files(), last);
     if e.owner == Role::Init as u16 {
         last
     } else {
         count
     }
-}
-
-// The number of the init file of a book.
-pub fn init_file(book: AdmittedBook) -> usize
-    ensures { result ≡ init_at (files_part book.entry.bytes.now) book.entry.contents.files }
-{
-    init_number(book.files(), book.contents.files)
 }
 
 // What is found of the files of a book; 12.
@@ -79,7 +72,7 @@ pub fn read_files(book: AdmittedBook) -> Result<Files, Refusal>
     let count = book.contents.files;
     let main = Entry::at(files, 0);
     let imports = list_imports(files, count)?;
-    let init = init_number(files, count);
+    let init = init_file(book);
     Ok(Files {
         root: actor_root(main),
         imports,

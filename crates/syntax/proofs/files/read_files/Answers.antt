@@ -22,10 +22,7 @@ returns-in_err-imports c =
     let q = err_from_is_err_and c.from_residual.result c.from_residual.ensures.1 in
     rw (q.1, q.2) (files-refused (rw c.files-files.ensures at c.in_err-imports.ensures))
 
-pub init_number-init-requires : goal.init_number-init-requires
-init_number-init-requires c = let a = book-of _ _ c.args.book.laid in rw c.files-files.ensures (files-held a, files-some a)
-
 pub returns : goal.returns
 returns c =
     files-as (c.actor_root.ensures ∙ ap (λ (e : Entry). actor_root e.root) (rw c.files-files.ensures at c.at-main.ensures))
-    (rw c.files-files.ensures at c.in_ok-imports.ensures) (rw c.files-files.ensures at c.init_number-init.ensures)
+    (rw c.files-files.ensures at c.in_ok-imports.ensures) c.init_file-init.ensures
