@@ -69,10 +69,9 @@ impl<'b, 't> Walk<'b, 't> {
         requires { v < self.now.scope.names }
         ensures { result ≡ bound_verdict v (get_or self.now.scope.roots.now v 65535) }
     {
-        match environment::root_of(self.scope.roots, v as usize) {
-            Some(_) => Ok(()),
-            None => Err(Refusal::Unbound(v as u16)),
-        }
+        environment::root_of(self.scope.roots, v as usize)
+            .map(|_| ())
+            .ok_or(Refusal::Unbound(v as u16))
     }
 
     // Whether a method may stand.
@@ -80,10 +79,7 @@ impl<'b, 't> Walk<'b, 't> {
         requires { n < self.now.scope.nodes }
         ensures { result ≡ (is_none self.now.ends || end_is 23 self.now.scope.rows.now (ends_of self.now.ends) n) }
     {
-        match self.ends {
-            None => true,
-            Some(ends) => environment::as_func(self.scope.rows, ends, n).is_ok(),
-        }
+        self.ends.is_none_or(|ends| environment::as_func(self.scope.rows, ends, n).is_ok())
     }
 
     // The type at node n. Inlined, so that a level of nested types takes one frame of the stack.
