@@ -79,9 +79,7 @@ fn chase(rows: &[u8], roots: &[u16], from: usize, until: usize, walk: Walk) -> R
         if let Some(row) = next_new(rows, &seen, at, end) {
             let t = Node::at(rows, row);
             let name = t.value as usize;
-            let Some(root) = environment::root_of(roots, name) else {
-                return Err(Refusal::Unbound(t.value as u16));
-            };
+            let root = environment::root_of(roots, name).ok_or(Refusal::Unbound(t.value as u16))?;
             seen[name] = 1;
             waiting.push(Waiting {
                 row: row as u16,

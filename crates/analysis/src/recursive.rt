@@ -40,9 +40,7 @@ impl Marks {
         let mut done: Flags = [0; Limits::NAMES];
         for name in list {
             let n = *name as usize;
-            let Some(from) = environment::root_of(roots, n) else {
-                return Err(Refusal::Unbound(*name));
-            };
+            let from = environment::root_of(roots, n).ok_or(Refusal::Unbound(*name))?;
             if done[n] == 1 {
                 continue;
             }
