@@ -18,6 +18,9 @@ use format::Limits;
 // For each row the first row from it on that tells; the number of rows where there is none, so that one comparison says whether trees tell.
 pub type Near = [u16; Limits::NODES + 1];
 
+// Links in the table that is lent for the first rows: for each row one more than the row before it that is the same name, or 0 for none, as in `ByRow`.
+type Links = [u16; Limits::NODES + 1];
+
 // A number for each row, one more than a name, or 0 for none: an Option would take twice the memory, of which there is a fixed amount, and zeros are
 // made fastest.
 type ByRow = [u16; Limits::NODES];
@@ -59,9 +62,8 @@ fn owners(entries: &[u8], rows: &[u8], definitions: usize, owner: &mut ByRow)
     }
 }
 
-// Links rows that are the same name in one pass, from the last one to the first. A link is one more than a row, or 0 for none, as in `ByRow`; links stand
-// in the table that is lent for the first rows, before those are found. `head` has nothing before, and what `next` has is not read.
-fn link(rows: &[u8], nodes: usize, head: &mut ByName, next: &mut Near)
+// Links rows that are the same name in one pass, from the last one to the first. `head` has nothing before, and what `next` has is not read.
+fn link(rows: &[u8], nodes: usize, head: &mut ByName, next: &mut Links)
     requires { BookRows rows.now nodes × (head.old ≡ zero_table) }
     ensures { LinksAs rows.now nodes head.new next.new × KeptElse rows.now nodes next.old next.new }
 {
@@ -77,7 +79,7 @@ fn link(rows: &[u8], nodes: usize, head: &mut ByName, next: &mut Near)
 
 // Sets the flag of each name that is the wanted one or from which it is reached by references. The names that are flagged wait until the
 // definitions that refer to them are flagged too.
-fn reaching(owner: &ByRow, head: &ByName, next: &Near, wanted: usize) -> Flags
+fn reaching(owner: &ByRow, head: &ByName, next: &Links, wanted: usize) -> Flags
     requires { Linked owner.now head.now next.now × (wanted < 1024) }
     ensures { (x : Linked owner.now head.now next.now) →
         ReachAs (definitions_in x.rows x.entries 0 x.definitions) wanted result }
