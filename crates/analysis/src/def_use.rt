@@ -21,7 +21,7 @@ use syntax::interface::Interface;
 const CLASS: u16 = 65535;
 
 // Where a function has a type: among its arguments or its results.
-#[derive(Clone, Copy, PartialEq, Eq, PartialOrd, Ord, Debug)]
+#[derive(Clone, Copy)]
 enum Side {
     Argument,
     Result,
