@@ -3,8 +3,8 @@
 ghost use Rattle.std.specs.Prelude.{◌≡◌, List, ℕ, ◌+◌, ◌≤◌, ◌<◌, length};
 ghost use Rattle.format.specs.Book.{Definition};
 ghost use Rattle.book.specs.Tables.{blank_table};
-ghost use Rattle.environment.specs.Tables.{Entries, Roots, definitions_in};
-ghost use Rattle.book.specs.Reading.{Admitted};
+ghost use Rattle.environment.specs.Tables.{Roots, definitions_in};
+ghost use Rattle.book.specs.Reading.{EntryWithin, Admitted};
 ghost use Rattle.typing.specs.Init.{lacked, OwnDecsAs, OwnPassed, MergeAs, Merged, Seen, ArgumentsFound, InitSeenAs, InitFoundAs};
 ghost use Rattle.typing.specs.Passing.{PassedBook};
 
@@ -51,16 +51,13 @@ fn merge(book: AdmittedBook, own: &[u16], roots: &[u16]) -> Verdict
 
 // How many definitions the init file's `count` and main's make together: a name that both define counts once.
 fn merged_count(entries: &[u8], init: &[u16], count: usize, main: usize) -> usize
-    requires { ((names nodes : ℕ) × Entries entries.now names nodes 0 main × (names ≤ 1024)) × (length init.now ≡ 1024) × (count ≤ 512) }
+    requires { EntryWithin entries.now main × (count ≤ 512) }
     ensures { (ns : List ℕ) → result ≡ count + length (lacked init.now (definitions_in ns entries.now 0 main)) }
 {
-    let mut n = count;
-    for d in 0..main {
-        if init[Entry::at(entries, d).name as usize] == Entry::NO_ROOT {
-            n += 1;
-        }
-    }
-    n
+    count
+        + (0..main)
+            .filter(|d| environment::root_of(init, Entry::at(entries, *d).name as usize).is_none())
+            .count()
 }
 
 // The arguments, which are the children of node `root`, where `count` definitions have the table `both`.

@@ -1,8 +1,8 @@
 -- The check of init arguments: what each step asks, and the verdict after each. Assumes nothing.
 use mathlib.Core.Path.{◌≡◌, refl, sym, ap, ap₂, subst, ◌∙◌}
 use mathlib.Core.Bool.{Bool, true, false, cond, false≢true}
-use mathlib.Core.List.{List, [], ◌∷◌}
-use Prim.Native.Nat.{ℕ, suc, ◌+◌, ◌-◌, ◌≤◌, ◌<◌}
+use mathlib.Core.List.{List, [], ◌∷◌, map}
+use Prim.Native.Nat.{ℕ, zero, suc, ◌+◌, ◌-◌, ◌≤◌, ◌<◌}
 use native.Mathlib.Nat.{sub-zero}
 use native.Mathlib.Omega.{arith}
 use native.Mathlib.Decide.{dec_lt, ℕ_discrete}
@@ -13,16 +13,18 @@ use Rattle.format.specs.Forest.{Forest, count}
 use Rattle.format.specs.Node.{Node}
 use Rattle.format.specs.Book.{Definition, Book, trees}
 use Rattle.format.specs.Encode.{Row, Entry}
-use Rattle.format.specs.Layout.{row_at, entry_at, nodes_part, definitions_part, files_part, siblings, read}
+use Rattle.format.specs.Layout.{run, row_at, entry_at, nodes_part, definitions_part, files_part, siblings, read}
 use Rattle.format.specs.Whole.{tree_at, definition_at}
-use Rattle.format.proofs.Lists.{all-of}
+use Rattle.format.proofs.Lists.{all-of, run-none, run-cons}
 use Rattle.format.proofs.Rows.{nothing, siblings-none, kids-whole}
 use Rattle.format.proofs.Stored.{actor-some}
 use Rattle.format.proofs.Admitted.{definition-stored}
 use Rattle.format.proofs.Theorems.{found}
 use Rattle.book.specs.declared.kinds.Contents.{Contents}
 use denote.Bor.{Bor}
-use Rattle.std.specs.Prelude.{Some, Result, Ok, Err, IfOk}
+use Rattle.std.specs.Prelude.{Option, Some, None, IfSome, IfNone, filter, Result, Ok, Err, IfOk}
+use Rattle.std.specs.Option.{is_none}
+use Rattle.std.specs.List.{range_with_len}
 use Rattle.std.specs.Result.{is_err}
 use Rattle.refusals.specs.declared.Refusal.{Refusal}
 use Rattle.book.specs.Reading.{EntryWithin, Admitted}
@@ -41,7 +43,7 @@ use Rattle.environment.proofs.FuncEnds.{ends-func}
 use Rattle.book.proofs.Blank.{blank-at}
 use Rattle.environment.proofs.Definitions.{defined-length}
 use Rattle.environment.proofs.merge.Tables.{merged-roots, merged-binds}
-use Rattle.environment.proofs.Links.{found-none, found-some, get_or-within}
+use Rattle.environment.proofs.Links.{found-none, found-some}
 use Rattle.typing.specs.Types.{Reads, WalkEnv}
 use Rattle.typing.proofs.Walk.{Said, many-stops, many-pass}
 use Rattle.syntax.specs.Files.{init_at, SplitAs}
@@ -53,60 +55,31 @@ use Rattle.typing.specs.declared.prog.Passed.{Passed as Handed}
 use Rattle.typing.specs.Passing.{PassedAs}
 use Rattle.environment.proofs.Trees.{blank-nodes}
 use Rattle.syntax.proofs.Stored.{tree-kids}
-use Rattle.typing.proofs.decs.Laws.{definitions-none, definitions-cons}
 use Rattle.environment.proofs.Book.{few-all, book-trees, all-trees, rows-exact, entries-of, entries-known}
 use Rattle.syntax.proofs.Book.{files-held, names-book, init_of, init-within, no-init, init-definitions-none, init-tree-is, init-root, main-definitions-are, init-definitions-are, file-root}
 use Rattle.book.proofs.Opened.{names-count, nodes-count, definitions-count, files-count}
 use Rattle.typing.proofs.prog.Laws.{definitions-passed}
 
 -- ---- The definitions of main that init lacks, counted
-pub record CountLeft (init es : List ℕ) (count main n d : ℕ) : Type 0 where
-  pub passed : d ≤ main
-  pub bounded : n ≤ count + d
-  pub left : (ns : List ℕ) → n + length (lacked init (definitions_in ns es d main)) ≡ count + length (lacked init (definitions_in ns es 0 main))
+abbrev pub is-lacked : List ℕ → List ℕ → ℕ → Bool
+is-lacked init es d = eqb (get_or init (entry_at es d).name 65535) 65535
 
-lacked-some : (init : List ℕ) (x : Definition) (xs : List Definition) → get_or init x.name 65535 ≡ 65535 → length (lacked init (x ∷ xs)) ≡ suc (length (lacked init xs))
+pub lacked-counted : (init es ns : List ℕ) (main : ℕ) → length (filter (is-lacked init es) (range_with_len 0 main)) ≡ length (lacked init (definitions_in ns es 0 main))
 unfolding lacked keep
-lacked-some init x xs e = rw e
+lacked-counted init es ns main = rw (sub-zero main) (go 0 main)
+  where
+    go : (k n : ℕ) → length (filter (is-lacked init es) (range_with_len k n)) ≡ length (lacked init (map (definition_at ns) (run (entry_at es) k n)))
+    go k zero = rw (run-none (entry_at es) k) refl
+    go k (suc n) = rw (run-cons (entry_at es) k n) (one (is-lacked init es k) _ _ _ (go (k + 1) n))
+      where
+        one : (b : Bool) (xs : List ℕ) (d : Definition) (ds : List Definition) → length xs ≡ length ds → length (cond b (k ∷ xs) xs) ≡ length (cond b (d ∷ ds) ds)
+        one true xs d ds e = ap suc e
+        one false xs d ds e = e
 
-lacked-none : (init : List ℕ) (x : Definition) (xs : List Definition) → (get_or init x.name 65535 ≡ 65535 → ⊥) → length (lacked init (x ∷ xs)) ≡ length (lacked init xs)
-unfolding lacked keep
-lacked-none init x xs e = rw (ne_eqb (get_or init x.name 65535) 65535 e)
-
-module _ {init es : List ℕ} {count main n d : ℕ} (l : CountLeft init es count main n d) where
-  pub count-end : main ≤ d → (ns : List ℕ) → n ≡ count + length (lacked init (definitions_in ns es 0 main))
-  unfolding lacked keep
-  count-end h ns =
-      let z : length (lacked init (definitions_in ns es d main)) ≡ 0 = rw (definitions-none ns es {k = d} {to = main} h) in
-      let e = l.left ns in
-      omega (arith, z, e)
-
-  module _ (h : d < main) where
-    pub count-more : {m : ℕ} → m ≡ n + 1 → get_or init (entry_at es d).name 65535 ≡ 65535 → CountLeft init es count main m (d + 1)
-    count-more {m} z e =
-        record {
-          passed = omega arith;
-          bounded = omega (arith, z, l.bounded);
-          left = λ ns.
-              let s = ap (λ (x : List Definition). length (lacked init x)) (definitions-cons ns es {k = d} {to = main} h) ∙ lacked-some init (definition_at ns (entry_at es d)) (definitions_in ns es (d + 1) main) e in
-              let q = l.left ns in
-              omega (arith, z, s, q);
-        }
-
-    pub count-same : {m : ℕ} → m ≡ n → (get_or init (entry_at es d).name 65535 ≡ 65535 → ⊥) → CountLeft init es count main m (d + 1)
-    count-same {m} z e =
-        record {
-          passed = omega arith;
-          bounded = omega (arith, z, l.bounded);
-          left = λ ns.
-              let s = ap (λ (x : List Definition). length (lacked init x)) (definitions-cons ns es {k = d} {to = main} h) ∙ lacked-none init (definition_at ns (entry_at es d)) (definitions_in ns es (d + 1) main) e in
-              let q = l.left ns in
-              omega (arith, z, s, q);
-        }
-
--- what is read of the table
-pub table-read : (init : List ℕ) {a b : ℕ} → a ≡ b → a < length init → get_or init a 0 ≡ get_or init b 65535
-table-read init {a} e h = get_or-within init a 0 65535 h ∙ ap (λ (k : ℕ). get_or init k 65535) e
+-- what `root_of` says of it
+pub root-lacked : (o : Option ℕ) (root : ℕ) → IfNone o (root ≡ 65535) → IfSome o (λ r. (r ≡ root) × (r ≡ 65535 → ⊥)) → is_none o ≡ eqb root 65535
+root-lacked None root e s = sym (eq-eqb root 65535 e)
+root-lacked (Some r) root e s = sym (ne_eqb root 65535 (λ z. s.1 (s.0 ∙ z)))
 
 -- what a table lacks is what its definitions lack
 missing-is : (ns : List ℕ) (root : ℕ) → is_missing (found_at ns root) ≡ eqb root 65535

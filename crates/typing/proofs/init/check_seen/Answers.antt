@@ -1,6 +1,5 @@
 -- `check_seen` meets its contract. Assumes nothing.
-use Rattle.environment.proofs.Book.{all-trees}
-use Rattle.typing.proofs.init.Laws.{own-table, main-entries, few-own, init-held, root-inside, both-table, init-seen, arguments-seen}
+use Rattle.typing.proofs.init.Laws.{main-entries, few-own, init-held, root-inside, both-table, init-seen, arguments-seen}
 use Rattle.typing.proofs.init.check_seen.Goals as goal
 
 pub overflow_sub-p : goal.overflow_sub-p
@@ -8,8 +7,8 @@ overflow_sub-p c = c.requires.3.split.within
 
 pub merged_count-count-requires : goal.merged_count-count-requires
 merged_count-count-requires c =
-    let p = c.requires in let x = p.2 in let o = p.3 in
-    rw (c.definitions-entries.ensures, c.new-admitted.ensures.bytes) ((_, _, main-entries x.admitted o.file o.split, (all-trees x.admitted).nodes.few_names), (own-table x.admitted o x.passed).long, few-own x.admitted o.file o.split)
+    let p = c.requires in let x = p.2 in let o = p.3 in let m = main-entries x.admitted o.file o.split in
+    rw (c.definitions-entries.ensures, c.new-admitted.ensures.bytes) (record { held = m.held; few = m.few }, few-own x.admitted o.file o.split)
 
 pub at-e-requires : goal.at-e-requires
 at-e-requires c = let p = c.requires in rw (c.files.ensures, c.new-admitted.ensures.bytes) (init-held p.2.admitted p.3.file)

@@ -1,20 +1,18 @@
--- `merged_count` meets its contract. Assumes nothing.
-use mathlib.Core.Path.{sym, ap, ◌∙◌}
+-- `merged_count` meets its contract: what is counted are the entries whose names init lacks. Assumes nothing.
+use mathlib.Core.Path.{ap, ◌∙◌}
 use native.Mathlib.Omega.{arith}
-use Rattle.format.specs.Encode.{Entry}
-use Rattle.typing.proofs.init.Laws.{table-read, count-end, count-more, count-same}
+use Rattle.std.proofs.Common.{ℕ, ◌+◌, rules, tests}
+use Rattle.std.proofs.lemmas.Iterator.{YieldsList-from_range}
+use Rattle.std.proofs.lemmas.Iterator.Consumers.{YieldsList-from_filter, count_from_yields_List}
+use Rattle.typing.proofs.init.Laws.{is-lacked, lacked-counted, root-lacked}
 use Rattle.typing.proofs.init.merged_count.Goals as goal
-use Rattle.typing.proofs.init.merged_count.Goals.{then-init-at, else-init-at}
-
-pub loop-d-preserved : goal.loop-d-preserved
-loop-d-preserved c =
-    let q = ap (λ (e : Entry). e.name) c.at.ensures in
-    let few = c.requires.0.2.name _ (omega arith) c.loop-d-test.true in
-    let read = table-read c.args.init.now q (omega (arith, q, few, c.requires.0.3, c.requires.1)) in
-    elim c.if-init-at.branch [
-      | then-init-at w ↦ count-more c.loop-d.invariant c.loop-d-test.true w.n-is (sym read ∙ w.if-init-at.true)
-      | else-init-at w ↦ count-same c.loop-d.invariant c.loop-d-test.true w.n-is (λ e. w.if-init-at.false (read ∙ e))
-    ]
 
 pub returns : goal.returns
-returns c = count-end c.loop-d.invariant c.loop-d-test.false
+returns c =
+    let init = c.args.init.now in
+    let es = c.args.entries.now in
+    λ ns.
+    ap (λ (k : ℕ). c.args.count + k)
+    (count_from_yields_List c.filter.result c.count.result c.count.ensures.ran
+    (YieldsList-from_filter _ (is-lacked init es) (YieldsList-from_range 0 c.args.main c.args.main (cc) (omega arith)) c.filter.ensures.closure (λ x b q k. search (rules, tests, root-lacked)))
+    ∙ lacked-counted init es ns c.args.main)
