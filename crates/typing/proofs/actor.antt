@@ -1,2 +1,2 @@
 -- Laws of the actor.
-mod Laws
+pub mod Laws

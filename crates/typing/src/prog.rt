@@ -38,7 +38,7 @@ fn check_resolved<'t>(
 {
     let interface = syntax::actor::resolve_actor(book, files, main, roots, ends)?;
     let walk = Walk::new(book, roots, Some(ends));
-    crate::actor::check_actor(&walk, &interface)?;
+    walk.check_actor(&interface)?;
     Ok(Passed {
         contents: book.contents,
         main,

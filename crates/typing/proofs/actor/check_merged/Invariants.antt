@@ -1,6 +1,0 @@
-use Rattle.std.specs.Prelude.{IsSome}
-use Rattle.typing.proofs.actor.Laws.{MergedLeft}
-use Rattle.typing.proofs.actor.check_merged.Given as goal
-
-abbrev pub invariant-loop-service : goal.invariant-loop-service
-invariant-loop-service l = IsSome l.walk.ends → MergedLeft l.walk l.service-items l.service-index
