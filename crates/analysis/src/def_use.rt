@@ -4,7 +4,7 @@
 ghost use Rattle.std.specs.Prelude.{◌≡◌, ◌++◌, ◌+◌, ◌-◌, ◌/◌, ◌%◌, ◌≤◌, ◌<◌, length};
 ghost use Rattle.format.specs.Forest.{breadth};
 ghost use Rattle.format.specs.Layout.{row_at, siblings};
-ghost use Rattle.format.specs.Whole.{Whole, WholeAt};
+ghost use Rattle.format.specs.Whole.{WholeAt};
 ghost use Rattle.syntax.specs.Interfaces.{methods_in};
 ghost use Rattle.listing.specs.Sites.{class_sites, func_sites, end_sites, method_sites};
 ghost use Rattle.listing.specs.Offers.{indexed};
@@ -37,14 +37,13 @@ impl Side {
 }
 
 // The node after the first `count` trees, or after all of them where they are fewer.
-fn skip(rows: &[u8], from: usize, until: usize, count: usize) -> usize
-    requires { Whole rows.now from until }
-    ensures { SkipsTo rows.now from until count result }
+fn skip(trees: Siblings<'_>, count: usize) -> usize
+    ensures { SkipsTo trees.entry.rows.now trees.entry.at trees.entry.until count result }
 {
-    let mut trees = Siblings::new(rows, from, until);
-    match trees.nth(count) {
+    let mut rest = trees;
+    match rest.nth(count) {
         Some((n, _)) => n,
-        None => until,
+        None => trees.until,
     }
 }
 
@@ -83,7 +82,8 @@ impl Searched<'_> {
     {
         let t = Node::at(self.rows, f);
         let until = f + t.size;
-        let from = skip(self.rows, f + 1, until, (t.value % Node::HALF) as usize);
+        let trees = Siblings::new(self.rows, f + 1, until);
+        let from = skip(trees, (t.value % Node::HALF) as usize);
         let arguments = Siblings::new(self.rows, f + 1, from);
         let results = Siblings::new(self.rows, from, until);
         self.put_trees(arguments, method, Side::Argument, uses);
