@@ -21,7 +21,7 @@ fn own_definitions(entries: &[u8], count: usize) -> usize
 }
 
 // Main's tree as written stands at this root.
-fn draft_list_written(book: AdmittedBook, root: u16, out: &mut [u16]) -> Answer
+fn draft_list_written(book: AdmittedBook, root: usize, out: &mut [u16]) -> Answer
     requires { MainWritten book.bytes.now root }
     ensures { (a : Admitted book.entry.bytes.now book.entry.contents) → HandedAs (draft_list a.book) out.old out.new result }
 {
@@ -30,9 +30,8 @@ fn draft_list_written(book: AdmittedBook, root: u16, out: &mut [u16]) -> Answer
     let mut roots = [Entry::NO_ROOT; Limits::NAMES];
     environment::enter(book, 0, own, &mut roots)?;
     let rows = book.nodes();
-    let n = root as usize;
-    let t = Node::at(rows, n);
-    let w = analysis::chase::chase_types(rows, &roots, n, n + t.size)?;
+    let t = Node::at(rows, root);
+    let w = analysis::chase::chase_types(rows, &roots, root, root + t.size)?;
     refusals::hand(w.listed.as_slice(), out)
 }
 
@@ -42,9 +41,6 @@ pub fn draft_list_admitted(book: AdmittedBook, out: &mut [u16]) -> Answer
 {
     let files = book.files();
     let main = Entry::at(files, 0);
-    let root = main.root;
-    if root == Entry::NO_ROOT {
-        return Err(Refusal::NoActor);
-    }
+    let root = syntax::files::actor_root(main).ok_or(Refusal::NoActor)?;
     draft_list_written(book, root, out)
 }

@@ -1,6 +1,6 @@
 -- The definitions and the actor of a draft, as the code finds them. Assumes nothing.
 use mathlib.Core.Path.{◌≡◌, sym, ap, subst, ◌∙◌}
-use mathlib.Core.Bool.{true, false}
+use mathlib.Core.Bool.{Bool, true, false, cond}
 use mathlib.Core.List.{List, []}
 use Prim.Native.Nat.{ℕ, ◌-◌, ◌≤◌, ◌<◌}
 use native.Mathlib.Nat.{sub-zero}
@@ -33,7 +33,9 @@ use Rattle.syntax.proofs.Book.{all-made, definitions-parts, owners-rise, main-ac
 use Rattle.listing.specs.Chase.{chase_types, walked}
 use Rattle.listing.specs.Room.{needs_actor}
 use Rattle.listing.specs.DraftList.{draft_definitions, draft_list}
-use Rattle.std.proofs.Common.{Result}
+use Rattle.std.proofs.Common.{Result, Option, None, Some, is_some, rules, tests}
+use Rattle.syntax.specs.Files.{actor_root}
+use Rattle.syntax.proofs.files.Laws.{root-some}
 use Rattle.refusals.specs.declared.Refusal.{Refusal}
 use Rattle.analysis.specs.declared.chase.Walk.{Walk}
 use Rattle.analysis.specs.Walking.{Counted, WalkedAs, RootIn}
@@ -42,6 +44,14 @@ use Rattle.passed.specs.Drafts.{OwnAs, MainWritten}
 use Rattle.passed.proofs.Walks.{Walks, walk-says}
 use Rattle.passed.proofs.Walks as walks
 use Rattle.format.specs.Encode.{Entry}
+
+root-is : {n root : ℕ} → actor_root n ≡ Some root → root ≡ n
+unfolding actor_root
+root-is {n} {root} = look (eqb n 65535)
+  where
+    look : (b : Bool) → cond b None (Some n) ≡ Some root → root ≡ n
+    look true h = search (rules, tests)
+    look false h = search (rules, tests)
 
 module _ {bs : List ℕ} {c : Contents} (a : Admitted bs c) where
   abbrev b : Book
@@ -64,6 +74,11 @@ module _ {bs : List ℕ} {c : Contents} (a : Admitted bs c) where
 
   pub main-root : {fs : List ℕ} → fs ≡ files_part bs → {e : Entry} → e ≡ entry_at fs 0 → e.root ≡ (entry_at (files_part bs) 0).root
   main-root here q = ap (λ (e : Entry). e.root) q ∙ ap (λ (fs : List ℕ). (entry_at fs 0).root) here
+
+  pub main-written : {n root : ℕ} → n ≡ (entry_at (files_part bs) 0).root → actor_root n ≡ Some root → MainWritten bs root
+  main-written e h =
+      let i = root-is h in
+      record { is = i ∙ e; some = λ q. root-some (ap is_some h) (sym i ∙ q) }
 
   main-is : {root : ℕ} → root ≡ (entry_at (files_part bs) 0).root → main_actor b ≡ actor_at rows root
   main-is e = main-actor-is bs a.laid ∙ ap (actor_at rows) (sym e)

@@ -35,8 +35,8 @@ at-t-requires c =
     let ready = written (book-of _ _ c.args.book.laid) c.requires c.definitions-entries.ensures c.own_definitions-own.ensures c.enter.ensures c.in_ok-enter.was c.nodes-rows.ensures in
     here-within ready.0.rooted ready.0.node
 
-pub overflow_add-n : goal.overflow_add-n
-overflow_add-n c =
+pub overflow_add-root : goal.overflow_add-root
+overflow_add-root c =
     let ready = written (book-of _ _ c.args.book.laid) c.requires c.definitions-entries.ensures c.own_definitions-own.ensures c.enter.ensures c.in_ok-enter.was c.nodes-rows.ensures in
     omega (arith, here-small ready.0.rooted ready.0.node (ap (λ (q : Row). q.size) c.at-t.ensures))
 
