@@ -54,14 +54,11 @@ impl<'a> Decs<'a> {
     {
         let walk = Walk::new(self.book, roots, Some(ends));
         let entries = self.book.definitions();
-        for d in self.from..self.to {
+        (self.from..self.to).all(|d| {
             let root = Entry::at(entries, d).root as usize;
             let size = Node::at(walk.scope.rows, root).size;
-            if !walk.services_fit(false, root, root + size) {
-                return false;
-            }
-        }
-        true
+            walk.services_fit(false, root, root + size)
+        })
     }
 
     // 3 to 8, of definitions that are in the table. Their alias ends go into a table that has nothing, and has nothing again where they are refused.

@@ -3,18 +3,22 @@
 --     bodies-stop, bodies-on, ..       the loop over their bodies
 --     fits-stop, fits-on, ..           the loop over their methods
 --     decs-body, decs-circle, ..       the verdict
-use mathlib.Core.Path.{◌≡◌, refl, sym, ap, ◌∙◌}
-use mathlib.Core.Bool.{Bool, true, false, true≢false, false≢true}
-use mathlib.Core.List.{List, [], ◌∷◌}
-use Prim.Native.Nat.{ℕ, suc, ◌+◌, ◌-◌, ◌≤◌, ◌<◌}
+use mathlib.Core.Path.{◌≡◌, refl, sym, ap, subst, ◌∙◌}
+use mathlib.Core.Bool.{Bool, true, false, true≢false, false≢true, ◌&&◌, and-false}
+use mathlib.Core.List.{List, [], ◌∷◌, map}
+use Prim.Native.Nat.{ℕ, zero, suc, ◌+◌, ◌-◌, ◌≤◌, ◌<◌}
 use native.Mathlib.Omega.{arith}
+use native.Mathlib.Decide.{ℕ_discrete}
 use lib.ListN.{length}
 use Rattle.std.specs.Prelude.{None, Some, IsSome, Ok, Err}
+use Rattle.std.specs.Bool.{MatchBool}
+use Rattle.std.specs.List.{range_with_len, AllWithin, HoldsAt}
 use Rattle.std.specs.Result.{is_err}
+use Rattle.std.proofs.lemmas.List.FromFn.{length-range_with_len, get_or-range_with_len}
 use denote.Bor.{Bor}
 use Rattle.format.specs.Book.{Definition}
 use Rattle.format.specs.Encode.{Entry}
-use Rattle.format.specs.Layout.{nodes_part, definitions_part, entry_at, row_at, siblings}
+use Rattle.format.specs.Layout.{run, nodes_part, definitions_part, entry_at, row_at, siblings}
 use Rattle.format.specs.Whole.{WholeIn, tree_at, definition_at}
 use Rattle.format.proofs.Lists.{run-none, run-cons}
 use Rattle.refusals.specs.declared.Refusal.{Refusal}
@@ -136,25 +140,44 @@ module _ (d : Decs) where
         env-ends : WalkEnv w ds
         env-ends = rw (r.rows-are, r.roots-are, r.ends-are, same) checked.env
 
-        module _ {k : ℕ} (b : d.from ≤ k) (h : k < d.to) {e : Entry} (is : e ≡ entry_at es k) (left : bodies_fit ds (definitions_in ns es k d.to) ≡ bodies_fit ds ds)
-            {fit : Bool} {size : ℕ} (size-is : size ≡ (row_at ns e.root).size)
-            (u : IsSome w.ends → Under w (λ pre ds. fit ≡ methods_fit ds false (siblings w.scope.rows.now e.root (e.root + size)))) where
-          body-fits : fit ≡ methods_fit ds false (tree_at ns (entry_at es k).root)
-          body-fits =
-              (rw r.rows-are at (u (rw r.ends-are refl) ds env-ends)) ∙ ap (λ (i : ℕ). methods_fit ds false (siblings ns e.root (e.root + i))) size-is
-              ∙ ap (λ (q : Entry). methods_fit ds false (tree_at ns q.root)) is
+        abbrev pub Says : Bool → ℕ → Type 0
+        Says b k = IsSome w.ends → Under w (λ pre ds. b ≡ methods_fit ds false (siblings w.scope.rows.now (entry_at es k).root ((entry_at es k).root + (row_at w.scope.rows.now (entry_at es k).root).size)))
 
-          pub fits-stop : fit ≡ false → false ≡ bodies_fit ds ds
-          unfolding bodies_fit
-          fits-stop f = rw (← body-fits, f) at (ap (bodies_fit ds) (sym (definitions-cons ns es h)) ∙ left)
+        abbrev fit-at : ℕ → Bool
+        fit-at k = methods_fit ds false (tree_at ns (entry_at es k).root)
 
-          pub fits-on : fit ≡ true → bodies_fit ds (definitions_in ns es (k + 1) d.to) ≡ bodies_fit ds ds
-          unfolding bodies_fit
-          fits-on f = rw (← body-fits, f) at (ap (bodies_fit ds) (sym (definitions-cons ns es h)) ∙ left)
+        says-fit : (b : Bool) (k : ℕ) → Says b k → b ≡ fit-at k
+        says-fit b k u = rw r.rows-are at (u (rw r.ends-are refl) ds env-ends)
 
-      pub fits-end : {k : ℕ} → d.to ≤ k → bodies_fit ds (definitions_in ns es k d.to) ≡ bodies_fit ds ds → true ≡ bodies_fit ds ds
-      unfolding bodies_fit
-      fits-end h left = sym (ap (bodies_fit ds) (definitions-none ns es h)) ∙ left
+        all-fit : (k n : ℕ) → ((i : ℕ) → k ≤ i → i < k + n → true ≡ fit-at i) → true ≡ bodies_fit ds (map (definition_at ns) (run (entry_at es) k n))
+        unfolding bodies_fit
+        all-fit k zero h = rw (run-none (entry_at es) k) refl
+        all-fit k (suc n) h = rw (run-cons (entry_at es) k n, ← h k (omega arith) (omega arith)) (all-fit (k + 1) n (λ i a l. h i (omega arith) (omega arith)))
+
+        one-not : (k n i : ℕ) → k ≤ i → i < k + n → false ≡ fit-at i → false ≡ bodies_fit ds (map (definition_at ns) (run (entry_at es) k n))
+        unfolding bodies_fit
+        one-not k zero i a l f = absurd (omega arith)
+        one-not k (suc n) i a l f = rw (run-cons (entry_at es) k n) (go (ℕ_discrete i k) (λ e. one-not (k + 1) n i (omega (arith, a, e)) (omega arith) f))
+          where
+            rest : Bool
+            rest = bodies_fit ds (map (definition_at ns) (run (entry_at es) (k + 1) n))
+
+            go : Dec (i ≡ k) → ((i ≡ k → ⊥) → false ≡ rest) → false ≡ fit-at k && rest
+            go (yes e) h = ap (λ b. b && rest) (f ∙ ap fit-at e)
+            go (no e) h = sym (and-false (fit-at k)) ∙ ap (λ b. fit-at k && b) (h e)
+
+        pub fits-all : (fit : Bool) → MatchBool fit (AllWithin (Says true) (range_with_len d.from (d.to - d.from)) 0 (length (range_with_len d.from (d.to - d.from))))
+            ((k : ℕ) × (k < length (range_with_len d.from (d.to - d.from))) × HoldsAt (Says false) (range_with_len d.from (d.to - d.from)) k) → fit ≡ bodies_fit ds ds
+        fits-all true z =
+            all-fit d.from (d.to - d.from)
+            (λ i a l.
+            says-fit true i
+            (subst (Says true) (get_or-range_with_len d.from (d.to - d.from) (i - d.from) 0 (omega arith) ∙ omega arith)
+            (z (i - d.from) 0 (omega arith) (omega (arith, length-range_with_len d.from (d.to - d.from))))))
+        fits-all false z =
+            let l : z.0 < d.to - d.from = omega (arith, z.1, length-range_with_len d.from (d.to - d.from)) in
+            one-not d.from (d.to - d.from) (d.from + z.0) (omega arith) (omega (arith, l))
+            (says-fit false (d.from + z.0) (subst (Says false) (get_or-range_with_len d.from (d.to - d.from) z.0 0 l) (z.2 0)))
 
     -- ---- the verdict
     refuse : {x : Refusal} → Err x ≡ decs_verdict d.book.contents.names ds → {ends' : List ℕ} → ends' ≡ zero_table → EnteredOf d (Err x) roots ends'

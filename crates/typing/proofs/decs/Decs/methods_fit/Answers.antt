@@ -1,44 +1,47 @@
--- `methods_fit` meets its contract: the bodies that are left fit just where all do. Assumes nothing.
-use mathlib.Core.Path.{refl, ap}
+-- `methods_fit` meets its contract: what `all` says of each entry. Assumes nothing.
+use mathlib.Core.Path.{◌≡◌, refl, ap}
 use native.Mathlib.Omega.{arith}
+use Rattle.std.proofs.Common.{◌+◌, ◌-◌, true, false, rules, tests}
+use Rattle.std.specs.Prelude.{IsSome}
+use Rattle.std.proofs.lemmas.Iterator.{YieldsList-from_range, serves_from_Range, cases_from_all}
+use Rattle.format.specs.Layout.{row_at, entry_at, siblings}
+use Rattle.judgement.specs.Check.{methods_fit}
+use Rattle.typing.specs.Types.{Under}
 use Rattle.format.specs.Encode.{Row}
 use Rattle.format.proofs.Rows.{node-within}
 use Rattle.format.proofs.Stored.{tree-whole}
-use Rattle.typing.proofs.decs.Laws.{nodes, entry-within, body-in, fits-stop, fits-on, fits-end}
+use Rattle.typing.proofs.decs.Laws.{nodes, entry-within, body-in, fits-all}
 use Rattle.typing.proofs.decs.Decs.methods_fit.Goals as goal
 
-pub at-root-requires : goal.at-root-requires
-at-root-requires c = rw c.definitions-entries.ensures (entry-within c.args.self c.loop-d.auto.d c.loop-d-test.true)
-
-pub at-size-requires : goal.at-size-requires
-at-size-requires c =
-    rw c.new-walk.ensures.rows-are (node-within (body-in c.args.self c.loop-d.auto.d c.loop-d-test.true (rw c.definitions-entries.ensures at c.at-root.ensures)).whole)
-
-pub overflow_add-root : goal.overflow_add-root
-overflow_add-root c =
-    let w = body-in c.args.self c.loop-d.auto.d c.loop-d-test.true (rw c.definitions-entries.ensures at c.at-root.ensures) in
-    let s = rw c.new-walk.ensures.rows-are at (ap (λ (q : Row). q.size) c.at-size.ensures) in
-    omega (arith, s, w.ends, (nodes c.args.self).few_nodes)
-
-pub services_fit-requires : goal.services_fit-requires
-services_fit-requires c =
-    let w = body-in c.args.self c.loop-d.auto.d c.loop-d-test.true (rw c.definitions-entries.ensures at c.at-root.ensures) in
-    let s = rw c.new-walk.ensures.rows-are at (ap (λ (q : Row). q.size) c.at-size.ensures) in
-    record {
-      whole = rw (c.new-walk.ensures.rows-are, s) (tree-whole w.whole);
-      inside = rw (c.new-walk.ensures.nodes-are, s) w.ends;
-      methods_are = λ m. cc;
-    }
-
-pub returns-then-not-services_fit : goal.returns-then-not-services_fit
-returns-then-not-services_fit c =
-    fits-stop c.args.self c.requires.0 c.requires.1 refl c.new-walk.ensures c.loop-d.auto.d c.loop-d-test.true (rw c.definitions-entries.ensures at c.at-root.ensures) c.loop-d.invariant
-    (rw c.new-walk.ensures.rows-are at (ap (λ (q : Row). q.size) c.at-size.ensures)) c.services_fit.ensures c.if-not-services_fit.true
-
-pub loop-d-preserved : goal.loop-d-preserved
-loop-d-preserved c =
-    fits-on c.args.self c.requires.0 c.requires.1 refl c.new-walk.ensures c.loop-d.auto.d c.loop-d-test.true (rw c.definitions-entries.ensures at c.at-root.ensures) c.loop-d.invariant
-    (rw c.new-walk.ensures.rows-are at (ap (λ (q : Row). q.size) c.at-size.ensures)) c.services_fit.ensures c.if-not-services_fit.false
+pub all-requires-clause-callable : goal.all-requires-clause-callable
+all-requires-clause-callable c = serves_from_Range (λ x q k. search (rules, tests)) (λ d from to. (
+  (λ κ p g e i l u z. rw c.definitions-entries.ensures (entry-within c.args.self from to)),
+  (λ κ p g e i l u z r v w x is m y. omega (arith, y)),
+  (λ κ p g e i l u z r v w x is m y t o. rw c.new-walk.ensures.rows-are (node-within (body-in c.args.self from to (rw c.definitions-entries.ensures at is)).whole)),
+  (λ κ p g e i l u z r v w x is m y t o.
+      let b = body-in c.args.self from to (rw c.definitions-entries.ensures at is) in
+      let s = rw c.new-walk.ensures.rows-are at (ap (λ (q : Row). q.size) o.ensures) in
+      omega (arith, s, b.ends, (nodes c.args.self).few_nodes)),
+  (λ κ p g e i l u z r v w x is m y t o j.
+      let b = body-in c.args.self from to (rw c.definitions-entries.ensures at is) in
+      let s = rw c.new-walk.ensures.rows-are at (ap (λ (q : Row). q.size) o.ensures) in
+      record {
+        whole = rw (c.new-walk.ensures.rows-are, s) (tree-whole b.whole);
+        inside = rw (c.new-walk.ensures.nodes-are, s) b.ends;
+        methods_are = λ m. cc;
+      }),
+))
 
 pub returns : goal.returns
-returns c = fits-end c.args.self c.requires.0 c.requires.1 c.loop-d-test.false c.loop-d.invariant
+returns c =
+    let d = c.args.self in
+    let w = c.new-walk.result in
+    let es = c.definitions-entries.result.now in
+    let rows = w.scope.rows.now in
+    fits-all d c.requires.0 c.requires.1 refl c.new-walk.ensures c.all.result
+    (rw c.definitions-entries.ensures at
+    (cases_from_all _ _ c.all.result
+    (λ k. IsSome w.ends → Under w (λ pre ds. true ≡ methods_fit ds false (siblings rows (entry_at es k).root ((entry_at es k).root + (row_at rows (entry_at es k).root).size))))
+    (λ k. IsSome w.ends → Under w (λ pre ds. false ≡ methods_fit ds false (siblings rows (entry_at es k).root ((entry_at es k).root + (row_at rows (entry_at es k).root).size))))
+    c.all.ensures.ran (YieldsList-from_range d.from d.to (d.to - d.from) (cc) refl)
+    (λ x q k. search (rules, tests)) (λ x q k. search (rules, tests))))
