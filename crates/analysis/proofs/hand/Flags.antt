@@ -1,14 +1,18 @@
 -- Names by their flags. Assumes nothing.
 --     flags-ascending          flags that tell a set give its names, ascending
---     flagged-on               one name more
---     ListedTo, listed-..      the loop that lists them
-use mathlib.Core.Path.{◌≡◌, refl, sym, ap, ◌∙◌}
+--     flagged-kept, -few       they are what is kept of a range, and no more than it has
+--     all-listed               what is put in a table that has room is listed to its end
+use mathlib.Core.Path.{◌≡◌, refl, sym, ap, subst, ◌∙◌}
 use mathlib.Core.Bool.{Bool, true, false, cond}
-use mathlib.Core.List.{List, [], ◌∷◌, ◌++◌, append-nil}
-use Prim.Native.Nat.{ℕ, zero, suc, ◌+◌, ◌≤◌}
+use mathlib.Core.List.{List, [], ◌∷◌, ◌++◌, map}
+use Prim.Native.Nat.{ℕ, zero, suc, ◌+◌, ◌≤◌, ◌<◌}
 use native.Mathlib.Omega.{arith}
-use borrow.Author.Tests.{eq-eqb, ne_eqb}
-use Rattle.std.proofs.Common.{length, get_or, length-append}
+use Rattle.std.proofs.Common.{length, length-append, Option, Some, Result, Ok, Err}
+use Rattle.std.specs.Result.{OnErr, MatchResult}
+use Rattle.std.specs.Iterator.{Yields, YieldsThen, Drains}
+use Rattle.std.proofs.lemmas.Iterator.{YieldsList}
+use Rattle.std.proofs.lemmas.Iterator.Adapters.{at_most_from_yields_List, items_from_extend}
+use Rattle.std.specs.List.{filter, range_with_len}
 use Rattle.book.specs.Tables.{is_set, flagged}
 use Rattle.listing.specs.Recursive.{sorted}
 use Rattle.analysis.specs.Book.{Agrees}
@@ -18,44 +22,57 @@ unfolding flagged sorted
 flags-ascending flags l h n zero le = refl
 flags-ascending flags l h n (suc k) le = rw (h n (omega arith), flags-ascending flags l h (suc n) k (omega arith))
 
--- the name, where its flag is set
-abbrev flagged_at : List ℕ → ℕ → List ℕ
-flagged_at flags n = cond (is_set flags n) (n ∷ []) []
-
-pub flagged-on : (flags : List ℕ) (n k : ℕ) → flagged flags n (suc k) ≡ flagged flags n k ++ flagged_at flags (n + k)
+-- ---- What is kept of a range
+pub flagged-kept : (flags : List ℕ) (n k : ℕ) → flagged flags n k ≡ map (λ (m : ℕ). m) (filter (is_set flags) (range_with_len n k))
 unfolding flagged
-flagged-on flags n zero = let z : n ≡ n + 0 = omega arith in ap (flagged_at flags) z
-flagged-on flags n (suc k) =
-    let z : suc n + k ≡ n + suc k = omega arith in
-    look (is_set flags n) (flagged-on flags (suc n) k ∙ ap (λ (m : ℕ). flagged flags (suc n) k ++ flagged_at flags m) z)
+flagged-kept flags n zero = refl
+flagged-kept flags n (suc k) =
+    let z : suc n ≡ n + 1 = omega arith in
+    look (is_set flags n) (flagged-kept flags (suc n) k ∙ ap (λ (m : ℕ). map (λ (x : ℕ). x) (filter (is_set flags) (range_with_len m k))) z)
   where
-    look : (b : Bool) → flagged flags (suc n) (suc k) ≡ flagged flags (suc n) k ++ flagged_at flags (n + suc k) →
-        cond b (n ∷ flagged flags (suc n) (suc k)) (flagged flags (suc n) (suc k))
-        ≡ cond b (n ∷ flagged flags (suc n) k) (flagged flags (suc n) k) ++ flagged_at flags (n + suc k)
+    look : (b : Bool) → flagged flags (suc n) k ≡ map (λ (m : ℕ). m) (filter (is_set flags) (range_with_len (n + 1) k)) →
+        cond b (n ∷ flagged flags (suc n) k) (flagged flags (suc n) k)
+        ≡ map (λ (m : ℕ). m) (cond b (n ∷ filter (is_set flags) (range_with_len (n + 1) k)) (filter (is_set flags) (range_with_len (n + 1) k)))
     look true e = ap (λ (l : List ℕ). n ∷ l) e
     look false e = e
 
--- ---- The loop that lists them
-pub record ListedTo (flags list : List ℕ) (n : ℕ) : Type 0 where
-  pub few : length list ≤ n
-  pub so_far : list ≡ flagged flags 0 n
-
-pub listed-none : {flags list : List ℕ} → list ≡ [] → ListedTo flags list 0
+pub flagged-few : (flags : List ℕ) (n k : ℕ) → length (flagged flags n k) ≤ k
 unfolding flagged
-listed-none e = record { few = omega (arith, ap length e); so_far = e }
+flagged-few flags n zero = omega arith
+flagged-few flags n (suc k) = look (is_set flags n) (flagged-few flags (suc n) k)
+  where
+    look : (b : Bool) → length (flagged flags (suc n) k) ≤ k → length (cond b (n ∷ flagged flags (suc n) k) (flagged flags (suc n) k)) ≤ suc k
+    look true h = omega (arith, h)
+    look false h = omega (arith, h)
 
-module _ {flags list : List ℕ} {n : ℕ} (l : ListedTo flags list n) where
-  more : flagged flags 0 (n + 1) ≡ list ++ flagged_at flags n
-  more =
-      let z : n + 1 ≡ suc n = omega arith in
-      let o : 0 + n ≡ n = omega arith in
-      ap (flagged flags 0) z ∙ flagged-on flags 0 n ∙ ap (λ (m : ℕ). flagged flags 0 n ++ flagged_at flags m) o
-      ∙ ap (λ (k : List ℕ). k ++ flagged_at flags n) (sym l.so_far)
+-- ---- What is put in
+module _ {S A : Type 0} (steps : S → Option A → S → Type 0) where
+  one-more : (s t u : S) (xs : List A) (x : A) → Yields steps s xs t → steps t (Some x) u → Yields steps s (xs ++ (x ∷ [])) u
+  one-more s t u [] x e h = (u, subst (λ (q : S). steps q (Some x) u) (sym e) h, refl)
+  one-more s t u (y ∷ ys) x (j, g, e) h = (j, g, one-more j t u ys x e h)
 
-  pub listed-skip : (get_or flags n 0 ≡ 1 → ⊥) → ListedTo flags list (n + 1)
-  listed-skip h =
-      record { few = omega (arith, l.few); so_far = sym (append-nil list) ∙ sym (rw (ne_eqb (get_or flags n 0) 1 h) at more) }
+module _ {S A : Type 0} {steps : S → Option A → S → Type 0} where
+  -- what is given before an item is shorter than all that is given
+  not-full : {B : Type 0} {v : A → B} {s u : S} {all : List B} → YieldsList steps v s all → (xs : List A) (x : A) → YieldsThen steps s xs (Some x) u →
+      length xs < length all
+  not-full {B} {v} {s} {u} {all} road xs x (t, e, h) =
+      let m = at_most_from_yields_List {n = length all} road (omega arith) in
+      let l = m.runs (xs ++ (x ∷ [])) u (one-more steps s t u xs x e h) in
+      omega (arith, l, length-append xs (x ∷ []))
 
-  pub listed-on : get_or flags n 0 ≡ 1 → ListedTo flags (list ++ (n ∷ [])) (n + 1)
-  listed-on h =
-      record { few = omega (arith, l.few, length-append list (n ∷ [])); so_far = sym (rw (eq-eqb (get_or flags n 0) 1 h) at more) }
+module _ {S : Type 0} {steps : S → Option ℕ → S → Type 0} where
+  -- the flagged names, put in a table that has nothing: what is put in ends before the table is full
+  pub all-listed : {E : Type 0} {s : S} (r : Result (Unit {0}) E) (flags : List ℕ) (k : ℕ) {old new : List ℕ} → k ≤ 1024 → old ≡ [] →
+      YieldsList steps (λ x. x) s (map (λ (m : ℕ). m) (filter (is_set flags) (range_with_len 0 k))) →
+      ((it : S) × (xs : List ℕ) × (it ≡ s) × (new ≡ old ++ xs) × MatchResult r (λ _. Drains steps it xs) (λ _. (t : S) × Yields steps it xs t)) →
+      OnErr r (length new ≡ 1024) →
+      OnErr r ((it : S) × (xs : List ℕ) × (x : ℕ) × (u : S) × (it ≡ s) × YieldsThen steps it xs (Some x) u × (new ≡ old ++ xs)) →
+      new ≡ flagged flags 0 k
+  all-listed {E} (Ok v) flags k {old} {new} few none road ran full more =
+      items_from_extend {E = E} {P = λ (xs : List ℕ). new ≡ old ++ xs} (Ok v) ran road
+      ∙ ap (λ (l : List ℕ). l ++ map (λ (m : ℕ). m) (filter (is_set flags) (range_with_len 0 k))) none ∙ sym (flagged-kept flags 0 k)
+  all-listed (Err e) flags k {old} {new} few none road ran full (it, xs, x, u, same, then, are) =
+      let l = not-full road xs x (subst (λ (q : S). YieldsThen steps q xs (Some x) u) same then) in
+      let n = ap length (are ∙ ap (λ (l : List ℕ). l ++ xs) none) in
+      let m = ap length (flagged-kept flags 0 k) in
+      absurd (omega (arith, l, n, m, full, few, flagged-few flags 0 k))
