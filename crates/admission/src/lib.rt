@@ -31,6 +31,7 @@ pub fn admit<'a>(book: &'a [u8], limits: Limits) -> Result<AdmittedBook<'a>, Ref
         bytes: book,
         contents,
     };
-    repeats::check_labels(admitted)?;
+    let checked = repeats::check_labels(admitted);
+    checked?;
     Ok(admitted)
 }

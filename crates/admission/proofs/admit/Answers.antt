@@ -30,11 +30,11 @@ overflow_cast-size-3 c = let f = few (book-of _ _ (sym c.in-Some.is ∙ c.layout
 pub returns-then-not-within-clause-answer : goal.returns-then-not-within-clause-answer
 returns-then-not-within-clause-answer c = over (book-of _ _ (sym c.in-Some.is ∙ c.layout.ensures)) _ (sym (c.if-not-within.true) ∙ c.within.ensures)
 
-pub returns-in_err-check_labels-clause-answer : goal.returns-in_err-check_labels-clause-answer
-returns-in_err-check_labels-clause-answer c =
+pub returns-in_err-checked-clause-answer : goal.returns-in_err-checked-clause-answer
+returns-in_err-checked-clause-answer c =
     rw (handed-on c.from_residual.result c.from_residual.ensures)
-    (labelled (book-of _ _ (sym c.in-Some.is ∙ c.layout.ensures)) _ (sym (c.if-not-within.false) ∙ c.within.ensures) c.in_err-check_labels.ensures)
+    (labelled (book-of _ _ (sym c.in-Some.is ∙ c.layout.ensures)) _ (sym (c.if-not-within.false) ∙ c.within.ensures) (rw c.in_err-checked.was at c.check_labels-checked.ensures))
 
 pub returns-clause-answer : goal.returns-clause-answer
 returns-clause-answer c =
-    labelled (book-of _ _ (sym c.in-Some.is ∙ c.layout.ensures)) _ (sym (c.if-not-within.false) ∙ c.within.ensures) c.in_ok-check_labels.ensures
+    labelled (book-of _ _ (sym c.in-Some.is ∙ c.layout.ensures)) _ (sym (c.if-not-within.false) ∙ c.within.ensures) (rw c.in_ok-checked.was at c.check_labels-checked.ensures)
