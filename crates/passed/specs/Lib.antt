@@ -1,4 +1,5 @@
 -- What the contracts of the questions cite. The definitions of what they answer are those of the crate `listing`.
+pub mod Passes
 pub mod Props
 pub mod Stages
 pub mod Checked

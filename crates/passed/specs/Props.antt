@@ -1,4 +1,4 @@
--- A book passes in one way at most. Assumes nothing.
+-- A book passes in one way at most, which a type that holds `Passes` needs. No definition that a contract cites; assumes nothing.
 use Rattle.std.specs.Prelude.{◌≡◌, List, [], ℕ, Option, Some, None}
 use Rattle.std.specs.Coded.{Unit-prop}
 use mathlib.Core.Path.{refl, sym, ap, subst, ◌∙◌}
@@ -17,6 +17,7 @@ use Rattle.syntax.specs.declared.interface.Interface.{Interface}
 use Rattle.typing.specs.Props as typing
 use Rattle.typing.specs.Passing.{PassedBook}
 use Rattle.typing.specs.declared.prog.Passed.{Passed}
+use Rattle.passed.specs.Passes.{Passes}
 
 -- Two forests are equal exactly if their parts are.
 abbrev Same : Forest Node → Forest Node → Type 0
@@ -89,10 +90,6 @@ EndAt-prop ns o (ends t) x y =
 
 PassedBook-prop : (bs roots ends' : List ℕ) (p : Passed) → IsProp (PassedBook bs roots ends' p)
 PassedBook-prop bs roots ends' p = Prim.hlevel (typing.props, Forest-set, Admitted-prop, EndAt-prop)
-
--- A book passed, and this is its own: what a checked book holds.
-abbrev pub Passes : List ℕ → Contents → ℕ → Interface → List ℕ → List ℕ → Type 0
-Passes bs c main i roots ends' = PassedBook bs roots ends' (record { contents = c; main = main; interface = i })
 
 pub Passes-prop : (bs : List ℕ) (c : Contents) (main : ℕ) (i : Interface) (roots ends' : List ℕ) → IsProp (Passes bs c main i roots ends')
 Passes-prop bs c main i roots ends' = PassedBook-prop bs roots ends' (record { contents = c; main = main; interface = i })

@@ -2,7 +2,8 @@
 // each; the draft list's is on an admitted book. Who asks several questions of one book, as the program list does, lets it pass once.
 #![tactic(auto)]
 
-ghost use Rattle.passed.specs.Props.{Passes, Passes-prop};
+ghost use Rattle.passed.specs.Passes.{Passes};
+ghost use Rattle.passed.specs.Props.{Passes-prop};
 
 pub mod alias;
 pub mod draft_list;
