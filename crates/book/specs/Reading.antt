@@ -1,5 +1,5 @@
 -- What the reader answers, from the definitions of the crate `format`. Definitions; assumes nothing.
-use Rattle.std.specs.Prelude.{Option, Some, None, List, ◌≡◌, ℕ, ◌+◌, ◌*◌, ◌≤◌, length}
+use Rattle.std.specs.Prelude.{Option, Some, None, List, ◌≡◌, cond, ℕ, ◌+◌, ◌*◌, ◌≤◌, eqb, length}
 use Rattle.labels.specs.declared.Label.{Label}
 use Rattle.labels.specs.declared.Label.TheVariants.{Id}
 use Rattle.format.specs.Forest.{count}
@@ -59,3 +59,7 @@ label_or n (labelled l) = l
 pub record EntryWithin (es : List ℕ) (n : ℕ) : Type 0 where
   pub held : n * 8 ≤ length es
   pub few : length es ≤ 4096
+
+-- The node that a stored root is; none where it is 65,535.
+unfoldable pub stored_root : ℕ → Option ℕ
+stored_root root = cond (eqb root 65535) None (Some root)

@@ -3,7 +3,7 @@
 ghost use Rattle.std.specs.Prelude.{◌≡◌, ◌+◌, ◌*◌, ◌≤◌, ◌<◌, [], length, get_or};
 ghost use Rattle.format.specs.Layout.{le16, le32, part, label_of, row_at, entry_at, names_of};
 ghost use Rattle.format.specs.Whole.{Within};
-ghost use Rattle.book.specs.Reading.{as_row, label_or, as_entry, EntryWithin};
+ghost use Rattle.book.specs.Reading.{as_row, label_or, as_entry, EntryWithin, stored_root};
 
 use crate::walks::Names;
 use labels::{Label, LabelKind};
@@ -106,6 +106,25 @@ impl Entry {
             root: half(entries, at + 4),
             reserved: half(entries, at + 6),
         }
+    }
+
+    // The root of its tree, if it has one.
+    pub fn tree(self) -> Option<usize>
+        ensures { result ≡ stored_root self.root }
+    {
+        stored_root(self.root)
+    }
+}
+
+// The node that a stored root is, in an entry or in a table of roots; none for the number that stands for no tree.
+#[tactic(auto, unfolding(crate::specs::Reading::stored_root))]
+pub fn stored_root(root: u16) -> Option<usize>
+    ensures { result ≡ stored_root root }
+{
+    if root == Entry::NO_ROOT {
+        None
+    } else {
+        Some(root as usize)
     }
 }
 

@@ -48,6 +48,13 @@ impl<'a> Iterator for Siblings<'a> {
     }
 }
 
+// A name whose definition is gone into: its row, and the end of the rows that are gone on with after it.
+#[derive(Clone, Copy, Default)]
+pub struct Waiting {
+    pub row: u16,
+    pub end: u16,
+}
+
 // The names that bytes are, from the first one on; one that the bytes cut short ends with them.
 #[derive(Clone, Copy)]
 pub struct Names<'a> {
