@@ -1,5 +1,8 @@
 // What the names of a book stand for: its nodes, and a table of roots.
+ghost use Rattle.std.specs.Prelude.{◌≡◌};
+ghost use Rattle.format.specs.Layout.{nodes_part};
 ghost use Rattle.environment.specs.Tables.{Nodes, Roots};
+ghost use Rattle.environment.specs.Trees.{AllTrees};
 ghost use Rattle.environment.specs.Props.{props};
 
 use crate::{Alias, End, Link, chain_end, root_of};
@@ -21,9 +24,8 @@ pub struct Scope<'b, 't> {
 }
 
 impl<'b, 't> Scope<'b, 't> {
-    ghost use Rattle.std.specs.Prelude.{◌≡◌, List, ◌<◌, ◌≤◌, get_or, length};
+    ghost use Rattle.std.specs.Prelude.{List, ◌<◌, ◌≤◌, get_or, length};
     ghost use Rattle.format.specs.Book.{Definition};
-    ghost use Rattle.format.specs.Layout.{nodes_part};
     ghost use Rattle.format.specs.Whole.{tree_at};
     ghost use Rattle.judgement.specs.Aliases.{chain_from};
     ghost use Rattle.book.specs.Tables.{zero_table};
@@ -200,5 +202,41 @@ impl<'b, 't> Scope<'b, 't> {
             self.note(n, end, ends);
         }
         Ok(())
+    }
+}
+
+// The scope of a whole book: all its nodes are trees at roots. A walk down from any node needs that; what follows names needs a Scope alone.
+#[derive(Clone, Copy)]
+pub struct BookScope<'b, 't> {
+    pub scope: Scope<'b, 't>,
+    pub ghost trees: { AllTrees scope.rows.now scope.names scope.nodes } by { Prim.hlevel props },
+}
+
+impl<'b, 't> BookScope<'b, 't> {
+    // For who has the parts beside each other.
+    pub fn new(rows: &'b [u8], roots: &'t [u16], names: usize, nodes: usize) -> BookScope<'b, 't>
+        requires trees { AllTrees rows.now names nodes }
+        requires bound { Roots roots.now nodes }
+        ensures rows { result.scope.rows ≡ rows.entry }
+        ensures roots { result.scope.roots ≡ roots.entry }
+        ensures names { result.scope.names ≡ names }
+        ensures nodes { result.scope.nodes ≡ nodes }
+    {
+        BookScope {
+            scope: Scope::new(rows, roots, names, nodes),
+        }
+    }
+
+    // Of an admitted book, beside a table of its definitions.
+    pub fn of(book: AdmittedBook<'b>, roots: &'t [u16]) -> BookScope<'b, 't>
+        requires { Roots roots.now book.contents.nodes }
+        ensures rows { result.scope.rows.now ≡ nodes_part book.entry.bytes.now }
+        ensures roots { result.scope.roots ≡ roots.entry }
+        ensures names { result.scope.names ≡ book.entry.contents.names }
+        ensures nodes { result.scope.nodes ≡ book.entry.contents.nodes }
+    {
+        BookScope {
+            scope: Scope::of(book, roots),
+        }
     }
 }
