@@ -2,14 +2,14 @@
 --     uses_by              the entries of the sites that pass a test
 --     put_all, Puts        entries in a lent slice
 --     HitsIn, Tested      a test of types, by the numbers that the code has for nodes
---     EndTested, Served, Offered   what is asked of a chain's end, of a service and of an interface
+--     EndTested, Served, Offered   what is known of a chain's end, of a service and of an interface
 use Rattle.std.specs.Prelude.{◌≡◌, Option, Some, Bool, cond, List, [], ◌∷◌, map, ℕ, suc, ◌+◌, ◌*◌, ◌/◌, ◌≤◌, ◌<◌, ltb, length, get_or}
 use Rattle.std.proofs.lemmas.List.Edits.{sets}
 use Rattle.format.specs.Forest.{Forest, breadth}
 use Rattle.format.specs.Node.{Node}
 use Rattle.format.specs.Book.{Definition}
 use Rattle.format.specs.Layout.{row_at, siblings}
-use Rattle.format.specs.Whole.{Whole, WholeAt, tree_at}
+use Rattle.format.specs.Whole.{Whole, tree_at}
 use Rattle.judgement.specs.Aliases.{End}
 use Rattle.environment.specs.Tables.{Nodes, EndNodes, EndAt, Chains, Ended}
 use Rattle.refusals.specs.Handed.{Use, numbers}
@@ -89,7 +89,6 @@ pub record SkipsTo (ns : List ℕ) (from until count at : ℕ) : Type 0 where
 
 -- A chain ends at node e, or nowhere: what its end is, and a test of what stands there.
 pub record EndTested (ns near : List ℕ) (e : Option ℕ) : Type 0 where
-  pub whole : (f : ℕ) → e ≡ Some f → WholeAt ns f
   pub reached : End
   pub is : EndAt ns e reached
   pub used : Test

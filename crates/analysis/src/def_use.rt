@@ -1,10 +1,11 @@
 // The uses of a name: `chase_def_use` of analysis.rs, for one name. Its entries are put by one traversal, which its caller runs twice: with no
-// places it counts them, and with places it writes them too. Functions ask of their caller what an admitted book gives (specs/Entries.antt), and
-// the numbers `near`, by which the trees from node i up to node e use the name exactly if near[i] < e.
-ghost use Rattle.std.specs.Prelude.{◌≡◌, ◌++◌, ◌+◌, ◌-◌, ◌/◌, ◌%◌, ◌≤◌, ◌<◌, length};
+// places it counts them, and with places it writes them too. The trees from node i up to node e use the name exactly if near[i] < e: which entries
+// are put is promised where these numbers are of a test of types (specs/Entries.antt).
+ghost use Rattle.std.specs.Prelude.{◌≡◌, ◌++◌, ◌+◌, ◌-◌, ◌/◌, ◌%◌, ◌≤◌, ◌<◌, length, IfSome};
 ghost use Rattle.format.specs.Forest.{breadth};
 ghost use Rattle.format.specs.Layout.{row_at, siblings};
 ghost use Rattle.format.specs.Whole.{WholeAt};
+ghost use Rattle.environment.specs.Tables.{Ended};
 ghost use Rattle.syntax.specs.Interfaces.{methods_in};
 ghost use Rattle.listing.specs.Sites.{class_sites, func_sites, end_sites, method_sites};
 ghost use Rattle.listing.specs.Offers.{indexed};
@@ -47,7 +48,8 @@ fn skip(trees: Siblings<'_>, count: usize) -> usize
     }
 }
 
-// Where uses are looked for: a book's rows, where the chains of its aliases end, and the numbers that tell a use.
+// Where uses are looked for: a book's rows, where the chains of its aliases end, and the numbers that tell a use. No fact is asked by all methods:
+// a function is to be whole, a service's methods to have ends. Fields for both would need the numbers of names and nodes, which nothing here reads.
 #[derive(Clone, Copy)]
 pub struct Searched<'a> {
     pub rows: &'a [u8],
@@ -58,7 +60,7 @@ pub struct Searched<'a> {
 impl Searched<'_> {
     // The entries of trees that use the name, as arguments or results of a method.
     fn put_trees(&self, trees: Siblings<'_>, method: u16, side: Side, uses: &mut Places<'_>)
-        requires { Tested trees.rows.now self.now.near.now trees.at trees.until × (uses.old.count + (trees.until - trees.at) ≤ 4294967295) }
+        requires { uses.old.count + (trees.until - trees.at) ≤ 4294967295 }
         ensures same { uses.new.out.ghost_name ≡ uses.old.out.ghost_name }
         ensures most { AddsAtMost (trees.entry.until - trees.entry.at) uses.old uses.new }
         ensures adds { (x : Tested trees.entry.rows.now self.now.near.now trees.entry.at trees.entry.until) →
@@ -73,7 +75,7 @@ impl Searched<'_> {
 
     // The entries of the function at node f: its arguments, and then its results.
     fn put_func(&self, f: usize, method: u16, uses: &mut Places<'_>)
-        requires { WholeAt self.now.rows.now f × Tested self.now.rows.now self.now.near.now f (f + (row_at self.now.rows.now f).size) × (uses.old.count + 4096 ≤ 4294967295) }
+        requires { WholeAt self.now.rows.now f × (uses.old.count + 4096 ≤ 4294967295) }
         ensures same { uses.new.out.ghost_name ≡ uses.old.out.ghost_name }
         ensures most { AddsAtMost 4096 uses.old uses.new }
         ensures adds { (x : Tested self.now.rows.now self.now.near.now f (f + (row_at self.now.rows.now f).size)) →
@@ -92,7 +94,7 @@ impl Searched<'_> {
 
     // The entries of a method whose chain ends at node e: none where there is none, or where that is no function.
     fn put_end(&self, e: Option<u16>, method: u16, uses: &mut Places<'_>)
-        requires { EndTested self.now.rows.now self.now.near.now e × (uses.old.count + 4096 ≤ 4294967295) }
+        requires { IfSome e (λ f. WholeAt self.now.rows.now f) × (uses.old.count + 4096 ≤ 4294967295) }
         ensures same { uses.new.out.ghost_name ≡ uses.old.out.ghost_name }
         ensures most { AddsAtMost 4096 uses.old uses.new }
         ensures adds { (x : EndTested self.now.rows.now self.now.near.now e) → Adds (uses_by x.used (end_sites method x.reached)) uses.old uses.new }
@@ -109,7 +111,7 @@ impl Searched<'_> {
     // The entries of the methods of a service, whose first one has position `first`. Gives the position after them, so that it is counted: a walk
     // that is numbered keeps its count to itself.
     fn put_methods(&self, service: usize, first: usize, uses: &mut Places<'_>) -> usize
-        requires { Served self.now.rows.now self.now.ends.now self.now.near.now service × (first ≤ 61440) × (uses.old.count + 16777216 ≤ 4294967295) }
+        requires { Ended self.now.rows.now self.now.ends.now service × (first ≤ 61440) × (uses.old.count + 16777216 ≤ 4294967295) }
         ensures position { result ≡ first + breadth (siblings self.now.rows.now (service + 1) (service + (row_at self.now.rows.now service).size)) }
         ensures same { uses.new.out.ghost_name ≡ uses.old.out.ghost_name }
         ensures most { AddsAtMost 16777216 uses.old uses.new }

@@ -8,7 +8,7 @@ use format::Limits;
 // Name numbers, of which there are no more than names.
 pub type Names = ArrayVec<u16, { Limits::NAMES }>;
 
-// The names below `names` whose flag is set, ascending.
+// The names below `names` whose flag is set, ascending. Any bytes are flags: a bool for each name would ask more of who has bytes.
 pub fn names_of(flags: &[u8], names: usize) -> Names
     requires { (length flags.now ≡ 1024) × (names ≤ 1024) }
     ensures { result.items ≡ flagged flags.now 0 names }

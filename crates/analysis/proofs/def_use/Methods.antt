@@ -11,7 +11,7 @@ use native.Mathlib.Omega.{arith}
 use borrow.Author.Tests.{eq-eqb, ne_eqb}
 use lib.Dec.{eqb}
 use lib.ListN.{length, get_or, drop}
-use Rattle.std.specs.Prelude.{Option, Some, None}
+use Rattle.std.specs.Prelude.{Option, Some, None, IfSome}
 use Rattle.format.specs.Forest.{Forest, end, tree, breadth, beside, other_trees, after_trees}
 use Rattle.format.specs.Node.{Node, Kind}
 use Rattle.format.specs.Book.{Definition}
@@ -23,7 +23,7 @@ use Rattle.format.proofs.References.{kind-alone}
 use Rattle.format.proofs.Rows.{Opened, opens, kids-whole, siblings-none, siblings-opens, count-siblings}
 use Rattle.format.proofs.Stored.{tree-opens}
 use Rattle.judgement.specs.Aliases.{End, unbound, circle, ends, alias_end}
-use Rattle.environment.specs.Tables.{EndAt, end_node}
+use Rattle.environment.specs.Tables.{EndAt, Ended, end_node}
 use Rattle.syntax.specs.Interfaces.{methods_in}
 use Rattle.syntax.proofs.Stored.{siblings-join}
 use Rattle.refusals.specs.Handed.{Use}
@@ -130,37 +130,45 @@ module _ (ns : List ℕ) (m : ℕ) where
     pub end-puts-none : {e : Option ℕ} → e ≡ None → {near : List ℕ} (x : EndTested ns near e) → Puts places k (uses_by x.used (end_sites m x.reached)) old old k
     end-puts-none z x = rw (end-none x.reached (subst (λ (o : Option ℕ). EndAt ns o x.reached) z x.is), uses-none x.used) (puts-none places k old)
 
-    module _ {o : Option ℕ} {e : ℕ} (z : o ≡ Some e) (w : WholeAt ns e) (r : Row) (is : r ≡ row_at ns e) where
+    module _ {o : Option ℕ} {e : ℕ} (z : o ≡ Some e) (h : IfSome o (λ f. WholeAt ns f)) (r : Row) (is : r ≡ row_at ns e) where
+      whole-here : WholeAt ns e
+      whole-here = subst (λ (q : Option ℕ). IfSome q (λ f. WholeAt ns f)) z h
+
       reaches : {near : List ℕ} (x : EndTested ns near o) → x.reached ≡ ends (tree_at ns e)
       reaches x = end-some e x.reached (subst (λ (q : Option ℕ). EndAt ns q x.reached) z x.is)
 
       pub end-puts-other : (r.kind ≡ 23 → ⊥) → {near : List ℕ} (x : EndTested ns near o) → Puts places k (uses_by x.used (end_sites m x.reached)) old old k
       end-puts-other n x =
           let k' : (row_at ns e).kind ≡ 23 → ⊥ = λ h. n (ap (λ (z : Row). z.kind) is ∙ h) in
-          rw (reaches x, node-sites m w, ne_eqb (row_at ns e).kind 23 k', uses-none x.used) (puts-none places k old)
+          rw (reaches x, node-sites m whole-here, ne_eqb (row_at ns e).kind 23 k', uses-none x.used) (puts-none places k old)
 
       pub end-puts : {near new : List ℕ} {next : ℕ} → r.kind ≡ 23 →
           ((x : Tested ns near e (e + (row_at ns e).size)) → Puts places k (uses_by x.used (func_sites m ((row_at ns e).value % 65536) 0 (siblings ns (e + 1) (e + (row_at ns e).size)))) old new next) →
           (x : EndTested ns near o) → Puts places k (uses_by x.used (end_sites m x.reached)) old new next
       end-puts n p x =
-          rw (reaches x, node-sites m w, eq-eqb (row_at ns e).kind 23 (sym (ap (λ (z : Row). z.kind) is) ∙ n)) (p record { used = x.used; hits = x.hits e z })
+          rw (reaches x, node-sites m whole-here, eq-eqb (row_at ns e).kind 23 (sym (ap (λ (z : Row). z.kind) is) ∙ n)) (p record { used = x.used; hits = x.hits e z })
 
 -- ---- At the end of a chain
-module _ {ns ends' near : List ℕ} {service : ℕ} (x : Served ns ends' near service) {node : ℕ} (h : node < x.ended.count) {e : Option ℕ} (is : e ≡ end_node ns ends' node) where
-  pub end-whole-at : (f : ℕ) → e ≡ Some f → WholeAt ns f
-  end-whole-at f z = end-whole (served-at x.ended node h) (sym z ∙ is)
+module _ {ns ends' : List ℕ} {service : ℕ} (s : Ended ns ends' service) {node : ℕ} (h : node < s.count) {e : Option ℕ} (is : e ≡ end_node ns ends' node) where
+  pub end-whole-at : IfSome e (λ f. WholeAt ns f)
+  end-whole-at = go e is
+    where
+      go : (o : Option ℕ) → o ≡ end_node ns ends' node → IfSome o (λ f. WholeAt ns f)
+      go None z = tt
+      go (Some f) z = end-whole (served-at s node h) z
 
-  pub end-reached : EndAt ns e (alias_end x.definitions (tree_at ns node))
+module _ {ns ends' near : List ℕ} {service : ℕ} (x : Served ns ends' near service) {node : ℕ} (h : node < x.ended.count) {e : Option ℕ} (is : e ≡ end_node ns ends' node) where
+  end-reached : EndAt ns e (alias_end x.definitions (tree_at ns node))
   unfolding served-at
   end-reached =
       subst (λ (z : Option ℕ). EndAt ns z (alias_end x.definitions (tree_at ns node))) (sym is) (end-at (served-at x.ended node h) x.definitions x.known.chains)
 
-  pub end-hits : (f : ℕ) → e ≡ Some f → HitsIn x.used ns near f (f + (row_at ns f).size)
+  end-hits : (f : ℕ) → e ≡ Some f → HitsIn x.used ns near f (f + (row_at ns f).size)
   unfolding served-at
   end-hits f z = hits-in x.known.hits (omega arith) (x.ended.nodes.tree f (end-inside (served-at x.ended node h) (sym z ∙ is))).ends
 
-  abbrev pub end-tested : EndTested ns near e
-  end-tested = record { whole = end-whole-at; reached = alias_end x.definitions (tree_at ns node); is = end-reached; used = x.used; hits = end-hits }
+  abbrev end-tested : EndTested ns near e
+  end-tested = record { reached = alias_end x.definitions (tree_at ns node); is = end-reached; used = x.used; hits = end-hits }
 
 -- ---- The sites of methods
 module _ (ds : List Definition) where
@@ -266,16 +274,14 @@ module _ {ns ends' near : List ℕ} {service until first k : ℕ} {old mid : Lis
 
 -- ---- The loop of `put_uses`, at service s: the methods before position m are put
 module _ {ns ends' near services : List ℕ} {from until : ℕ} (x : Offered ns ends' near from until services) where
-  abbrev pub offered-arguments : Tested ns near from until
+  abbrev offered-arguments : Tested ns near from until
   offered-arguments = record { used = x.used; hits = hits-in x.known.hits (omega arith) x.inside }
 
-  abbrev pub offered-service : {s : ℕ} → s < length services → Served ns ends' near (get_or services s 0)
-  offered-service {s} h = record {
-    ended = record { names = x.names; count = x.nodes; nodes = x.book; table = x.table; inside = x.service s h };
-    definitions = x.definitions;
-    used = x.used;
-    known = x.known;
-  }
+  abbrev pub offered-ended : {s : ℕ} → s < length services → Ended ns ends' (get_or services s 0)
+  offered-ended {s} h = record { names = x.names; count = x.nodes; nodes = x.book; table = x.table; inside = x.service s h }
+
+  abbrev offered-service : {s : ℕ} → s < length services → Served ns ends' near (get_or services s 0)
+  offered-service h = record { ended = offered-ended h; definitions = x.definitions; used = x.used; known = x.known }
 
 pub record ServicesLeft (ns ends' near services : List ℕ) (from until k : ℕ) (old mid : List ℕ) (at m s : ℕ) : Type 0 where
   pub passed : s ≤ length services

@@ -8,9 +8,9 @@ returns-in_default-clause-adds c = let a = c.args in end-puts-none a.self.now.ro
 pub returns-then-at-clause-adds : goal.returns-then-at-clause-adds
 returns-then-at-clause-adds c =
     let a = c.args in
-    end-puts a.self.now.rows.now a.method _ _ _ c.in-Some.is (c.requires.0.whole _ c.in-Some.is) _ c.at.ensures c.if-at.true c.put_func.ensures.adds
+    end-puts a.self.now.rows.now a.method _ _ _ c.in-Some.is c.requires.0 _ c.at.ensures c.if-at.true c.put_func.ensures.adds
 
 pub returns-else-at-clause-adds : goal.returns-else-at-clause-adds
 returns-else-at-clause-adds c =
     let a = c.args in
-    end-puts-other a.self.now.rows.now a.method _ _ _ c.in-Some.is (c.requires.0.whole _ c.in-Some.is) _ c.at.ensures c.if-at.false
+    end-puts-other a.self.now.rows.now a.method _ _ _ c.in-Some.is c.requires.0 _ c.at.ensures c.if-at.false

@@ -4,7 +4,7 @@ use mathlib.Core.Path.{◌∙◌}
 use native.Mathlib.Omega.{arith}
 use Rattle.environment.proofs.ChainEnds.{served-until}
 use Rattle.book.proofs.Walking.{here, last, over-next}
-use Rattle.analysis.proofs.def_use.Methods.{methods-few, end-tested, methods-on, methods-counted, methods-puts}
+use Rattle.analysis.proofs.def_use.Methods.{methods-few, end-whole-at, methods-on, methods-counted, methods-puts}
 use Rattle.analysis.proofs.def_use.Searched.put_methods.Goals as goal
 
 pub put_end-requires : goal.put_end-requires
@@ -12,8 +12,8 @@ put_end-requires c =
     let p = c.requires in
     let l = c.loop-i.invariant in
     let x = c.in-Some.ensures.steps in
-    let inside : c.in-Some.i < p.0.ended.count = omega (arith, served-until p.0.ended, here l.over x, x.place) in
-    (end-tested p.0 inside c.end_of-end.ensures.node-is, omega (arith, p.2, l.left.few, methods-few l.left, here l.over x))
+    let inside : c.in-Some.i < p.0.count = omega (arith, served-until p.0, here l.over x, x.place) in
+    (end-whole-at p.0 inside c.end_of-end.ensures.node-is, omega (arith, p.2, l.left.few, methods-few l.left, here l.over x))
 
 pub loop-i-preserved : goal.loop-i-preserved
 loop-i-preserved c =
