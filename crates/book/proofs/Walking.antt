@@ -10,16 +10,28 @@
 -- Where the walk's nth tree is asked for, with x = c.in-Some.ensures.ran or c.in-None.ensures.ran:
 --     nth-some o x                how many trees and nodes stand before that tree
 --     nth-none o x                there are no more trees than n
+-- A walk over entries, `for e in Entries::new(entries, from, until)`: a loop's invariant has `OverEntries l.entries l.until l.e-iterator`, beside
+-- what is known at the place `l.e-iterator.at`. In the loop, with that as `o` and x = c.in-Some.ensures.steps:
+--     entry-left o x              an entry is left
+--     entry-is o x                the entry at the walk's place
+--     x.at, entry-next o x        the place that the walk goes on to, one further, and the invariant there
+-- After it, with x = c.in-None.ensures.steps:
+--     entry-last o x              it came to the end
+-- In a chain:
+--     entries-yield o             what it yields, `run (entry_at es) s.at (until - s.at)`
 use mathlib.Core.Path.{◌≡◌, refl, sym, ap, ◌∙◌, subst}
 use mathlib.Core.List.{List, [], ◌∷◌}
-use Prim.Native.Nat.{ℕ, ◌+◌, ◌≤◌, ◌<◌, min}
+use Prim.Native.Nat.{ℕ, suc, ◌+◌, ◌-◌, ◌≤◌, ◌<◌, min}
 use native.Mathlib.Nat.{add-zero}
 use native.Mathlib.Omega.{arith}
 use Rattle.format.specs.Encode.{Row}
+use Rattle.std.proofs.lemmas.Iterator.{YieldsList}
+use Rattle.std.proofs.lemmas.Iterator.Consumers.{YieldsList-from_shown}
 use Rattle.std.proofs.lemmas.List.{take_min, drop_min, length-drop}
 use lib.ListN.{length, take, drop}
 use Rattle.format.specs.Forest.{breadth}
-use Rattle.format.specs.Layout.{row_at, siblings, names_of}
+use Rattle.format.specs.Layout.{row_at, entry_at, run, siblings, names_of}
+use Rattle.format.proofs.Lists.{run-none, run-cons}
 use Rattle.format.proofs.Names.{names-fuel}
 use Rattle.format.proofs.Rows.{opens, siblings-none, siblings-opens, count-siblings}
 use Rattle.format.proofs.Numbered.{nodes_before}
@@ -28,8 +40,10 @@ use Rattle.std.specs.Prelude.{None, Some}
 use Rattle.std.specs.Iterator.{Yields, SkipsThenYields}
 use Rattle.book.specs.declared.read.Node.{Node}
 use Rattle.book.specs.declared.walks.Siblings.{Siblings}
-use Rattle.book.specs.Reading.{as_row}
-use Rattle.book.specs.Walks.{Over, NextTree, Walks}
+use Rattle.book.specs.declared.walks.Entries.{Entries}
+use Rattle.book.specs.declared.read.Entry.{Entry}
+use Rattle.book.specs.Reading.{as_row, as_entry}
+use Rattle.book.specs.Walks.{Over, NextTree, Walks, OverEntries, NextEntry, WalksEntries, entries_left}
 
 module _ {ns : List ℕ} {e : ℕ} {s : Siblings} (o : Over ns e s) where
   -- what is known of its own rows and its own end
@@ -98,6 +112,31 @@ module _ {ns : List ℕ} {e : ℕ} {s : Siblings} (o : Over ns e s) {n : ℕ} wh
       let w = walked xs y o in
       let none = ap breadth (siblings-none ns t.at e (omega (arith, last w.over x))) in
       omega (arith, w.left, none, long)
+
+-- ---- A walk over entries
+module _ {es : List ℕ} {e : ℕ} {s : Entries} (o : OverEntries es e s) where
+  pub entry-last : {t : Entries} → WalksEntries s None t → e ≤ s.at
+  entry-last x = omega (arith, x.0, o.until)
+
+  module _ {r : Entry} {t : Entries} (x : NextEntry s r t) where
+    pub entry-left : s.at < e
+    entry-left = omega (arith, x.left, o.until)
+
+    pub entry-is : as_entry r ≡ entry_at es s.at
+    entry-is = x.entry ∙ ap (λ l. entry_at l s.at) o.bytes
+
+    pub entry-next : OverEntries es e t
+    entry-next = record { bytes = ap (λ r. r.now) x.bytes ∙ o.bytes; until = x.until ∙ o.until }
+
+entries-first : (s : Entries) (r : Entry) (t : Entries) → NextEntry s r t → entries_left s ≡ as_entry r ∷ entries_left t
+entries-first s r t x =
+    let more : s.until - s.at ≡ suc (t.until - t.at) = omega (arith, x.left, x.until, x.at) in
+    rw (more, x.entry, x.at, ap (λ q. q.now) x.bytes) (run-cons (entry_at s.bytes.now) s.at (t.until - (s.at + 1)))
+
+pub entries-yield : {es : List ℕ} {e : ℕ} {s : Entries} → OverEntries es e s → YieldsList WalksEntries as_entry s (run (entry_at es) s.at (e - s.at))
+entries-yield {es} {e} {s} o =
+    subst (YieldsList WalksEntries as_entry s) (rw (o.bytes, o.until) refl)
+    (YieldsList-from_shown WalksEntries as_entry entries_left (λ t u x. let z : t.until - t.at ≡ 0 = omega (arith, x.0) in rw (z, run-none (entry_at t.bytes.now) t.at) refl) entries-first s)
 
 -- ---- A walk over names
 -- a name that begins the bytes, and those that are left after it

@@ -7,6 +7,7 @@ use Rattle.format.specs.Encode.{Row}
 use Rattle.format.specs.Layout.{row_trees}
 use Rattle.format.specs.Rules.{Sized}
 use Rattle.format.specs.Whole.{Within, Whole}
+use Rattle.book.specs.Reading.{EntryWithin}
 
 Sized-prop : (f : Forest Row) → IsProp (Sized f)
 Sized-prop end = Unit-prop
@@ -20,3 +21,6 @@ Within-prop ns n x y = λ i. record { held = le_prop x.held y.held i; few = le_p
 pub Whole-prop : (ns : List ℕ) (at until : ℕ) → IsProp (Whole ns at until)
 Whole-prop ns at until x y =
     λ i. record { ordered = le_prop x.ordered y.ordered i; within = Within-prop ns until x.within y.within i; sized = Sized-prop (row_trees ns at until) x.sized y.sized i }
+
+pub EntryWithin-prop : (es : List ℕ) (n : ℕ) → IsProp (EntryWithin es n)
+EntryWithin-prop es n x y = λ i. record { held = le_prop x.held y.held i; few = le_prop x.few y.few i }

@@ -11,7 +11,7 @@ ghost use Rattle.book.specs.Steps.{Tells, rises_to, TreesAs, definition_fine, De
 
 use crate::kinds::{Contents, Kind, Mode, Role};
 use crate::read::{Entry, Node};
-use crate::walks::Siblings;
+use crate::walks::{Entries, Siblings};
 use format::Place;
 use labels::LabelKind;
 
@@ -202,8 +202,7 @@ pub(crate) fn definitions<'a>(
 {
     let mut file = 0;
     let mut left = trees;
-    for d in 0..c.definitions {
-        let e = Entry::at(entries, d);
+    for e in Entries::new(entries, 0, c.definitions) {
         left = definition(c, file, e, left)?;
         file = e.owner;
     }
@@ -272,8 +271,7 @@ pub(crate) fn files(c: Contents, entries: &[u8], trees: Siblings) -> bool
     ensures { result ≡ good_files c.names true trees.entry.at (run (entry_at entries.now) 0 c.files) (row_trees trees.entry.rows.now trees.entry.at trees.entry.until) }
 {
     let mut left = trees;
-    for f in 0..c.files {
-        let e = Entry::at(entries, f);
+    for (f, e) in Entries::new(entries, 0, c.files).enumerate() {
         let Some(after) = file(c, f == 0, f + 1 == c.files, e, left) else {
             return false;
         };

@@ -1,8 +1,9 @@
-// What stands side by side in a book, one after another: trees, names.
+// What stands side by side in a book, one after another: trees, entries, names.
 ghost use Rattle.format.specs.Whole.{Whole};
-ghost use Rattle.book.specs.Props.{Whole-prop};
+ghost use Rattle.book.specs.Reading.{EntryWithin};
+ghost use Rattle.book.specs.Props.{Whole-prop, EntryWithin-prop};
 
-use crate::read::Node;
+use crate::read::{Entry, Node};
 
 // The trees from node `at` up to node `until`: for each the number of its root, and the root itself.
 #[derive(Clone, Copy)]
@@ -45,6 +46,49 @@ impl<'a> Iterator for Siblings<'a> {
         let node = Node::at(self.rows, at);
         self.at = at + node.size;
         Some((at, node))
+    }
+}
+
+// The entries from number `at` up to number `until` of the definitions' or the files' bytes.
+#[derive(Clone, Copy)]
+pub struct Entries<'a> {
+    pub bytes: &'a [u8],
+    pub at: usize,
+    pub until: usize,
+    pub ghost within: { EntryWithin bytes.now until } by { EntryWithin-prop bytes.now until },
+}
+
+impl<'a> Entries<'a> {
+    ghost use Rattle.std.specs.Prelude.{◌≡◌};
+    ghost use Rattle.book.specs.Walks.{OverEntries};
+
+    pub fn new(bytes: &'a [u8], at: usize, until: usize) -> Entries<'a>
+        requires { EntryWithin bytes.now until }
+        ensures over { OverEntries bytes.now until result }
+        ensures at { result.at ≡ at }
+    {
+        Entries { bytes, at, until }
+    }
+}
+
+impl<'a> Iterator for Entries<'a> {
+    type Item = Entry;
+
+    ghost use Rattle.std.specs.Prelude.{◌-◌};
+    ghost use Rattle.std.specs.Iterator.{at_most};
+    ghost use Rattle.book.specs.Walks.{WalksEntries};
+
+    ghost next_gives = { WalksEntries };
+
+    ghost remaining = { λ s. at_most (s.until - s.at) };
+
+    fn next(&mut self) -> Option<Entry> {
+        if self.at >= self.until {
+            return None;
+        }
+        let e = Entry::at(self.bytes, self.at);
+        self.at += 1;
+        Some(e)
     }
 }
 

@@ -1,9 +1,10 @@
-use Rattle.book.specs.Walks.{Over}
+use Rattle.book.specs.Walks.{Over, OverEntries}
 use Rattle.book.proofs.Entries.{DefinitionsLeft}
 use Rattle.book.proofs.rules.definitions.Given as goal
 
-abbrev pub invariant-loop-d : goal.invariant-loop-d
-invariant-loop-d l = record {
+abbrev pub invariant-loop-e : goal.invariant-loop-e
+invariant-loop-e l = record {
   over : Over l.trees.rows.now l.trees.until l.left;
-  same : DefinitionsLeft l.c.names l.c.files l.c.definitions l.trees.until l.entries l.trees.rows.now l.d l.file l.left.at;
+  walk : OverEntries l.entries l.c.definitions l.e-iterator;
+  same : DefinitionsLeft l.c.names l.c.files l.c.definitions l.trees.until l.entries l.trees.rows.now l.e-iterator.at l.file l.left.at;
 }
