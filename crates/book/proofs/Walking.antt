@@ -19,6 +19,7 @@
 --     entry-last o x              it came to the end
 -- In a chain:
 --     entries-yield o             what it yields, `run (entry_at es) s.at (until - s.at)`
+--     entries-serve o             what its closure is asked, if that holds of each entry from the walk's place up to its end
 use mathlib.Core.Path.{◌≡◌, refl, sym, ap, ◌∙◌, subst}
 use mathlib.Core.List.{List, [], ◌∷◌}
 use Prim.Native.Nat.{ℕ, suc, ◌+◌, ◌-◌, ◌≤◌, ◌<◌, min}
@@ -37,7 +38,8 @@ use Rattle.format.proofs.Rows.{opens, siblings-none, siblings-opens, count-sibli
 use Rattle.format.proofs.Numbered.{nodes_before}
 use Rattle.format.specs.Whole.{Whole}
 use Rattle.std.specs.Prelude.{None, Some}
-use Rattle.std.specs.Iterator.{Yields, SkipsThenYields}
+use Rattle.std.specs.List.{FoldsTo}
+use Rattle.std.specs.Iterator.{Yields, SkipsThenYields, CallableAtEachTurn}
 use Rattle.book.specs.declared.read.Node.{Node}
 use Rattle.book.specs.declared.walks.Siblings.{Siblings}
 use Rattle.book.specs.declared.walks.Entries.{Entries}
@@ -137,6 +139,21 @@ pub entries-yield : {es : List ℕ} {e : ℕ} {s : Entries} → OverEntries es e
 entries-yield {es} {e} {s} o =
     subst (YieldsList WalksEntries as_entry s) (rw (o.bytes, o.until) refl)
     (YieldsList-from_shown WalksEntries as_entry entries_left (λ t u x. let z : t.until - t.at ≡ 0 = omega (arith, x.0) in rw (z, run-none (entry_at t.bytes.now) t.at) refl) entries-first s)
+
+-- what a closure may be asked at each entry
+stays : {P A : Type 0} (R : P → A → P → Type 0) {p : P} → ((x : A) (q : P) → R p x q → q ≡ p) → (xs : List A) (q : P) → FoldsTo R p xs q → q ≡ p
+stays R h [] q c = sym c
+stays R h (x ∷ xs) q c = stays R h xs q (subst (λ k. FoldsTo R k xs q) (h x c.0 c.1) c.2)
+
+walked-entries : {es : List ℕ} {e : ℕ} {s t : Entries} (xs : List Entry) → OverEntries es e s → Yields WalksEntries s xs t → OverEntries es e t × (s.at ≤ t.at)
+walked-entries {es} {e} {s} [] o y = subst (λ (u : Entries). OverEntries es e u × (s.at ≤ u.at)) y (o, omega arith)
+walked-entries (x ∷ xs) o (j, n, y) = let r = walked-entries xs (entry-next o n) y in (r.0, omega (arith, r.1, n.at))
+
+pub entries-serve : {P : Type 0} {R : P → Entry → P → Type 0} {Q : P → Entry → Type 0} {p : P} {es : List ℕ} {e : ℕ} {s : Entries} → OverEntries es e s →
+    ((x : Entry) (q : P) → R p x q → q ≡ p) → ((k : ℕ) → s.at ≤ k → k < e → (x : Entry) → as_entry x ≡ entry_at es k → Q p x) → CallableAtEachTurn WalksEntries R Q s p
+entries-serve {R = R} {Q = Q} o same h = record {
+  at = λ xs t q x u y c n. let w = walked-entries xs o y in subst (λ k. Q k x) (sym (stays R same xs q c)) (h t.at w.1 (entry-left w.0 n) x (entry-is w.0 n));
+}
 
 -- ---- A walk over names
 -- a name that begins the bytes, and those that are left after it
