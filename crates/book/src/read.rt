@@ -26,7 +26,8 @@ pub(crate) fn word(bytes: &[u8], at: usize) -> u32
     u32::from_le_bytes([bytes[at], bytes[at + 1], bytes[at + 2], bytes[at + 3]])
 }
 
-// A stored node. Its kind is the byte that is stored, which may be no kind: code compares it with `Kind::Var as u8` and its like.
+// A stored node. Kind and label kind are the bytes that are stored, no Kind and LabelKind: the layout reads nodes of which it has yet to find out
+// whether those bytes are any. Code compares them with `Kind::Var as u8` and its like.
 #[derive(Clone, Copy, PartialEq, Eq, Debug)]
 pub struct Node {
     pub kind: u8,
@@ -77,7 +78,8 @@ impl Node {
     }
 }
 
-// A stored definition or file. `owner` is a definition's file and a file's role.
+// A stored definition or file. `owner` is a definition's file and a file's role, the number that is stored and no Role: one type reads both, and the
+// layout has yet to find out whether it is one.
 #[derive(Clone, Copy, PartialEq, Eq, Debug)]
 pub struct Entry {
     pub name: u16,

@@ -162,32 +162,85 @@ pub(crate) fn names_fine(bytes: &[u8], count: usize) -> bool
     seen == count
 }
 
-// Whether an entry may be a definition's, apart from its tree, whose file is at least `file` and whose root is node `next`.
-#[tactic(auto, unfolding(crate::specs::Steps::definition_fine))]
-fn definition_fine(c: Contents, file: u16, next: usize, e: Entry) -> bool
-    ensures { result ≡ definition_fine c.names c.files file next (as_entry e) }
+// Whether a file may have this role: main first, init arguments last. `main` and `last` say where the file stands; each file takes the same steps.
+#[tactic(auto, unfolding(format::specs::Rules::good_role))]
+fn role_fine(main: bool, last: bool, role: u16) -> bool
+    ensures { result ≡ good_role main last role }
 {
-    (e.name as usize) < c.names
-        && (e.owner as usize) < c.files
-        && file <= e.owner
-        && e.root as usize == next
-        && e.reserved == 0
+    if main {
+        return role == Role::Main as u16;
+    }
+    role == Role::TypeImport as u16
+        || role == Role::ServiceImport as u16
+        || last && role == Role::Init as u16
 }
 
-// The entry of a definition, whose file is at least `file` and whose tree is the first of these: the trees that are left after it.
-fn definition<'a>(c: Contents, file: u16, e: Entry, trees: Siblings<'a>) -> Option<Siblings<'a>>
-    ensures goes { IfSome result (Over trees.entry.rows.now trees.entry.until) }
-    ensures finds { DefinitionAs c.names c.files trees.entry.rows.now trees.entry.until file trees.entry.at (as_entry e) (place_of result) }
+// Whether a tree whose root has this kind may be that of a file in this role: init arguments have both, or neither.
+fn init_fine(kind: u8, role: u16) -> bool
+    ensures { result ≡ beq (eqb kind 26) (eqb role 3) }
 {
-    if !definition_fine(c, file, trees.at, e) {
-        return None;
+    (kind == Kind::Init as u8) == (role == Role::Init as u16)
+}
+
+// What the entries of a book with this table of contents have to keep.
+impl Contents {
+    // Whether an entry may be a definition's, apart from its tree, whose file is at least `file` and whose root is node `next`.
+    #[tactic(auto, unfolding(crate::specs::Steps::definition_fine))]
+    fn definition_fine(self, file: u16, next: usize, e: Entry) -> bool
+        ensures { result ≡ definition_fine self.names self.files file next (as_entry e) }
+    {
+        (e.name as usize) < self.names
+            && (e.owner as usize) < self.files
+            && file <= e.owner
+            && e.root as usize == next
+            && e.reserved == 0
     }
-    let mut after = trees;
-    let (_, root) = after.next()?;
-    if root.kind == Kind::Init as u8 {
-        return None;
+
+    // The entry of a definition, whose file is at least `file` and whose tree is the first of these: the trees that are left after it.
+    fn definition<'a>(self, file: u16, e: Entry, trees: Siblings<'a>) -> Option<Siblings<'a>>
+        ensures goes { IfSome result (Over trees.entry.rows.now trees.entry.until) }
+        ensures finds { DefinitionAs self.names self.files trees.entry.rows.now trees.entry.until file trees.entry.at (as_entry e) (place_of result) }
+    {
+        if !self.definition_fine(file, trees.at, e) {
+            return None;
+        }
+        let mut after = trees;
+        let (_, root) = after.next()?;
+        if root.kind == Kind::Init as u8 {
+            return None;
+        }
+        Some(after)
     }
-    Some(after)
+
+    // Whether an entry may be a file's, apart from its tree.
+    #[tactic(auto, unfolding(crate::specs::Steps::file_fine))]
+    fn file_fine(self, main: bool, last: bool, e: Entry) -> bool
+        ensures { result ≡ file_fine self.names main last (as_entry e) }
+    {
+        (e.name as usize) < self.names
+            && role_fine(main, last, e.owner)
+            && e.reserved == 0
+            && (e.root != Entry::NO_ROOT || e.owner != Role::Init as u16)
+    }
+
+    // The entry of a file, whose tree, if it has one, is the first of these: the trees that are left after it.
+    fn file<'a>(self, main: bool, last: bool, e: Entry, trees: Siblings<'a>) -> Option<Siblings<'a>>
+        ensures goes { IfSome result (Over trees.entry.rows.now trees.entry.until) }
+        ensures finds { FileAs self.names trees.entry.rows.now trees.entry.until main last trees.entry.at (as_entry e) (place_of result) }
+    {
+        if !self.file_fine(main, last, e) {
+            return None;
+        }
+        if e.root == Entry::NO_ROOT {
+            return Some(trees);
+        }
+        let mut after = trees;
+        let (n, root) = after.next()?;
+        if e.root as usize != n || !init_fine(root.kind, e.owner) {
+            return None;
+        }
+        Some(after)
+    }
 }
 
 // The definitions' entries, whose trees are the first of these: the trees that are left after them.
@@ -203,66 +256,10 @@ pub(crate) fn definitions<'a>(
     let mut file = 0;
     let mut left = trees;
     for e in Entries::new(entries, 0, c.definitions) {
-        left = definition(c, file, e, left)?;
+        left = c.definition(file, e, left)?;
         file = e.owner;
     }
     Some(left)
-}
-
-// Whether a file may have this role: main first, init arguments last. `main` and `last` say where the file stands; each file takes the same steps.
-#[tactic(auto, unfolding(format::specs::Rules::good_role))]
-fn role_fine(main: bool, last: bool, role: u16) -> bool
-    ensures { result ≡ good_role main last role }
-{
-    if main {
-        return role == Role::Main as u16;
-    }
-    role == Role::TypeImport as u16
-        || role == Role::ServiceImport as u16
-        || last && role == Role::Init as u16
-}
-
-// Whether an entry may be a file's, apart from its tree.
-#[tactic(auto, unfolding(crate::specs::Steps::file_fine))]
-fn file_fine(c: Contents, main: bool, last: bool, e: Entry) -> bool
-    ensures { result ≡ file_fine c.names main last (as_entry e) }
-{
-    (e.name as usize) < c.names
-        && role_fine(main, last, e.owner)
-        && e.reserved == 0
-        && (e.root != Entry::NO_ROOT || e.owner != Role::Init as u16)
-}
-
-// Whether a tree whose root has this kind may be that of a file in this role: init arguments have both, or neither.
-fn init_fine(kind: u8, role: u16) -> bool
-    ensures { result ≡ beq (eqb kind 26) (eqb role 3) }
-{
-    (kind == Kind::Init as u8) == (role == Role::Init as u16)
-}
-
-// The entry of a file, whose tree, if it has one, is the first of these: the trees that are left after it.
-fn file<'a>(
-    c: Contents,
-    main: bool,
-    last: bool,
-    e: Entry,
-    trees: Siblings<'a>,
-) -> Option<Siblings<'a>>
-    ensures goes { IfSome result (Over trees.entry.rows.now trees.entry.until) }
-    ensures finds { FileAs c.names trees.entry.rows.now trees.entry.until main last trees.entry.at (as_entry e) (place_of result) }
-{
-    if !file_fine(c, main, last, e) {
-        return None;
-    }
-    if e.root == Entry::NO_ROOT {
-        return Some(trees);
-    }
-    let mut after = trees;
-    let (n, root) = after.next()?;
-    if e.root as usize != n || !init_fine(root.kind, e.owner) {
-        return None;
-    }
-    Some(after)
 }
 
 // Whether the files' entries are good, and their trees are all of these.
@@ -272,7 +269,7 @@ pub(crate) fn files(c: Contents, entries: &[u8], trees: Siblings) -> bool
 {
     let mut left = trees;
     for (f, e) in Entries::new(entries, 0, c.files).enumerate() {
-        let Some(after) = file(c, f == 0, f + 1 == c.files, e, left) else {
+        let Some(after) = c.file(f == 0, f + 1 == c.files, e, left) else {
             return false;
         };
         left = after;

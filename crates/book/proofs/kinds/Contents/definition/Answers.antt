@@ -1,8 +1,8 @@
--- `rules::definition` meets its contract: the tests of an entry in the order of the code. Assumes nothing.
+-- `Contents::definition` meets its contract: the tests of an entry in the order of the code. Assumes nothing.
 use mathlib.Core.Path.{sym, subst, ◌∙◌}
 use lib.Dec.{T}
 use Rattle.book.proofs.Entries.{definition-fine, definition-none, definition-init, definition-next}
-use Rattle.book.proofs.rules.definition.Goals as goal
+use Rattle.book.proofs.kinds.Contents.definition.Goals as goal
 
 pub returns-then-not-definition_fine-clause-finds : goal.returns-then-not-definition_fine-clause-finds
 returns-then-not-definition_fine-clause-finds c es fs x =

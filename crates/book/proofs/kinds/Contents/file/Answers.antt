@@ -1,8 +1,8 @@
--- `rules::file` meets its contract: the tests of an entry and of its tree in the order of the code. Assumes nothing.
+-- `Contents::file` meets its contract: the tests of an entry and of its tree in the order of the code. Assumes nothing.
 use mathlib.Core.Path.{sym, ◌∙◌}
 use Rattle.book.proofs.Entries.{fine-tests, fine-fails, file-tests, file-rootless, file-none, file-elsewhere, file-init, file-next}
-use Rattle.book.proofs.rules.file.Goals.{then-e-n-via-then-e-n, then-e-n-via-else-e-n+then-not-init_fine}
-use Rattle.book.proofs.rules.file.Goals as goal
+use Rattle.book.proofs.kinds.Contents.file.Goals.{then-e-n-via-then-e-n, then-e-n-via-else-e-n+then-not-init_fine}
+use Rattle.book.proofs.kinds.Contents.file.Goals as goal
 
 pub returns-then-not-file_fine-clause-finds : goal.returns-then-not-file_fine-clause-finds
 returns-then-not-file_fine-clause-finds c = λ es l x. fine-fails c.file_fine.ensures c.if-not-file_fine.true (rw l at (file-tests _ _ _ _ es _ x))
