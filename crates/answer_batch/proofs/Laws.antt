@@ -35,8 +35,8 @@ module _ {bs : List ℕ} {c : Contents} (a : Admitted bs c) {d : ℕ} (h : d < c
       rw r ((entries-of a {from = 0} {to = c.definitions} (omega arith) (omega arith)).root d (omega arith) h)
 
 -- ---- A book that passed
-module _ {bs roots ends' : List ℕ} {p : Passed} (b : PassedBook bs roots ends' p) where
-  pub main-within : p.main ≤ p.contents.definitions
+module _ {bs : List ℕ} {c : Contents} {roots ends' : List ℕ} {p : Passed} (b : PassedBook bs c roots ends' p) where
+  pub main-within : p.main ≤ c.definitions
   main-within = omega (arith, b.passed.within, definitions-count b.admitted)
 
   pub body-ended : {d : ℕ} → d < p.main → {e : Entry} → as_entry e ≡ entry_at (definitions_part bs) d → Ended (nodes_part bs) ends' e.root

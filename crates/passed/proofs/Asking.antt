@@ -64,17 +64,8 @@ module _ (bs : Source) where
       passed : PassedAs (admission-gives bs e).read roots ends' p
       passed = subst (λ (r : Result Passed Refusal). IfOk r (PassedAs (admission-gives bs e).read roots ends')) is x.found.passed
 
-      -- the contents are those that admission found
-      pub book-passed : {d : Contents} → d ≡ c → PassedBook bs.bytes roots ends' (record { contents = d; main = p.main; interface = p.interface })
-      book-passed {d} q = subst With (passed.contents ∙ sym q) (as-found (admission-gives bs e).read passed)
-        where
-          With : Contents → Type 0
-          With d = PassedBook bs.bytes roots ends' (record { contents = d; main = p.main; interface = p.interface })
-
-          as-found : (a : Admitted bs.bytes c) → PassedAs a roots ends' p → PassedBook bs.bytes roots ends' p
-          as-found a x =
-              subst (λ (d : Contents). (a : Admitted bs.bytes d) → PassedAs a roots ends' p → PassedBook bs.bytes roots ends' p) x.contents
-              (λ a x. record { admitted = a; passed = x }) a x
+      pub book-passed : PassedBook bs.bytes c roots ends' p
+      book-passed = record { admitted = (admission-gives bs e).read; passed = passed }
 
       pub pass-goes : (b : CheckedBook) → b.book.bytes.now ≡ bs.bytes → PassAs bs (Ok b)
       pass-goes b here =

@@ -6,4 +6,4 @@ use Rattle.typing.specs.Passing.{PassedBook}
 
 -- A book passed, and this is its own.
 abbrev pub Passes : List ℕ → Contents → ℕ → Interface → List ℕ → List ℕ → Type 0
-Passes bs c main i roots ends' = PassedBook bs roots ends' (record { contents = c; main = main; interface = i })
+Passes bs c main i roots ends' = PassedBook bs c roots ends' (record { main = main; interface = i })

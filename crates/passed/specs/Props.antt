@@ -88,8 +88,8 @@ EndAt-prop ns o (ends t) x y =
       is_prop→PathP (λ i. t ≡ tree_at ns (e i)) (λ i. Forest-set t (tree_at ns (e i))) x.2 y.2 i,
     )
 
-PassedBook-prop : (bs roots ends' : List ℕ) (p : Passed) → IsProp (PassedBook bs roots ends' p)
-PassedBook-prop bs roots ends' p = Prim.hlevel (typing.props, Forest-set, Admitted-prop, EndAt-prop)
+PassedBook-prop : (bs : List ℕ) (c : Contents) (roots ends' : List ℕ) (p : Passed) → IsProp (PassedBook bs c roots ends' p)
+PassedBook-prop bs c roots ends' p = Prim.hlevel (typing.props, Forest-set, Admitted-prop, EndAt-prop)
 
 pub Passes-prop : (bs : List ℕ) (c : Contents) (main : ℕ) (i : Interface) (roots ends' : List ℕ) → IsProp (Passes bs c main i roots ends')
-Passes-prop bs c main i roots ends' = PassedBook-prop bs roots ends' (record { contents = c; main = main; interface = i })
+Passes-prop bs c main i roots ends' = PassedBook-prop bs c roots ends' (record { main = main; interface = i })

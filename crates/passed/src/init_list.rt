@@ -9,7 +9,6 @@ use book::read::Entry;
 use format::Limits;
 use refusals::{Answer, Refusal, Verdict};
 use typing::init::InitArgs;
-use typing::prog::Passed;
 
 impl CheckedBook<'_> {
     ghost use Rattle.book.specs.Tables.{blank_table};
@@ -21,12 +20,7 @@ impl CheckedBook<'_> {
         requires { both.old ≡ blank_table }
         ensures { InitFoundAs self.now.passes.admitted both.new result }
     {
-        let passed = Passed {
-            contents: self.book.contents,
-            main: self.main,
-            interface: self.interface,
-        };
-        typing::init::check_init_args(self.book.bytes, passed, &self.roots, both)
+        typing::init::check_init_args(self.book, self.main, &self.roots, both)
     }
 
     pub fn init_check(&self) -> Verdict

@@ -16,6 +16,7 @@ use Rattle.book.specs.Reading.{Admitted}
 use Rattle.book.specs.Tables.{blank_table, zero_table}
 use Rattle.typing.specs.Decs.{Checked, DecsAs}
 use Rattle.syntax.specs.Files.{init_at, SplitAs}
+use Rattle.syntax.specs.declared.interface.Interface.{Interface}
 use Rattle.syntax.specs.Interfaces.{interface_tree, InterfaceNodes, InterfaceAs}
 
 -- The definitions of an admitted book that are not the init file's passed, with their tables.
@@ -26,7 +27,6 @@ pub record DecsPassed {bs : List ℕ} {c : Contents} (a : Admitted bs c) (main :
 -- What the check hands on of an admitted book that passes, with the table of roots and that of alias ends.
 pub record PassedAs {bs : List ℕ} {c : Contents} (a : Admitted bs c) (roots ends' : List ℕ) (p : Passed) : Type 0 where
   pub passed : check a.book ≡ passes
-  pub contents : p.contents ≡ c
   pub definitions : main_definitions a.book ≡ definitions_in (nodes_part bs) (definitions_part bs) 0 p.main
   pub split : SplitAs (definitions_part bs) c.definitions (init_at (files_part bs) c.files) p.main
   pub within : p.main ≤ length a.book.definitions
@@ -52,6 +52,12 @@ pub record FoundAs {bs : List ℕ} {c : Contents} (a : Admitted bs c) (roots end
   pub ends-left : OnErr r (ends' ≡ zero_table)
 
 -- A passed book, as a question takes it.
-pub record PassedBook (bs roots ends' : List ℕ) (p : Passed) : Type 0 where
-  pub admitted : Admitted bs p.contents
+pub record PassedBook (bs : List ℕ) (c : Contents) (roots ends' : List ℕ) (p : Passed) : Type 0 where
+  pub admitted : Admitted bs c
   pub passed : PassedAs admitted roots ends' p
+
+-- The same, with its definitions alone: so many, and their table of roots.
+pub record PassedMain (bs : List ℕ) (c : Contents) (roots : List ℕ) (main : ℕ) : Type 0 where
+  pub ends : List ℕ
+  pub interface : Interface
+  pub book : PassedBook bs c roots ends (record { main = main; interface = interface })

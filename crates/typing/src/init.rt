@@ -6,10 +6,9 @@ ghost use Rattle.book.specs.Tables.{blank_table};
 ghost use Rattle.environment.specs.Tables.{Roots, definitions_in};
 ghost use Rattle.book.specs.Reading.{EntryWithin, Admitted};
 ghost use Rattle.typing.specs.Init.{lacked, OwnDecsAs, OwnPassed, MergeAs, Merged, Seen, ArgumentsFound, InitSeenAs, InitFoundAs};
-ghost use Rattle.typing.specs.Passing.{PassedBook};
+ghost use Rattle.typing.specs.Passing.{PassedMain};
 
 use crate::decs::Decs;
-use crate::prog::Passed;
 use crate::types::Walk;
 use book::admitted::AdmittedBook;
 use book::read::{Entry, Node};
@@ -81,53 +80,49 @@ fn check_arguments(
     Ok(InitArgs { count, from, until })
 }
 
-// The arguments of file `init` under the definitions of both, whose table is `both`. Bytes and `p` stay two: that a book passed is said of them, and `p` has
-// its contents.
+// The arguments of file `init` under the definitions of both, whose table is `both`.
 fn check_seen(
-    book: &[u8],
-    p: Passed,
+    book: AdmittedBook,
+    main: usize,
     own: &[u16],
     init: usize,
     both: &[u16],
 ) -> Result<InitArgs, Refusal>
-    requires { (roots ends : List ℕ) × (x : PassedBook book.now roots ends p) × OwnPassed x.admitted own.now init p.main × Merged x.admitted own.now roots both.now }
-    ensures { (roots ends : List ℕ) (x : PassedBook book.now roots ends p) → OwnPassed x.admitted own.now init p.main →
-        Merged x.admitted own.now roots both.now → InitSeenAs x.admitted both.now result }
+    requires { (roots : List ℕ) × (x : PassedMain book.bytes.now book.contents roots main) × OwnPassed x.book.admitted own.now init main × Merged x.book.admitted own.now roots both.now }
+    ensures { (roots : List ℕ) (x : PassedMain book.entry.bytes.now book.entry.contents roots main) → OwnPassed x.book.admitted own.now init main →
+        Merged x.book.admitted own.now roots both.now → InitSeenAs x.book.admitted both.now result }
 {
-    let admitted = AdmittedBook::new(book, p.contents);
-    let entries = admitted.definitions();
-    let count = merged_count(entries, own, p.contents.definitions - p.main, p.main);
-    let e = Entry::at(admitted.files(), init);
-    check_arguments(admitted, both, count, e.root as usize)
+    let own_count = book.contents.definitions - main;
+    let count = merged_count(book.definitions(), own, own_count, main);
+    let e = Entry::at(book.files(), init);
+    check_arguments(book, both, count, e.root as usize)
 }
 
 // The init arguments of a book that passed: refusals 2 to 9 and 11. The table of the definitions that they see goes into `both`, which has
 // nothing before, and nothing where they are refused. Without an init file the arguments, which are none, see main's definitions.
 pub fn check_init_args(
-    book: &[u8],
-    p: Passed,
+    book: AdmittedBook,
+    main: usize,
     roots: &[u16],
     both: &mut [u16],
 ) -> Result<InitArgs, Refusal>
-    requires { ((ends : List ℕ) × PassedBook book.now roots.now ends p) × (both.old ≡ blank_table) }
-    ensures { (ends : List ℕ) (x : PassedBook book.now roots.now ends p) → InitFoundAs x.admitted both.new result }
+    requires { PassedMain book.bytes.now book.contents roots.now main × (both.old ≡ blank_table) }
+    ensures { (x : PassedMain book.entry.bytes.now book.entry.contents roots.now main) → InitFoundAs x.book.admitted both.new result }
 {
-    let c = p.contents;
-    let admitted = AdmittedBook::new(book, c);
-    let init = syntax::files::init_file(admitted);
+    let init = syntax::files::init_file(book);
     let mut own = [Entry::NO_ROOT; Limits::NAMES];
-    if init == c.files {
+    if init == book.contents.files {
         environment::merge::merged(&own, roots, both);
         return Ok(InitArgs {
-            count: c.definitions,
+            count: book.contents.definitions,
             from: 0,
             until: 0,
         });
     }
-    check_own(admitted, p.main, &mut own)?;
-    merge(admitted, &own, roots)?;
+    check_own(book, main, &mut own)?;
+    merge(book, &own, roots)?;
     environment::merge::merged(&own, roots, both);
-    let args = check_seen(book, p, &own, init, both);
+    let args = check_seen(book, main, &own, init, both);
     if args.is_err() {
         both.fill(Entry::NO_ROOT);
     }

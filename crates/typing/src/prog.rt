@@ -1,5 +1,5 @@
 // The check of a whole book: `check_prog` of typing.rs on the definitions of all files but the init file, and on the resolved actor. What it
-// hands on is a passed book: its contents, how many definitions are not the init file's, the interface of its actor, and two lent tables.
+// hands on of a book that passed is how many definitions are not the init file's, the interface of its actor, and two lent tables.
 ghost use Rattle.std.specs.Prelude.{◌≡◌};
 ghost use Rattle.book.specs.Reading.{Admitted};
 ghost use Rattle.book.specs.Tables.{blank_table, zero_table};
@@ -9,7 +9,6 @@ ghost use Rattle.typing.specs.Passing.{DecsPassed, ActorFoundAs, FoundAs};
 use crate::decs::Decs;
 use crate::types::Walk;
 use book::admitted::AdmittedBook;
-use book::kinds::Contents;
 use book::read::Entry;
 use environment::chain_end;
 use refusals::Refusal;
@@ -19,7 +18,6 @@ use syntax::interface::Interface;
 // A book that passed, beside its tables of roots and of alias ends.
 #[derive(Clone, Copy)]
 pub struct Passed {
-    pub contents: Contents,
     pub main: usize,
     pub interface: Interface,
 }
@@ -39,11 +37,7 @@ fn check_resolved<'t>(
     let interface = syntax::actor::resolve_actor(book, files, main, roots, ends)?;
     let walk = Walk::new(book, roots, Some(ends));
     walk.check_actor(&interface)?;
-    Ok(Passed {
-        contents: book.contents,
-        main,
-        interface,
-    })
+    Ok(Passed { main, interface })
 }
 
 // The check of an admitted book, into tables that have nothing: refusals 2 to 10 and 12 to 14, the first in the order of the check. A refusal leaves

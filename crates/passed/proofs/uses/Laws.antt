@@ -36,9 +36,10 @@ use Rattle.std.specs.Prelude.{Ok, Err}
 use Rattle.passed.specs.Uses.{UsesHanded}
 use Rattle.typing.specs.declared.prog.Passed.{Passed}
 use Rattle.typing.specs.Passing.{PassedAs}
-use Rattle.typing.proofs.prog.Book.{fits, tabled, nodes-are}
+use Rattle.typing.proofs.prog.Book.{fits, tabled}
 use Rattle.book.specs.declared.kinds.Contents.{Contents}
-use Rattle.book.specs.Reading.{Admitted, contents_of}
+use Rattle.book.specs.Reading.{Admitted}
+use Rattle.book.proofs.Opened.{nodes-count, definitions-count}
 use Rattle.passed.proofs.Asking.{lacks-actor, uses-as}
 use Rattle.passed.proofs.uses.Sites.{followed, used_by, used-says, used-hits, kept-same}
 
@@ -123,16 +124,15 @@ module _ {bs : List ℕ} {c : Contents} {a : Admitted bs c} {roots ends' : List 
       uses-handed h = uses-as uses-are (h.handed offered)
 
   -- ---- As the code has it
-  pub main-within : p.main ≤ p.contents.definitions
-  unfolding contents_of
-  main-within = omega (arith, x.within, ap (λ (d : Contents). d.definitions) a.table, ap (λ (d : Contents). d.definitions) x.contents)
+  pub main-within : p.main ≤ c.definitions
+  main-within = omega (arith, x.within, definitions-count a)
 
-  module _ (some : resolve_actor b ≡ end → ⊥) {n : ℕ} (few : n < 1024) {near : List ℕ} (t : NearestAs rows (definitions_part bs) p.contents.nodes p.main n near) where
+  module _ (some : resolve_actor b ≡ end → ⊥) {n : ℕ} (few : n < 1024) {near : List ℕ} (t : NearestAs rows (definitions_part bs) c.nodes p.main n near) where
     reached : ReachAs ds n t.flags
     reached = subst (λ (l : List Definition). ReachAs l n t.flags) (sym x.definitions) t.reach
 
     first-rows : NearAs rows t.flags (count (trees b)) near
-    first-rows = subst (λ (k : ℕ). NearAs rows t.flags k near) (nodes-are x) t.first
+    first-rows = subst (λ (k : ℕ). NearAs rows t.flags k near) (nodes-count a) t.first
 
     module _ {ns : List ℕ} (here : ns ≡ rows) where
       pub offered-here : Offered ns ends' near p.interface.from p.interface.until p.interface.services

@@ -1,6 +1,5 @@
 -- What an admitted book gives that passed the check, for callers. Assumes nothing.
 --     fits, few, tabled          what the book gives by its bytes, and the tables of it
---     names-are, nodes-are       its contents
 --     no-actor, some-actor        17
 use mathlib.Core.Path.{◌≡◌, sym, ap, ◌∙◌}
 use mathlib.Core.Bool.{Bool, true, false}
@@ -15,7 +14,6 @@ use Rattle.format.specs.Layout.{nodes_part}
 use Rattle.format.proofs.Theorems.{found}
 use Rattle.book.specs.declared.kinds.Contents.{Contents}
 use Rattle.book.specs.Reading.{Admitted}
-use Rattle.book.proofs.Opened.{names-count, nodes-count}
 use Rattle.judgement.specs.Environment.{main_definitions}
 use Rattle.judgement.specs.Resolve.{resolve_actor}
 use Rattle.environment.specs.Tables.{Tabled}
@@ -36,13 +34,6 @@ module _ {bs : List ℕ} {c : Contents} {a : Admitted bs c} {roots ends' : List 
 
   pub tabled : Tabled (nodes_part bs) roots p.main (main_definitions a.book)
   tabled = (x.checked.env.binds, x.counted)
-
-  -- the numbers and the parts as the contents have them
-  pub names-are : p.contents.names ≡ length a.book.names
-  names-are = ap (λ (d : Contents). d.names) x.contents ∙ names-count a
-
-  pub nodes-are : p.contents.nodes ≡ count (trees a.book)
-  nodes-are = ap (λ (d : Contents). d.nodes) x.contents ∙ nodes-count a
 
   -- ---- Whether there is an actor, as the code tells it
   module _ {has : Bool} (is : has ≡ is_present p.interface.actor) where

@@ -166,14 +166,13 @@ module _ {bs : List ℕ} {c : Contents} (a : Admitted bs c) where
         actor-refused said = record { verdict = check-is said; passed = tt }
 
         pub prog-passed : (IsSome w.ends → Under w (λ pre ds. ActorOf w i ds → passes ≡ actor_verdict ds (interface_tree w.scope.rows.now i))) →
-            ActorFoundAs a roots ends' (Ok (record { contents = c; main = main; interface = i }))
+            ActorFoundAs a roots ends' (Ok (record { main = main; interface = i }))
         prog-passed said =
             record {
               verdict = check-is said;
               passed =
                   record {
                     passed = sym (check-is said);
-                    contents = refl;
                     definitions = definitions-are o.split;
                     split = o.split;
                     within = omega (arith, o.split.within, definitions-count a);

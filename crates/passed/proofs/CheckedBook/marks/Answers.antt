@@ -9,13 +9,14 @@ use Rattle.refusals.specs.Outcome.{refused, given}
 use Rattle.format.specs.Layout.{nodes_part}
 use Rattle.book.specs.declared.kinds.Contents.{Contents}
 use Rattle.book.specs.Reading.{Admitted}
+use Rattle.book.proofs.Opened.{names-count}
 use Rattle.book.specs.Tables.{flagged}
 use Rattle.judgement.specs.Environment.{main_definitions}
 use Rattle.judgement.specs.Check.{check}
 use Rattle.environment.specs.Tables.{Binds}
 use Rattle.typing.specs.declared.prog.Passed.{Passed}
 use Rattle.typing.specs.Passing.{PassedAs}
-use Rattle.typing.proofs.prog.Book.{tabled, names-are}
+use Rattle.typing.proofs.prog.Book.{tabled}
 use Rattle.listing.specs.Recursive.{infer_rec}
 use Rattle.listing.specs.Marks.{marked, marks_over}
 use Rattle.analysis.specs.declared.recursive.Marks.{Marks}
@@ -33,8 +34,8 @@ module _ {bs : List ℕ} {c : Contents} {a : Admitted bs c} {roots ends' : List 
   rooted : Rooted (nodes_part bs) roots
   rooted = record { names = _; count = _; all = x.all; bound = x.checked.table }
 
-  names-few : p.contents.names ≤ 1024
-  names-few = omega (arith, names-are x, x.all.nodes.few_names)
+  names-few : c.names ≤ 1024
+  names-few = omega (arith, names-count a, x.all.nodes.few_names)
 
   module _ {rows : List ℕ} (here : rows ≡ nodes_part bs) {fresh : Marks} (none : fresh ≡ nothing_marked) where
     begun : Begun rows roots fresh
@@ -59,15 +60,15 @@ module _ {bs : List ℕ} {c : Contents} {a : Admitted bs c} {roots ends' : List 
     marks-stop why k = after-passed (check a.book) _ x.passed ∙ marked-stopped (length a.book.names) (infer_rec (main_definitions a.book) l) why (h (Err why) k)
 
     module _ (m : Marks) (k : InferredAs rows roots l fresh (Ok m)) where
-      marks-ready : (length m.marked ≡ 1024) × (p.contents.names ≤ 1024)
+      marks-ready : (length m.marked ≡ 1024) × (c.names ≤ 1024)
       marks-ready = (marked-long (infer_rec (main_definitions a.book) l) m (h (Ok m) k), names-few)
 
-      marks-given : {j : List ℕ} → j ≡ flagged m.marked 0 p.contents.names → marks_over a.book l ≡ given j
+      marks-given : {j : List ℕ} → j ≡ flagged m.marked 0 c.names → marks_over a.book l ≡ given j
       unfolding marks_over
       marks-given e =
           after-passed (check a.book) _ x.passed
-          ∙ ap (λ (n : ℕ). marked n (infer_rec (main_definitions a.book) l)) (sym (names-are x))
-          ∙ marked-given p.contents.names (infer_rec (main_definitions a.book) l) m (h (Ok m) k) names-few
+          ∙ ap (λ (n : ℕ). marked n (infer_rec (main_definitions a.book) l)) (sym (names-count a))
+          ∙ marked-given c.names (infer_rec (main_definitions a.book) l) m (h (Ok m) k) names-few
           ∙ ap given (sym e)
 
 pub infer_rec-requires : goal.infer_rec-requires

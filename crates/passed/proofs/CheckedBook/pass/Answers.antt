@@ -25,7 +25,7 @@ returns-in_err-found c =
 pub invariant_of-result : goal.invariant_of-result
 invariant_of-result c =
     let e = c.in_ok-admitted.ensures in
-    record { passes = rw e.bytes (book-passed _ e.answer (rw e.bytes at c.check_prog.ensures) c.in_ok-found.was refl) }
+    record { passes = rw e.bytes (book-passed _ e.answer (rw e.bytes at c.check_prog.ensures) c.in_ok-found.was) }
 
 pub returns : goal.returns
 returns c =
