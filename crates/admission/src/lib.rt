@@ -16,9 +16,7 @@ pub fn admit<'a>(book: &'a [u8], limits: Limits) -> Result<AdmittedBook<'a>, Ref
     ensures answer { result_map_both (λ b. b.contents) (λ why. why) result ≡ admission_of (admitted (book.entry.now under limits)) }
     ensures bytes { IfOk result (λ b. b.bytes ≡ book.entry) }
 {
-    let Some(contents) = book::layout(book) else {
-        return Err(Refusal::Broken);
-    };
+    let contents = book::layout(book).ok_or(Refusal::Broken)?;
     let size = Limits {
         names: contents.names as u32,
         nodes: contents.nodes as u32,

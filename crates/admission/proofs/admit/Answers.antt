@@ -1,11 +1,14 @@
 -- `admit` meets its contract: a broken book, one over a limit, one with a repeated label, and one that is admitted. Assumes nothing.
-use Rattle.std.proofs.Common.{arith, ◌≡◌, ℕ, List, Err, None, sym, ap, ◌∙◌}
+use Rattle.std.proofs.Common.{arith, ◌≡◌, ℕ, List, Option, None, Result, Ok, Err, sym, ap, ◌∙◌}
+use Rattle.std.specs.Result.{result_ok}
 use Rattle.refusals.proofs.Handing.{handed-on}
+use Rattle.refusals.specs.declared.Refusal.{Refusal}
 use Rattle.refusals.specs.declared.Refusal.TheVariants.{Broken}
 use Rattle.format.specs.declared.Limits.{Limits}
 use Rattle.format.specs.Admission.{◌under◌, admitted, is_broken}
 use Rattle.format.proofs.Admission.{admission-refuses}
-use Rattle.book.specs.Reading.{reading}
+use Rattle.book.specs.declared.kinds.Contents.{Contents}
+use Rattle.book.specs.Reading.{reading, Admitted}
 use Rattle.book.proofs.Named.{broken-of, book-of}
 use Rattle.admission.specs.Admitting.{admission_of}
 use Rattle.admission.proofs.Whole.{few, over, labelled}
@@ -15,26 +18,33 @@ broken-refused : (bs : List ℕ) (l : Limits) → None ≡ reading bs → Err Br
 unfolding admission_of
 broken-refused bs l e = ap admission_of (sym (admission-refuses (bs under l) (is_broken (broken-of bs e))))
 
-pub returns-in_default-clause-answer : goal.returns-in_default-clause-answer
-returns-in_default-clause-answer c = broken-refused _ _ (sym c.in_default.is ∙ c.layout.ensures)
+-- the table of contents that `?` goes on with
+laid : {bs : List ℕ} {o : Option Contents} {r : Result Contents Refusal} {c : Contents} → o ≡ reading bs → o ≡ result_ok r → r ≡ Ok c → Admitted bs c
+laid is part was = book-of _ _ (sym (part ∙ ap result_ok was) ∙ is)
+
+pub returns-in_err-contents-clause-answer : goal.returns-in_err-contents-clause-answer
+returns-in_err-contents-clause-answer c =
+    let none = c.ok_or.ensures.ok_part ∙ ap result_ok c.in_err-contents.was in
+    rw (handed-on c.from_residual.result c.from_residual.ensures, ← c.in_err-contents.was, c.ok_or.ensures.value, none)
+    (broken-refused _ _ (sym none ∙ c.layout.ensures))
 
 pub overflow_cast-size : goal.overflow_cast-size
-overflow_cast-size c = let f = few (book-of _ _ (sym c.in-Some.is ∙ c.layout.ensures)) in omega (arith, f.names)
+overflow_cast-size c = let f = few (laid c.layout.ensures c.ok_or.ensures.ok_part c.in_ok-contents.was) in omega (arith, f.names)
 
 pub overflow_cast-size-2 : goal.overflow_cast-size-2
-overflow_cast-size-2 c = let f = few (book-of _ _ (sym c.in-Some.is ∙ c.layout.ensures)) in omega (arith, f.nodes)
+overflow_cast-size-2 c = let f = few (laid c.layout.ensures c.ok_or.ensures.ok_part c.in_ok-contents.was) in omega (arith, f.nodes)
 
 pub overflow_cast-size-3 : goal.overflow_cast-size-3
-overflow_cast-size-3 c = let f = few (book-of _ _ (sym c.in-Some.is ∙ c.layout.ensures)) in omega (arith, f.definitions)
+overflow_cast-size-3 c = let f = few (laid c.layout.ensures c.ok_or.ensures.ok_part c.in_ok-contents.was) in omega (arith, f.definitions)
 
 pub returns-then-not-within-clause-answer : goal.returns-then-not-within-clause-answer
-returns-then-not-within-clause-answer c = over (book-of _ _ (sym c.in-Some.is ∙ c.layout.ensures)) _ (sym (c.if-not-within.true) ∙ c.within.ensures)
+returns-then-not-within-clause-answer c = over (laid c.layout.ensures c.ok_or.ensures.ok_part c.in_ok-contents.was) _ (sym (c.if-not-within.true) ∙ c.within.ensures)
 
 pub returns-in_err-checked-clause-answer : goal.returns-in_err-checked-clause-answer
 returns-in_err-checked-clause-answer c =
-    rw (handed-on c.from_residual.result c.from_residual.ensures)
-    (labelled (book-of _ _ (sym c.in-Some.is ∙ c.layout.ensures)) _ (sym (c.if-not-within.false) ∙ c.within.ensures) (rw c.in_err-checked.was at c.check_labels-checked.ensures))
+    rw (handed-on c.from_residual-in_err-checked.result c.from_residual-in_err-checked.ensures)
+    (labelled (laid c.layout.ensures c.ok_or.ensures.ok_part c.in_ok-contents.was) _ (sym (c.if-not-within.false) ∙ c.within.ensures) (rw c.in_err-checked.was at c.check_labels-checked.ensures))
 
 pub returns-clause-answer : goal.returns-clause-answer
 returns-clause-answer c =
-    labelled (book-of _ _ (sym c.in-Some.is ∙ c.layout.ensures)) _ (sym (c.if-not-within.false) ∙ c.within.ensures) (rw c.in_ok-checked.was at c.check_labels-checked.ensures)
+    labelled (laid c.layout.ensures c.ok_or.ensures.ok_part c.in_ok-contents.was) _ (sym (c.if-not-within.false) ∙ c.within.ensures) (rw c.in_ok-checked.was at c.check_labels-checked.ensures)
