@@ -1,5 +1,5 @@
 -- A book that fits: its definitions, its actors and its init arguments do. Assumes nothing.
-use mathlib.Core.Path.{◌≡◌, refl, subst, sym}
+use mathlib.Core.Path.{◌≡◌, refl}
 use mathlib.Core.Logic.{inr, ⊎_elim}
 use mathlib.Core.Bool.{Bool, true, false, cond}
 use mathlib.Core.List.Memᴰ
@@ -12,25 +12,25 @@ use Rattle.format.specs.declared.Place.TheVariants.{Root, Method}
 use Rattle.format.specs.Forest.{Forest, end, breadth}
 use Rattle.format.specs.Node.{Node}
 use Rattle.format.specs.Book.{Definition, File, Book}
-use Rattle.format.specs.Fits.{every, is_init_role, definition_fits, file_fits, forest_fits, Fits}
-use Rattle.format.proofs.Logic.{both, says}
+use Rattle.format.specs.Fits.{is_init_role, definition_fits, file_fits, forest_fits, Fits}
+use Rattle.format.proofs.Lists.{All, all-every}
+use Rattle.format.proofs.Logic.{says}
 use Rattle.format.proofs.Encoded.{fit-parts}
 use Rattle.judgement.specs.Environment.{keep, main_definitions, init_definitions}
 use Rattle.judgement.specs.Actor.{is_service_import, service_imports, first_actor, main_actor, init_tree}
 use Rattle.judgement.specs.WellFormed.{below_top}
 use Rattle.judgement.specs.Meaning.{Together, services, ActorOf, written, merged}
 use Rattle.judgement.proofs.Lookup.{keep-says}
+use Rattle.judgement.proofs.Each.{all-cons}
 use Rattle.judgement.proofs.Decs.{FitDefinitions}
 use Rattle.judgement.proofs.Meaning.{all-services}
 use Rattle.judgement.proofs.Fitting.{Fitting, Written, fitting-class, fitting-top}
 use Rattle.judgement.proofs.Actors.{merged-fits, together-fits}
 
-every-listed : {A : Type 0} (test : A → Bool) (l : List A) → T (every test l) → (a : A) → Memᴰ a l → T (test a)
-unfolding every
-every-listed test [] t a m = absurd (Memᴰ.not-nil m)
-every-listed test (c ∷ l) t a m =
-    let p = both (test c) (every test l) t in
-    ⊎_elim (λ e. subst (λ x. T (test x)) (sym e) p.0) (λ k. every-listed test l p.1 a k) (Memᴰ.cases_cons m)
+-- What holds of each element of a list holds of one that is listed.
+all-listed : {A : Type 0} (P : A → Type 0) (l : List A) → All P l → (a : A) → Memᴰ a l → P a
+all-listed P [] h a m = absurd (Memᴰ.not-nil m)
+all-listed P (c ∷ l) h a m = (all-cons c l).0 (h.0, all-listed P l h.1) a m
 
 -- A definition's name, its sole tree, and that it fits.
 pub definition-fits : (names files : ℕ) (d : Definition) → T (definition_fits names files d) →
@@ -82,7 +82,7 @@ module _ (b : Book) (fits : Fits b) where
       let one : (d : Definition) → Memᴰ d (keep test b.definitions) →
       (d.name < length b.names) × (breadth d.body ≡ 1) × T (forest_fits (length b.names) Root d.body) = λ d m.
       definition-fits (length b.names) (length b.files) d
-      (every-listed (definition_fits (length b.names) (length b.files)) b.definitions (fit-parts fits).definitions d ((keep-says test b.definitions d).0 m).0) in
+      (all-listed _ b.definitions (all-every (definition_fits (length b.names) (length b.files)) b.definitions (fit-parts fits).definitions) d ((keep-says test b.definitions d).0 m).0) in
       record { exists = λ d m. (one d m).0; sole = λ d m. (one d m).1; fit = λ d m. (one d m).2 }
 
   pub main-definitions-fit : FitDefinitions (length b.names) (main_definitions b)
@@ -94,7 +94,7 @@ module _ (b : Book) (fits : Fits b) where
   init-definitions-fit = kept-fit _
 
   files-fit : (f : File) → Memᴰ f b.files → (f.name < length b.names) × (breadth f.actor ≤ 1) × T (forest_fits (length b.names) Root f.actor)
-  files-fit f m = file-fits (length b.names) f (every-listed (file_fits (length b.names)) b.files (fit-parts fits).files f m)
+  files-fit f m = file-fits (length b.names) f (all-listed _ b.files (all-every (file_fits (length b.names)) b.files (fit-parts fits).files) f m)
 
   actors-fit : AllFit (length b.names) b.files
   actors-fit f m = let p = files-fit f m in record { fits = record { place = Root; fit = p.2 }; few = p.1 }

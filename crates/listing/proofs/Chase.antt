@@ -29,7 +29,8 @@ use Rattle.listing.specs.Chase.{Walk, going, unbound, push, chase, meet_name, vi
 use Rattle.listing.specs.References.{Reachable, direct, onward, Meets, again, anew, Chases, done, Lost, Lacks, itself, inside, Misses, now, later}
 use Rattle.listing.specs.References as order
 use Rattle.listing.proofs.Leaves.{each, chase-each, Leafy, LeafyBodies}
-use Rattle.listing.proofs.Places.{cons-all, nil-all}
+use Rattle.judgement.proofs.Each.{all-cons}
+use Rattle.listing.proofs.Places.{nil-all}
 use Rattle.listing.proofs.Chases.{Listed, Rules, by-chases, by-meets, meets-grows, chases-listed, misses-lost}
 use Rattle.format.specs.Fits.{max_definitions, Fits}
 use Rattle.format.proofs.Encoded.{fit-parts}
@@ -93,7 +94,7 @@ module _ (ds : List Definition) where
   fresh-short f = rw (length-map ds defined_name) at (pigeonhole f.unique (map defined_name ds) f.defined)
 
   fresh-cons : {d : Definition} {n : ℕ} {s : List ℕ} → (Memᴰ n s → ⊥) → Memᴰ d ds → d.name ≡ n → Fresh s → Fresh (n ∷ s)
-  fresh-cons {n = n} {s = s} new i e f = record { unique = more new f.unique; defined = cons-all (Defined ds) n s (listed-defined i e) f.defined }
+  fresh-cons {n = n} {s = s} new i e f = record { unique = more new f.unique; defined = (all-cons {P = Defined ds} n s).0 (listed-defined i e, f.defined) }
 
   fresh-meets : {n : ℕ} {s o s' o' : List ℕ} → Meets ds n s o s' o' → Fresh s → Fresh s'
   fresh-meets = by-meets ds (λ n s o s' o'. Fresh s → Fresh s') (λ l s o s' o'. Fresh s → Fresh s')

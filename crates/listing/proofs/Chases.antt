@@ -19,7 +19,8 @@ use Rattle.format.specs.Distinct.{Distinct, none}
 use Rattle.judgement.specs.WellFormed.{defined_name, Defined}
 use Rattle.judgement.proofs.Lookup.{find-named, listed-defined}
 use Rattle.listing.specs.References.{Refers, Reachable, direct, onward, Way, last, step, Meets, again, anew, Chases, done, each, Reaches, Lost, itself, inside, Misses, now, later}
-use Rattle.listing.proofs.Places.{nil-all, one-all, cons-all, snoc-all, snoc-distinct, place, place-in, place-left, place-right}
+use Rattle.judgement.proofs.Each.{all-cons}
+use Rattle.listing.proofs.Places.{nil-all, one-all, snoc-all, snoc-distinct, place, place-in, place-left, place-right}
 
 -- `out` lists what is reachable from `start`, each name once, and each has a definition. It is made in the order of `Chases`, where in
 -- the end just the listed names are seen. A name stands after what it refers to, unless that reaches it.
@@ -54,7 +55,7 @@ grows-not h = record { all = h; keeps = λ x i. i; news = λ x i. inl i; lists =
 
 grows-on : {n : ℕ} {l s o s₁ o₁ s₂ o₂ : List ℕ} → Grows (n ∷ []) s o s₁ o₁ → Grows l s₁ o₁ s₂ o₂ → Grows (n ∷ l) s o s₂ o₂
 grows-on {n} {l} {s₂ = s₂} g h = record {
-  all = cons-all (λ x. Memᴰ x s₂) n l (h.keeps n (g.all n (Memᴰ.head refl))) h.all;
+  all = (all-cons {P = λ x. Memᴰ x s₂} n l).0 (h.keeps n (g.all n (Memᴰ.head refl)), h.all);
   keeps = λ x i. h.keeps x (g.keeps x i);
   news = λ x i. ⊎_elim (λ j. ⊎_elim inl (λ k. inr (h.lists x k)) (g.news x j)) inr (h.news x i);
   lists = λ x i. h.lists x (g.lists x i);
@@ -161,8 +162,8 @@ module _ (ds : List Definition) (once : Distinct (map defined_name ds)) where
       ready-inside : (x : ℕ) → Memᴰ x (references d.body) → Ready (n ∷ s) o x
       ready-inside x j = record {
         reached = onward r.reached (refers x j);
-        held = cons-all (λ y. Memᴰ y o ⊎ Reaches ds y x) n s (inr (x ∷ [], last (refers x j)))
-            (λ y k. ⊎_elim inl (λ w. inr (w.0 ++ x ∷ [], way-snoc w.1 (refers x j))) (r.held y k));
+        held = (all-cons {P = λ y. Memᴰ y o ⊎ Reaches ds y x} n s).0
+            (inr (x ∷ [], last (refers x j)), λ y k. ⊎_elim inl (λ w. inr (w.0 ++ x ∷ [], way-snoc w.1 (refers x j))) (r.held y k));
       }
 
       -- and then it is listed

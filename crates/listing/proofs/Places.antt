@@ -22,9 +22,6 @@ nil-all i = absurd (Memᴰ.not-nil i)
 pub one-all : (P : ℕ → Type 0) (n : ℕ) → P n → (x : ℕ) → Memᴰ x (n ∷ []) → P x
 one-all P n p x i = subst P (sym (Memᴰ.eq_of_singleton i)) p
 
-pub cons-all : (P : ℕ → Type 0) (n : ℕ) (l : List ℕ) → P n → ((x : ℕ) → Memᴰ x l → P x) → (x : ℕ) → Memᴰ x (n ∷ l) → P x
-cons-all P n l p h x i = ⊎_elim (λ e. subst P (sym e) p) (h x) (Memᴰ.cases_cons i)
-
 pub snoc-all : (P : ℕ → Type 0) (l : List ℕ) (n : ℕ) → ((x : ℕ) → Memᴰ x l → P x) → P n → (x : ℕ) → Memᴰ x (l ++ n ∷ []) → P x
 snoc-all P l n h p x i = ⊎_elim (h x) (one-all P n p x) (Memᴰ.append_cases l i)
 
