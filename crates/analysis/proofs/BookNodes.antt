@@ -1,4 +1,5 @@
 -- A node of a book: its row, its tree, and those below it; the names of rows; and the methods of services. Assumes nothing.
+--     Rooted, Readable           a book's nodes with a table of roots, and trees of it; what a scope has
 --     untabled                   a book's nodes, where no table is asked for
 --     here-..                    a node
 --     next-at                    where a walk over sibling trees goes on
@@ -16,7 +17,7 @@ use Rattle.format.specs.Forest.{Forest, end, beside}
 use Rattle.format.specs.Node.{Node}
 use Rattle.format.specs.Encode.{Row}
 use Rattle.format.specs.Layout.{row_at, run, siblings}
-use Rattle.format.specs.Whole.{Within, WholeAt, WholeIn, tree_at}
+use Rattle.format.specs.Whole.{Whole, Within, WholeAt, WholeIn, tree_at}
 use Rattle.format.proofs.References.{vars_of}
 use Rattle.format.proofs.Rows.{kids-whole, node-within}
 use Rattle.format.proofs.Stored.{tree-whole}
@@ -31,7 +32,28 @@ use Rattle.syntax.specs.Interfaces.{methods_in}
 use Rattle.syntax.proofs.Stored.{tree-kids}
 use Rattle.environment.proofs.Trees.{node-trees, node-some, no-ends}
 use Rattle.listing.proofs.Leaves.{Leafy, fits-leafy}
-use Rattle.analysis.specs.Book.{Rooted, Readable}
+use Rattle.environment.specs.Tables.{Roots}
+use Rattle.environment.specs.declared.scope.BookScope.{BookScope}
+
+-- All nodes of a book, and a table of roots.
+pub record Rooted (ns roots : List ℕ) : Type 0 where
+  pub names : ℕ
+  pub count : ℕ
+  pub all : AllTrees ns names count
+  pub bound : Roots roots count
+
+-- The trees from node `from` up to node `until` are trees of that book.
+pub record Readable (ns roots : List ℕ) (from until : ℕ) : Type 0 where
+  pub rooted : Rooted ns roots
+  pub whole : Whole ns from until
+  pub inside : until ≤ rooted.count
+
+-- A scope has them.
+abbrev pub rooted : (b : BookScope) → Rooted b.scope.rows.now b.scope.roots.now
+rooted b = record { names = b.scope.names; count = b.scope.nodes; all = b.trees; bound = b.scope.bound }
+
+abbrev pub readable : (b : BookScope) {from until : ℕ} → Whole b.scope.rows.now from until → until ≤ b.scope.nodes → Readable b.scope.rows.now b.scope.roots.now from until
+readable b w h = record { rooted = rooted b; whole = w; inside = h }
 
 abbrev pub untabled : {ns : List ℕ} {names count : ℕ} → AllTrees ns names count → Rooted ns blank_table
 untabled {names = names} {count = count} a =
@@ -64,10 +86,10 @@ module _ {ns roots : List ℕ} (b : Rooted ns roots) {n : ℕ} (h : n < b.count)
     pub here-small : n + size ≤ 4096
     here-small = omega (arith, here-ends, b.all.nodes.few_nodes)
 
-    pub here-readable : Readable ns roots n (n + size)
+    abbrev pub here-readable : Readable ns roots n (n + size)
     here-readable = record { rooted = b; whole = rw is (tree-whole here-whole); inside = here-ends }
 
-    pub kids-readable : Readable ns roots (n + 1) (n + size)
+    abbrev pub kids-readable : Readable ns roots (n + 1) (n + size)
     kids-readable = record { rooted = b; whole = rw is (kids-whole here-whole); inside = here-ends }
 
 -- ---- The names of rows

@@ -1,5 +1,5 @@
 -- What the contracts of the analysis cite. The definitions of what it answers are those of the crate `listing`.
-pub mod Book
+pub mod Flags
 pub mod Walking
 pub mod Marking
 pub mod Reaching

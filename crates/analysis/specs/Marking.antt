@@ -8,7 +8,7 @@ use Rattle.book.specs.Tables.{no_flags}
 use Rattle.listing.specs.Recursive.{marking, unbound, infer_from}
 use Rattle.listing.specs.Recursive as listing
 use Rattle.analysis.specs.declared.recursive.Marks.{Marks}
-use Rattle.analysis.specs.Book.{Agrees}
+use Rattle.analysis.specs.Flags.{Agrees}
 
 -- The flags tell the names seen and those marked.
 pub record Flagged (seen set : List ℕ) (r : Marks) : Type 0 where

@@ -17,7 +17,7 @@ use Rattle.syntax.specs.Interfaces.{IsMerged, InterfaceNodes}
 use Rattle.syntax.specs.Classes.{tree_of, ArgumentsAs}
 use Rattle.listing.specs.Chase.{Walk as State, going, unbound, chase, visit, chase_types}
 use Rattle.analysis.specs.declared.chase.Walk.{Walk}
-use Rattle.analysis.specs.Book.{Agrees, Rooted}
+use Rattle.analysis.specs.Flags.{Agrees}
 
 -- ---- The walk
 
@@ -102,12 +102,7 @@ pub record NothingMet (w : Walk) : Type 0 where
 abbrev pub WalkedAs : (ns roots : List ℕ) (start : Forest Node) (r : Result Walk Refusal) → Type 0
 WalkedAs ns roots start r = (ds : List Definition) → Binds ns roots ds → length ds ≤ 512 → Holds ds (chase_types ds start) r
 
--- A root that is a node of the book; and an interface whose nodes are, with the arguments of main's actor where it is merged.
-pub record RootIn (ns roots : List ℕ) (root : ℕ) : Type 0 where
-  pub rooted : Rooted ns roots
-  pub node : root < rooted.count
-
-pub record InterfaceIn (ns roots : List ℕ) (i : Interface) : Type 0 where
-  pub rooted : Rooted ns roots
-  pub nodes : InterfaceNodes ns rooted.count i
-  pub arguments : (m : IsMerged i.actor) → ArgumentsAs ns rooted.count (tree_of ns m.0) i.from i.until
+-- An interface whose nodes are those of a book, with the arguments of main's actor where it is merged.
+pub record InterfaceIn (ns : List ℕ) (count : ℕ) (i : Interface) : Type 0 where
+  pub nodes : InterfaceNodes ns count i
+  pub arguments : (m : IsMerged i.actor) → ArgumentsAs ns count (tree_of ns m.0) i.from i.until

@@ -1,16 +1,17 @@
 // `chase_type`, `chase_types` and `chase_actor` of bindings/analysis.rs: the names that types lead to, each after those that its definition
 // leads to. The rows of a type are scanned in order, and only a name that is new is gone into.
-ghost use Rattle.std.specs.Prelude.{◌≡◌, ◌+◌, ◌≤◌};
+ghost use Rattle.std.specs.Prelude.{◌≡◌, ◌+◌, ◌≤◌, ◌<◌};
 ghost use Rattle.format.specs.Layout.{siblings};
-ghost use Rattle.format.specs.Whole.{tree_at};
+ghost use Rattle.format.specs.Whole.{Whole, tree_at};
 ghost use Rattle.syntax.specs.Interfaces.{interface_tree};
-ghost use Rattle.analysis.specs.Book.{Readable};
-ghost use Rattle.analysis.specs.Walking.{Started, ChasedAs, is_new, Scanned, NextNew, Counted, NothingMet, WalkedAs, RootIn, InterfaceIn};
+ghost use Rattle.analysis.specs.Walking.{Started, ChasedAs, is_new, Scanned, NextNew, Counted, NothingMet, WalkedAs, InterfaceIn};
 
 use arrayvec::ArrayVec;
 use book::kinds::Kind;
 use book::read::Node;
 use book::tables::Flags;
+use book::walks::Waiting;
+use environment::scope::BookScope;
 use format::Limits;
 use refusals::Refusal;
 use syntax::interface::{Actor, Interface};
@@ -35,14 +36,6 @@ impl Walk {
     }
 }
 
-// A name that was gone into: its row, and the end of the rows that are gone on with after it. `inhabitants` has one like it for itself, since
-// neither crate stands on the other.
-#[derive(Clone, Copy, Default)]
-struct Waiting {
-    row: u16,
-    end: u16,
-}
-
 // Whether a node is a name that was not seen.
 fn is_new(rows: &[u8], seen: &[u8], n: usize) -> bool
     requires { Scanned rows.now seen.now (n + 1) }
@@ -62,12 +55,13 @@ fn next_new(rows: &[u8], seen: &[u8], from: usize, until: usize) -> Option<usize
 
 // The names of the nodes from `from` up to `until`, from left to right. Nothing recurses, so that the walk is moved once and not for each
 // name: a name that is gone into waits, and is listed when no new name is left below it. No index is counted in the loop: where it goes on is
-// where a name's definition stands, or after the name that waits last. Rows and roots stay two parameters: environment's Scope, a struct of
-// both, doesn't have what the clauses ask, that all nodes are trees at roots, so they would stay as they are, and each caller make a Scope first.
-fn chase(rows: &[u8], roots: &[u16], from: usize, until: usize, walk: Walk) -> Result<Walk, Refusal>
-    requires { Readable rows.now roots.now from until × Started rows.now roots.now walk }
-    ensures { ChasedAs rows.now roots.now from until walk result }
+// where a name's definition stands, or after the name that waits last.
+fn chase(book: BookScope, from: usize, until: usize, walk: Walk) -> Result<Walk, Refusal>
+    requires { Whole book.scope.rows.now from until × (until ≤ book.scope.nodes) × Started book.scope.rows.now book.scope.roots.now walk }
+    ensures { ChasedAs book.entry.scope.rows.now book.entry.scope.roots.now from until walk result }
 {
+    let rows = book.scope.rows;
+    let roots = book.scope.roots;
     let Walk {
         mut seen,
         mut listed,
@@ -101,37 +95,37 @@ fn chase(rows: &[u8], roots: &[u16], from: usize, until: usize, walk: Walk) -> R
 }
 
 // `chase_types`: the trees from node `from` up to node `until`.
-pub fn chase_types(rows: &[u8], roots: &[u16], from: usize, until: usize) -> Result<Walk, Refusal>
-    requires { Readable rows.now roots.now from until × Counted rows.now roots.now }
-    ensures { WalkedAs rows.now roots.now (siblings rows.now from until) result }
+pub fn chase_types(book: BookScope, from: usize, until: usize) -> Result<Walk, Refusal>
+    requires { Whole book.scope.rows.now from until × (until ≤ book.scope.nodes) × Counted book.scope.rows.now book.scope.roots.now }
+    ensures { WalkedAs book.entry.scope.rows.now book.entry.scope.roots.now (siblings book.entry.scope.rows.now from until) result }
 {
-    chase(rows, roots, from, until, Walk::new())
+    chase(book, from, until, Walk::new())
 }
 
 // An actor as written. A second caller would keep the compiler from inlining this function, and the list pay a copy of the walk.
-fn chase_written(rows: &[u8], roots: &[u16], root: usize) -> Result<Walk, Refusal>
-    requires { RootIn rows.now roots.now root × Counted rows.now roots.now }
-    ensures { WalkedAs rows.now roots.now (tree_at rows.now root) result }
+fn chase_written(book: BookScope, root: usize) -> Result<Walk, Refusal>
+    requires { (root < book.scope.nodes) × Counted book.scope.rows.now book.scope.roots.now }
+    ensures { WalkedAs book.entry.scope.rows.now book.entry.scope.roots.now (tree_at book.entry.scope.rows.now root) result }
 {
-    let t = Node::at(rows, root);
-    chase_types(rows, roots, root, root + t.size)
+    let t = Node::at(book.scope.rows, root);
+    chase_types(book, root, root + t.size)
 }
 
 // `chase_actor`. A merged actor: main's arguments, and then the methods of each service.
-pub fn chase_actor(rows: &[u8], roots: &[u16], interface: Interface) -> Result<Walk, Refusal>
-    requires { InterfaceIn rows.now roots.now interface × Counted rows.now roots.now }
-    ensures { WalkedAs rows.now roots.now (interface_tree rows.now interface) result }
+pub fn chase_actor(book: BookScope, interface: Interface) -> Result<Walk, Refusal>
+    requires { InterfaceIn book.scope.rows.now book.scope.nodes interface × Counted book.scope.rows.now book.scope.roots.now }
+    ensures { WalkedAs book.entry.scope.rows.now book.entry.scope.roots.now (interface_tree book.entry.scope.rows.now interface) result }
 {
     match interface.actor {
         Actor::Absent => return Ok(Walk::new()),
-        Actor::Written(root) => return chase_written(rows, roots, root),
+        Actor::Written(root) => return chase_written(book, root),
         Actor::Merged(_) => {}
     }
-    let mut walk = chase_types(rows, roots, interface.from, interface.until)?;
+    let mut walk = chase_types(book, interface.from, interface.until)?;
     for s in interface.services.as_slice() {
         let service = *s as usize;
-        let t = Node::at(rows, service);
-        walk = chase(rows, roots, service + 1, service + t.size, walk)?;
+        let t = Node::at(book.scope.rows, service);
+        walk = chase(book, service + 1, service + t.size, walk)?;
     }
     Ok(walk)
 }

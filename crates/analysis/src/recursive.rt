@@ -1,9 +1,10 @@
-// The names to be boxed: `infer_rec`. Asks for a book's nodes and its table of roots. A definition's rows are gone through in order, in the loop
-// over the list itself. A name listed again is passed over: all that its definition refers to is seen by then.
+// The names to be boxed: `infer_rec`. A definition's rows are gone through in order, in the loop over the list itself. A name listed again is
+// passed over: all that its definition refers to is seen by then.
 
 use book::kinds::Kind;
 use book::read::Node;
 use book::tables::Flags;
+use environment::scope::BookScope;
 use format::Limits;
 use refusals::Refusal;
 
@@ -16,7 +17,6 @@ pub struct Marks {
 
 impl Marks {
     ghost use Rattle.std.specs.Prelude.{◌≡◌};
-    ghost use Rattle.analysis.specs.Book.{Rooted};
     ghost use Rattle.analysis.specs.Marking.{nothing_marked, Begun, InferredAs};
 
     // Marks before any name is listed.
@@ -32,10 +32,12 @@ impl Marks {
 
     // Name by name of the list: what its definition refers to is marked, save what was seen, that is, listed before or marked already.
     // The first listed name without definition stops it.
-    pub fn infer_rec(self, rows: &[u8], roots: &[u16], list: &[u16]) -> Result<Marks, Refusal>
-        requires { Rooted rows.now roots.now × Begun rows.now roots.now self }
-        ensures { InferredAs rows.now roots.now list.now self result }
+    pub fn infer_rec(self, book: BookScope, list: &[u16]) -> Result<Marks, Refusal>
+        requires { Begun book.scope.rows.now book.scope.roots.now self }
+        ensures { InferredAs book.entry.scope.rows.now book.entry.scope.roots.now list.now self result }
     {
+        let rows = book.scope.rows;
+        let roots = book.scope.roots;
         let mut marks = self;
         let mut done: Flags = [0; Limits::NAMES];
         for name in list {

@@ -6,6 +6,7 @@ ghost use Rattle.passed.specs.Drafts.{OwnAs, MainWritten};
 
 use book::admitted::AdmittedBook;
 use book::read::{Entry, Node};
+use environment::scope::BookScope;
 use format::Limits;
 use refusals::{Answer, Refusal};
 
@@ -29,9 +30,9 @@ fn draft_list_written(book: AdmittedBook, root: usize, out: &mut [u16]) -> Answe
     let own = own_definitions(entries, book.contents.definitions);
     let mut roots = [Entry::NO_ROOT; Limits::NAMES];
     environment::enter(book, 0, own, &mut roots)?;
-    let rows = book.nodes();
-    let t = Node::at(rows, root);
-    let w = analysis::chase::chase_types(rows, &roots, root, root + t.size)?;
+    let scope = BookScope::of(book, &roots);
+    let t = Node::at(scope.scope.rows, root);
+    let w = analysis::chase::chase_types(scope, root, root + t.size)?;
     refusals::hand(w.listed.as_slice(), out)
 }
 

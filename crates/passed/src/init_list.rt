@@ -6,6 +6,7 @@ ghost use Rattle.listing.specs.InitList.{init_list};
 
 use crate::CheckedBook;
 use book::read::Entry;
+use environment::scope::BookScope;
 use format::Limits;
 use refusals::{Answer, Refusal, Verdict};
 use typing::init::InitArgs;
@@ -36,7 +37,8 @@ impl CheckedBook<'_> {
     {
         let mut both = [Entry::NO_ROOT; Limits::NAMES];
         let args = self.check_init_args(&mut both)?;
-        let w = analysis::chase::chase_types(self.book.nodes(), &both, args.from, args.until)?;
+        let scope = BookScope::of(self.book, &both);
+        let w = analysis::chase::chase_types(scope, args.from, args.until)?;
         refusals::hand(w.listed.as_slice(), out)
     }
 }

@@ -3,6 +3,7 @@ ghost use Rattle.refusals.specs.Handed.{HandedAs};
 ghost use Rattle.listing.specs.List.{list};
 
 use crate::CheckedBook;
+use environment::scope::BookScope;
 use refusals::Answer;
 
 impl CheckedBook<'_> {
@@ -12,7 +13,8 @@ impl CheckedBook<'_> {
         ensures { HandedAs (list (book_of self.now)) out.old out.new result }
     {
         let actor = self.actor()?;
-        let w = analysis::chase::chase_actor(self.book.nodes(), &self.roots, *actor)?;
+        let scope = BookScope::of(self.book, &self.roots);
+        let w = analysis::chase::chase_actor(scope, *actor)?;
         refusals::hand(w.listed.as_slice(), out)
     }
 }

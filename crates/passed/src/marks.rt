@@ -4,6 +4,7 @@ ghost use Rattle.listing.specs.Marks.{marks_over};
 
 use crate::CheckedBook;
 use analysis::recursive::Marks;
+use environment::scope::BookScope;
 use refusals::Answer;
 
 impl CheckedBook<'_> {
@@ -12,7 +13,8 @@ impl CheckedBook<'_> {
     pub fn marks(&self, list: &[u16], out: &mut [u16]) -> Answer
         ensures { HandedAs (marks_over (book_of self.now) list.now) out.old out.new result }
     {
-        let marks = Marks::new().infer_rec(self.book.nodes(), &self.roots, list)?;
+        let scope = BookScope::of(self.book, &self.roots);
+        let marks = Marks::new().infer_rec(scope, list)?;
         let marked = analysis::hand::names_of(&marks.marked, self.book.contents.names);
         refusals::hand(marked.as_slice(), out)
     }

@@ -31,12 +31,11 @@ use Rattle.syntax.specs.declared.interface.Interface.{Interface}
 use Rattle.environment.specs.Tables.{Binds}
 use Rattle.syntax.specs.declared.interface.Actor.TheVariants.{Absent, Written}
 use Rattle.syntax.specs.Classes.{tree_of}
-use Rattle.syntax.specs.Interfaces.{IsService, methods_in, IsMerged, main_of, actor_tree, interface_tree}
+use Rattle.syntax.specs.Interfaces.{IsService, methods_in, IsMerged, actor_tree, interface_tree}
 use Rattle.syntax.proofs.Stored.{tree-kids}
 use Rattle.listing.specs.Chase.{Walk as State, going, unbound, arm, chase, visit, chase_types}
 use Rattle.analysis.specs.declared.chase.Walk.{Walk}
-use Rattle.analysis.specs.Book.{Readable}
-use Rattle.analysis.specs.Walking.{Goes, Holds, Started, fuel, ChasedAs, Counted, NothingMet, WalkedAs, RootIn, InterfaceIn}
+use Rattle.analysis.specs.Walking.{Goes, Holds, Started, fuel, ChasedAs, Counted, NothingMet, WalkedAs, InterfaceIn}
 use Rattle.analysis.proofs.chase.Steps.{visit-stopped}
 
 -- ---- A walk that goes on, and one that was stopped
@@ -208,10 +207,10 @@ module _ {ns roots : List ℕ} (t : Counted ns roots) {a : Interface} {services 
 
     module _ (h : k < length services) where
       -- the next service is a node of the book
-      pub service-in : (s : InterfaceIn ns roots a) → get_or services k 0 < s.rooted.count
-      service-in s =
-          let all = All-same (IsService ns s.rooted.count) services a.services l.interface.are s.nodes.service in
-          (All-get_or (IsService ns s.rooted.count) services k 0 h all).0
+      pub service-in : {count : ℕ} → InterfaceIn ns count a → get_or services k 0 < count
+      service-in {count} s =
+          let all = All-same (IsService ns count) services a.services l.interface.are s.nodes.service in
+          (All-get_or (IsService ns count) services k 0 h all).0
 
       module _ (s : ℕ) (at : s ≡ get_or services k 0) (w : WholeAt ns s) (q : Row) (is : q ≡ row_at ns s) where
         -- its methods, and then those of the services after it
@@ -249,10 +248,3 @@ module _ {ns roots : List ℕ} (t : Counted ns roots) {a : Interface} {services 
             let x = chase (visit (fuel ds) ds) (siblings ns (s + 1) (s + q.size)) (going y.seen y.out) in
             subst (λ (z : State). Holds ds z (Err why)) (sym (opens ds (going y.seen y.out)) ∙ y.same)
             (holds-on ds (fuel ds) (methods_in ns (drop (k + 1) services)) x why (c ds y.seen y.out b few y.goes))
-
-pub interface-root : {ns roots : List ℕ} {i : Interface} → InterfaceIn ns roots i → {root : ℕ} → i.actor ≡ Written root → RootIn ns roots root
-unfolding main_of
-interface-root s m = record { rooted = s.rooted; node = rw m at s.nodes.main }
-
-pub interface-arguments : {ns roots : List ℕ} {i : Interface} (s : InterfaceIn ns roots i) → IsMerged i.actor → Readable ns roots i.from i.until
-interface-arguments s m = record { rooted = s.rooted; whole = (s.arguments m).whole; inside = (s.arguments m).inside }

@@ -27,8 +27,8 @@ use Rattle.refusals.specs.declared.Refusal.TheVariants.{Unbound}
 use Rattle.listing.specs.Chase.{Walk as State, going, unbound, push, chase, visit}
 use Rattle.listing.proofs.Leaves.{each}
 use Rattle.analysis.specs.declared.chase.Walk.{Walk}
-use Rattle.analysis.specs.declared.chase.Waiting.{Waiting}
-use Rattle.analysis.specs.Book.{Readable}
+use Rattle.book.specs.declared.walks.Waiting.{Waiting}
+use Rattle.analysis.proofs.BookNodes.{Readable}
 use Rattle.analysis.specs.Walking.{Goes, Holds, Started, fuel, ChasedAs, is_new, NoneNew, FirstNew}
 use Rattle.analysis.proofs.BookNodes.{here-within, here-ends, here-small, here-readable, row_names}
 use Rattle.analysis.proofs.chase.NewNames.{new-kind, new-unset}

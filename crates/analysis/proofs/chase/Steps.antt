@@ -32,7 +32,8 @@ use Rattle.environment.specs.Tables.{Nodes}
 use Rattle.listing.specs.Chase.{Walk as State, going, unbound, push, chase, meet_name, visit}
 use Rattle.listing.proofs.Leaves.{each, Leafy, chase-each}
 use Rattle.analysis.specs.declared.chase.Walk.{Walk}
-use Rattle.analysis.specs.Book.{Agrees, Rooted, Readable}
+use Rattle.analysis.specs.Flags.{Agrees}
+use Rattle.analysis.proofs.BookNodes.{Rooted, Readable}
 use Rattle.analysis.specs.Walking.{Goes, is_new}
 use Rattle.analysis.proofs.BookNodes.{here-leafy, row_names, names-none, names-name, names-other}
 use Rattle.analysis.proofs.recursive.Rows.{agrees-set}

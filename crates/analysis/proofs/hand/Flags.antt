@@ -15,7 +15,7 @@ use Rattle.std.proofs.lemmas.Iterator.Adapters.{at_most_from_yields_List, items_
 use Rattle.std.specs.List.{filter, range_with_len}
 use Rattle.book.specs.Tables.{is_set, flagged}
 use Rattle.listing.specs.Recursive.{sorted}
-use Rattle.analysis.specs.Book.{Agrees}
+use Rattle.analysis.specs.Flags.{Agrees}
 
 pub flags-ascending : (flags l : List ℕ) → Agrees flags l → (n k : ℕ) → n + k ≤ 1024 → flagged flags n k ≡ sorted l n k
 unfolding flagged sorted

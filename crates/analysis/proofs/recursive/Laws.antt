@@ -29,7 +29,7 @@ use Rattle.listing.specs.Recursive.{marking, unbound, note, note_name, see, list
 use Rattle.listing.specs.Recursive as listing
 use Rattle.listing.proofs.Leaves.{each}
 use Rattle.analysis.specs.declared.recursive.Marks.{Marks}
-use Rattle.analysis.specs.Book.{Rooted}
+use Rattle.analysis.proofs.BookNodes.{Rooted}
 use Rattle.analysis.specs.Marking.{Flagged, MarksHold, Begun, InferredAs}
 use Rattle.analysis.proofs.recursive.Rows.{GoneThrough, NodeIn, no-flags-length, no-flags-at, agrees-set, agrees-again, tree-each}
 

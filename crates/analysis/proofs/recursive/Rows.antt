@@ -29,7 +29,7 @@ use Rattle.listing.specs.Recursive as listing
 use Rattle.listing.proofs.Leaves.{each}
 use Rattle.listing.proofs.Recursive.{go-each}
 use Rattle.analysis.specs.declared.recursive.Marks.{Marks}
-use Rattle.analysis.specs.Book.{Agrees}
+use Rattle.analysis.specs.Flags.{Agrees}
 use Rattle.analysis.specs.Marking.{Flagged, MarksHold, nothing_marked}
 use Rattle.analysis.proofs.BookNodes.{untabled, here-leafy, row_names, names-none, names-name, names-other}
 

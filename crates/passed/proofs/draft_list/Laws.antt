@@ -27,18 +27,19 @@ use Rattle.judgement.specs.Check.{once_verdict}
 use Rattle.judgement.proofs.Lookup.{keep-first}
 use Rattle.environment.specs.Tables.{Binds, Entries, Roots, DefinesAs, definitions_in}
 use Rattle.environment.proofs.Definitions.{defined-length, defined-binds, defined-once}
+use Rattle.environment.specs.declared.scope.Scope.{Scope}
 use Rattle.environment.specs.Trees.{AllTrees}
 use Rattle.environment.proofs.Book.{few-definitions, entries-known, nodes-known, trees-fit}
 use Rattle.syntax.proofs.Book.{all-made, definitions-parts, owners-rise, main-actor-is, file-root, some-files, files-within}
 use Rattle.listing.specs.Chase.{chase_types, walked}
 use Rattle.listing.specs.Room.{needs_actor}
 use Rattle.listing.specs.DraftList.{draft_definitions, draft_list}
-use Rattle.std.proofs.Common.{Result, Option, None, Some, is_some, rules, tests}
+use Rattle.std.proofs.Common.{Result, None, Some, is_some, rules, tests}
 use Rattle.syntax.specs.Files.{actor_root}
 use Rattle.syntax.proofs.files.Laws.{root-some}
 use Rattle.refusals.specs.declared.Refusal.{Refusal}
 use Rattle.analysis.specs.declared.chase.Walk.{Walk}
-use Rattle.analysis.specs.Walking.{Counted, WalkedAs, RootIn}
+use Rattle.analysis.specs.Walking.{Counted, WalkedAs}
 use Rattle.passed.specs.Answers.{walk_outcome}
 use Rattle.passed.specs.Drafts.{OwnAs, MainWritten}
 use Rattle.passed.proofs.Walks.{Walks, walk-says}
@@ -90,10 +91,6 @@ module _ {bs : List ℕ} {c : Contents} (a : Admitted bs c) where
   module _ {root : ℕ} (m : MainWritten bs root) where
     root-inside : root < count (trees b)
     root-inside = rw m.is (file-root bs a.laid 0 (some-files bs a.laid) (λ h. m.some (m.is ∙ h)))
-
-    pub root-in : {roots : List ℕ} → Roots roots (count (trees b)) → RootIn rows roots root
-    root-in bound =
-        record { rooted = record { names = length b.names; count = count (trees b); all = book-trees; bound = bound }; node = root-inside }
 
     draft-goes : (v : Verdict) → v ≡ once_verdict [] (draft_definitions b) → draft_list b ≡ after v (walked (chase_types (draft_definitions b) (tree_at rows root)))
     unfolding draft_list after needs_actor no_trees
@@ -147,14 +144,20 @@ module _ {bs : List ℕ} {c : Contents} (a : Admitted bs c) where
           few : length (draft_definitions b) ≤ 512
           few = omega (arith, ap length draft-definitions-are ∙ defined-length rows draft-entries ∙ sub-zero k, s.within, few-definitions bs a.laid)
 
-          module _ {ns : List ℕ} (nodes-here : ns ≡ rows) where
-            -- what the walk over the tree as written asks, and what it says
-            pub written : RootIn ns roots root × Counted ns roots
-            written = rw nodes-here (root-in passed.table, walks.counted (draft_definitions b) bound few)
+          pub table-in : Roots roots c.nodes
+          table-in = rw (nodes-count a) passed.table
 
-            module _ (w : Result Walk Refusal) (x : WalkedAs ns roots (tree_at ns root) w) where
-              pub draft-walks : Walks rows roots (draft_definitions b) (tree_at rows root) w
-              draft-walks = record { binds = bound; few = few; comes = subst (λ (l : List ℕ). WalkedAs l roots (tree_at l root) w) nodes-here x }
+          module _ (scope : Scope) (nodes-here : scope.rows.now ≡ rows) (table : scope.roots.now ≡ roots) where
+            -- what the walk over the tree as written asks, and what it says
+            pub root-in : scope.nodes ≡ c.nodes → root < scope.nodes
+            root-in many = rw (many, nodes-count a) root-inside
+
+            pub counted : Counted scope.rows.now scope.roots.now
+            counted = rw (nodes-here, table) (walks.counted (draft_definitions b) bound few)
+
+            module _ (w : Result Walk Refusal) (x : WalkedAs scope.rows.now scope.roots.now (tree_at scope.rows.now root) w) where
+              draft-walks : Walks rows roots (draft_definitions b) (tree_at rows root) w
+              draft-walks = record { binds = bound; few = few; comes = rw (nodes-here, table) at x }
 
               pub draft-says : draft_list b ≡ walk_outcome w
               unfolding after

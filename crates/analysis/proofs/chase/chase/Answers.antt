@@ -3,12 +3,13 @@ use mathlib.Core.Path.{refl}
 use native.Mathlib.Omega.{arith}
 use Rattle.std.proofs.Common.{◌≡◌, None, Some, Err, rules, tests, lit<}
 use Rattle.refusals.specs.declared.Refusal.TheVariants.{Unbound}
+use Rattle.analysis.proofs.BookNodes.{readable}
 use Rattle.analysis.proofs.chase.Rows.{rows-start, named, rows-unbound, enter-room, rows-enter}
 use Rattle.analysis.proofs.chase.Rows.{last-within, last-small, list-room, long, rows-back, none-waits, rows-end}
 use Rattle.analysis.proofs.chase.chase.Goals as goal
 
 pub loop-row-init : goal.loop-row-init
-loop-row-init c = rows-start _ _ c.requires.0 c.requires.1 c.new-waiting.ensures
+loop-row-init c = rows-start _ _ (readable c.args.book c.requires.0 c.requires.1) c.requires.2 c.new-waiting.ensures
 
 pub returns-in_err-root : goal.returns-in_err-root
 returns-in_err-root c =

@@ -2,21 +2,23 @@
 use mathlib.Core.Path.{refl, ap}
 use Rattle.std.proofs.Common.{◌≡◌, Err, rules}
 use Rattle.format.specs.Encode.{Row}
-use Rattle.analysis.proofs.BookNodes.{here-whole, kids-readable}
-use Rattle.analysis.proofs.chase.Actor.{MergedAs, actor-absent, actor-written, interface-root, interface-arguments, service-in, arguments-stop, services-started, services-on, services-stop, services-over}
+use Rattle.syntax.specs.Interfaces.{main_of}
+use Rattle.analysis.proofs.BookNodes.{rooted, here-whole, kids-readable}
+use Rattle.analysis.proofs.chase.Actor.{MergedAs, actor-absent, actor-written, service-in, arguments-stop, services-started, services-on, services-stop, services-over}
 use Rattle.analysis.proofs.chase.chase_actor.Goals as goal
 
 pub returns-in-Absent : goal.returns-in-Absent
 returns-in-Absent c = actor-absent c.requires.1 c.args.interface c.in-Absent.is c.new.ensures
 
 pub chase_written-requires : goal.chase_written-requires
-chase_written-requires c = (interface-root c.requires.0 c.in-Written.is, c.requires.1)
+unfolding main_of
+chase_written-requires c = (rw c.in-Written.is at c.requires.0.nodes.main, c.requires.1)
 
 pub returns-in-Written : goal.returns-in-Written
 returns-in-Written c = actor-written c.requires.1 c.args.interface c.in-Written.is _ c.chase_written.ensures
 
 pub chase_types-requires : goal.chase_types-requires
-chase_types-requires c = (interface-arguments c.requires.0 (_, c.in-Merged.is), c.requires.1)
+chase_types-requires c = let a = c.requires.0.arguments (_, c.in-Merged.is) in (a.whole, a.inside, c.requires.1)
 
 pub returns-in_err-walk : goal.returns-in_err-walk
 returns-in_err-walk c =
@@ -27,19 +29,20 @@ returns-in_err-walk c =
 pub chase-requires : goal.chase-requires
 chase-requires c =
     let l = c.loop-s.invariant in
-    (kids-readable c.requires.0.rooted (service-in c.requires.1 l c.loop-s-test.true c.requires.0) (ap (λ (q : Row). q.size) c.at-t.ensures), services-started c.requires.1 l)
+    let r = kids-readable (rooted c.args.book) (service-in c.requires.1 l c.loop-s-test.true c.requires.0) (ap (λ (q : Row). q.size) c.at-t.ensures) in
+    (r.whole, r.inside, services-started c.requires.1 l)
 
 pub returns-in_err-walk-2 : goal.returns-in_err-walk-2
 returns-in_err-walk-2 c =
     let l = c.loop-s.invariant in
-    let w = here-whole c.requires.0.rooted (service-in c.requires.1 l c.loop-s-test.true c.requires.0) in
+    let w = here-whole (rooted c.args.book) (service-in c.requires.1 l c.loop-s-test.true c.requires.0) in
     let e : c.from_residual-in_err-walk-2.result ≡ Err c.in_err-walk-2.field-0.0 = search rules in
     rw e (services-stop c.requires.1 l c.loop-s-test.true _ refl w _ c.at-t.ensures _ c.in_err-walk-2.ensures)
 
 pub loop-s-preserved : goal.loop-s-preserved
 loop-s-preserved c =
     let l = c.loop-s.invariant in
-    let w = here-whole c.requires.0.rooted (service-in c.requires.1 l c.loop-s-test.true c.requires.0) in
+    let w = here-whole (rooted c.args.book) (service-in c.requires.1 l c.loop-s-test.true c.requires.0) in
     services-on c.requires.1 l c.loop-s-test.true _ refl w _ c.at-t.ensures _ c.in_ok-walk-2.ensures
 
 pub returns : goal.returns

@@ -1,5 +1,5 @@
 -- `CheckedBook::marks` meets its contract. Assumes nothing.
-use mathlib.Core.Path.{◌≡◌, sym, ap, subst, ◌∙◌}
+use mathlib.Core.Path.{◌≡◌, refl, sym, ap, subst, ◌∙◌}
 use mathlib.Core.List.{List, []}
 use Prim.Native.Nat.{ℕ, ◌≤◌}
 use native.Mathlib.Omega.{arith}
@@ -9,18 +9,17 @@ use Rattle.refusals.specs.Outcome.{refused, given}
 use Rattle.format.specs.Layout.{nodes_part}
 use Rattle.book.specs.declared.kinds.Contents.{Contents}
 use Rattle.book.specs.Reading.{Admitted}
-use Rattle.book.proofs.Opened.{names-count}
+use Rattle.book.proofs.Opened.{names-count, nodes-count}
 use Rattle.book.specs.Tables.{flagged}
 use Rattle.judgement.specs.Environment.{main_definitions}
 use Rattle.judgement.specs.Check.{check}
-use Rattle.environment.specs.Tables.{Binds}
+use Rattle.environment.specs.declared.scope.Scope.{Scope}
 use Rattle.typing.specs.declared.prog.Passed.{Passed}
 use Rattle.typing.specs.Passing.{PassedAs}
 use Rattle.typing.proofs.prog.Book.{tabled}
 use Rattle.listing.specs.Recursive.{infer_rec}
 use Rattle.listing.specs.Marks.{marked, marks_over}
 use Rattle.analysis.specs.declared.recursive.Marks.{Marks}
-use Rattle.analysis.specs.Book.{Rooted}
 use Rattle.analysis.specs.Marking.{MarksHold, Flagged, nothing_marked, Begun, InferredAs}
 use Rattle.analysis.proofs.recursive.Rows.{nothing-held}
 use Rattle.analysis.proofs.recursive.Answers.{marked-stopped, marked-long, marked-given}
@@ -31,35 +30,29 @@ use Rattle.passed.proofs.CheckedBook.marks.Goals as goal
 
 -- ---- The marks of a book that passed, as the code has them
 module _ {bs : List ℕ} {c : Contents} {a : Admitted bs c} {roots ends' : List ℕ} {p : Passed} (x : PassedAs a roots ends' p) where
-  rooted : Rooted (nodes_part bs) roots
-  rooted = record { names = _; count = _; all = x.all; bound = x.checked.table }
-
   names-few : c.names ≤ 1024
   names-few = omega (arith, names-count a, x.all.nodes.few_names)
 
-  module _ {rows : List ℕ} (here : rows ≡ nodes_part bs) {fresh : Marks} (none : fresh ≡ nothing_marked) where
-    begun : Begun rows roots fresh
+  module _ (s : Scope) (here : s.rows.now ≡ nodes_part bs) (table : s.roots.now ≡ roots) {fresh : Marks} (none : fresh ≡ nothing_marked) where
+    begun : Begun s.rows.now s.roots.now fresh
     begun = record {
       definitions = main_definitions a.book;
-      binds = subst (λ (ns : List ℕ). Binds ns roots (main_definitions a.book)) (sym here) (tabled x).0;
+      binds = rw (here, table) (tabled x).0;
       seen-by = [];
       marked-by = [];
       holds = subst (Flagged [] []) (sym none) nothing-held;
     }
 
-    marks-from : Rooted rows roots × Begun rows roots fresh
-    marks-from = (subst (λ (ns : List ℕ). Rooted ns roots) (sym here) rooted, begun)
-
-  module _ {rows : List ℕ} (here : rows ≡ nodes_part bs) {fresh : Marks} (none : fresh ≡ nothing_marked) (l : List ℕ) where
-    h : (r : Result Marks Refusal) → InferredAs rows roots l fresh r → MarksHold (infer_rec (main_definitions a.book) l) r
+  module _ (s : Scope) (here : s.rows.now ≡ nodes_part bs) (table : s.roots.now ≡ roots) {fresh : Marks} (none : fresh ≡ nothing_marked) (l : List ℕ) where
+    h : (r : Result Marks Refusal) → InferredAs s.rows.now s.roots.now l fresh r → MarksHold (infer_rec (main_definitions a.book) l) r
     unfolding infer_rec begun
-    h r k = k.holds (begun here none)
+    h r k = k.holds (begun s here table none)
 
-    marks-stop : (why : Refusal) → InferredAs rows roots l fresh (Err why) → marks_over a.book l ≡ refused why
+    marks-stop : (why : Refusal) → InferredAs s.rows.now s.roots.now l fresh (Err why) → marks_over a.book l ≡ refused why
     unfolding marks_over
     marks-stop why k = after-passed (check a.book) _ x.passed ∙ marked-stopped (length a.book.names) (infer_rec (main_definitions a.book) l) why (h (Err why) k)
 
-    module _ (m : Marks) (k : InferredAs rows roots l fresh (Ok m)) where
+    module _ (m : Marks) (k : InferredAs s.rows.now s.roots.now l fresh (Ok m)) where
       marks-ready : (length m.marked ≡ 1024) × (c.names ≤ 1024)
       marks-ready = (marked-long (infer_rec (main_definitions a.book) l) m (h (Ok m) k), names-few)
 
@@ -71,18 +64,25 @@ module _ {bs : List ℕ} {c : Contents} {a : Admitted bs c} {roots ends' : List 
           ∙ marked-given c.names (infer_rec (main_definitions a.book) l) m (h (Ok m) k) names-few
           ∙ ap given (sym e)
 
+pub of-scope-requires : goal.of-scope-requires
+of-scope-requires c = let b = c.args.self.now.passes in rw (nodes-count b.admitted) b.passed.checked.table
+
 pub infer_rec-requires : goal.infer_rec-requires
-infer_rec-requires c = marks-from c.args.self.now.passes.passed c.nodes.ensures c.new.ensures
+infer_rec-requires c = let o = c.of-scope.ensures in begun c.args.self.now.passes.passed c.of-scope.result.scope o.rows (rw o.roots refl) c.new.ensures
 
 pub returns-in_err-marks : goal.returns-in_err-marks
 returns-in_err-marks c =
+    let o = c.of-scope.ensures in
     rw (handed-on c.from_residual.result c.from_residual.ensures)
-    (handed-refused _ (marks-stop c.args.self.now.passes.passed c.nodes.ensures c.new.ensures _ _ c.in_err-marks.ensures))
+    (handed-refused _ (marks-stop c.args.self.now.passes.passed c.of-scope.result.scope o.rows (rw o.roots refl) c.new.ensures _ _ c.in_err-marks.ensures))
 
 pub names_of-marked-requires : goal.names_of-marked-requires
-names_of-marked-requires c = marks-ready c.args.self.now.passes.passed c.nodes.ensures c.new.ensures _ _ c.in_ok-marks.ensures
+names_of-marked-requires c =
+    let o = c.of-scope.ensures in
+    marks-ready c.args.self.now.passes.passed c.of-scope.result.scope o.rows (rw o.roots refl) c.new.ensures _ _ c.in_ok-marks.ensures
 
 pub returns : goal.returns
 returns c =
-    handed-as (marks-given c.args.self.now.passes.passed c.nodes.ensures c.new.ensures _ _ c.in_ok-marks.ensures c.names_of-marked.ensures)
+    let o = c.of-scope.ensures in
+    handed-as (marks-given c.args.self.now.passes.passed c.of-scope.result.scope o.rows (rw o.roots refl) c.new.ensures _ _ c.in_ok-marks.ensures c.names_of-marked.ensures)
     (rw c.as_slice.ensures.value at c.hand.ensures)

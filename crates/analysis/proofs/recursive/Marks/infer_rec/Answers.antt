@@ -4,6 +4,7 @@ use mathlib.Core.Path.{refl}
 use Rattle.std.proofs.Common.{◌≡◌, None, Some, Err, get_or, rules, tests}
 use Rattle.refusals.specs.declared.Refusal.TheVariants.{Unbound}
 use Rattle.book.specs.Tables.{no_flags}
+use Rattle.analysis.proofs.BookNodes.{rooted}
 use Rattle.analysis.proofs.recursive.Rows.{go-end, go-other, go-again, go-anew}
 use Rattle.analysis.proofs.recursive.Laws.{infer-start, infer-end, infer-stop, root-node, infer-again, infer-on}
 use Rattle.analysis.proofs.recursive.Marks.infer_rec.Goals.{then-marks-met-ne1, else-marks-met-ne1}
@@ -23,7 +24,7 @@ pub loop-name-preserved-then-done-n-eq1 : goal.loop-name-preserved-then-done-n-e
 loop-name-preserved-then-done-n-eq1 c =
     let some : c.root_of.result ≡ Some c.in_ok-from.from = search (rules, tests) in
     let r = rw some at c.root_of.ensures.some in
-    infer-again c.loop-name.invariant c.loop-name-test.true _ refl _ r.0 c.requires.0 r.1 c.if-done-n-eq1.true
+    infer-again c.loop-name.invariant c.loop-name-test.true _ refl _ r.0 (rooted c.args.book) r.1 c.if-done-n-eq1.true
 
 pub loop-k-preserved-then-row : goal.loop-k-preserved-then-row
 loop-k-preserved-then-row c = go-other c.loop-k.invariant c.loop-k-test.true _ c.at-row.ensures c.if-row.true
@@ -32,7 +33,7 @@ pub loop-k-preserved : goal.loop-k-preserved
 loop-k-preserved c =
     let some : c.root_of.result ≡ Some c.in_ok-from.from = search (rules, tests) in
     let r = rw some at c.root_of.ensures.some in
-    let node = root-node c.loop-name.invariant c.loop-name-test.true _ refl _ r.0 c.requires.0 r.1 in
+    let node = root-node c.loop-name.invariant c.loop-name-test.true _ refl _ r.0 (rooted c.args.book) r.1 in
     elim c.if-marks-met-ne1.branch [
       | then-marks-met-ne1 w ↦ rw w.marks-is (go-anew c.loop-k.invariant c.loop-k-test.true _ c.at-row.ensures node c.if-row.false w.if-marks-met-ne1.true)
       | else-marks-met-ne1 w ↦ rw w.marks-is (go-again c.loop-k.invariant c.loop-k-test.true _ c.at-row.ensures node c.if-row.false w.if-marks-met-ne1.false)
@@ -42,8 +43,8 @@ pub loop-name-preserved : goal.loop-name-preserved
 loop-name-preserved c =
     let some : c.root_of.result ≡ Some c.in_ok-from.from = search (rules, tests) in
     let r = rw some at c.root_of.ensures.some in
-    let node = root-node c.loop-name.invariant c.loop-name-test.true _ refl _ r.0 c.requires.0 r.1 in
-    infer-on c.loop-name.invariant c.loop-name-test.true _ refl _ r.0 c.requires.0 r.1 _ (go-end c.loop-k.invariant node c.loop-k-test.false)
+    let node = root-node c.loop-name.invariant c.loop-name-test.true _ refl _ r.0 (rooted c.args.book) r.1 in
+    infer-on c.loop-name.invariant c.loop-name-test.true _ refl _ r.0 (rooted c.args.book) r.1 _ (go-end c.loop-k.invariant node c.loop-k-test.false)
 
 pub returns : goal.returns
 returns c = infer-end c.loop-name.invariant c.loop-name-test.false
