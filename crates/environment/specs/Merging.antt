@@ -3,10 +3,12 @@ use Rattle.std.specs.Prelude.{◌≡◌, Bool, true, cond, ◌&&◌, List, ℕ, 
 use Rattle.labels.specs.declared.Label.{Label}
 use Rattle.labels.specs.declared.Label.TheVariants.{Id, Named, Unnamed}
 use Rattle.book.specs.Tables.{HashesOf, HashesAgree}
+use Rattle.book.specs.Walks.{Over}
+use Rattle.book.specs.declared.walks.Siblings.{Siblings}
 use Rattle.format.specs.declared.Place.{Place}
 use Rattle.format.specs.declared.Place.TheVariants.{Root}
 use Rattle.format.specs.Node.{Node}
-use Rattle.format.specs.Whole.{Whole, tree_at}
+use Rattle.format.specs.Whole.{tree_at}
 use Rattle.judgement.specs.Environment.{same_kind, same_forest}
 use Rattle.format.specs.Labels.{same_label}
 use Rattle.environment.specs.Tables.{Nodes, Roots}
@@ -37,15 +39,15 @@ same_node names p n m = same_kind n.kind m.kind && same_label names p n.label m.
 abbrev pub ByNames : List ℕ → (List (List ℕ) → Type 0) → Type 0
 ByNames hashes P = (names : List (List ℕ)) → HashesAgree hashes names → P names
 
--- The trees from node a and those from node b on are trees of a book.
-pub record Compared (ns : List ℕ) (a a-until b b-until : ℕ) : Type 0 where
+-- Two walks are over trees of a book.
+pub record Compared (ns : List ℕ) (a b : Siblings) : Type 0 where
   pub names : ℕ
   pub count : ℕ
   pub nodes : Nodes ns names count
-  pub first : Whole ns a a-until
-  pub first-in : a-until ≤ count
-  pub second : Whole ns b b-until
-  pub second-in : b-until ≤ count
+  pub first : Over ns a.until a
+  pub first-in : a.until ≤ count
+  pub second : Over ns b.until b
+  pub second-in : b.until ≤ count
 
 -- ---- Two tables of roots
 
@@ -58,7 +60,7 @@ pub record Mergeable (ns hashes init main : List ℕ) (names : ℕ) : Type 0 whe
   pub first : Roots init count
   pub second : Roots main count
 
--- A root of each table, that is none or a node.
+-- A root of each table, that is none or a node of a book.
 pub record ComparedRoots (ns : List ℕ) (a b : ℕ) : Type 0 where
   pub names : ℕ
   pub count : ℕ

@@ -15,7 +15,7 @@ pub mod scope;
 
 use book::admitted::AdmittedBook;
 use book::kinds::Kind;
-use book::read::{Entry, Node};
+use book::read::{Entry, Node, stored_root};
 use format::Limits;
 use refusals::{Refusal, Verdict};
 
@@ -56,16 +56,12 @@ pub fn enter_entries(
 }
 
 // The root of a name's definition by a table of roots, where it has one.
+#[tactic(auto, unfolding(book::specs::Reading::stored_root))]
 pub fn root_of(roots: &[u16], n: usize) -> Option<usize>
     ensures none { IfNone result (get_or roots.now n 65535 ≡ 65535) }
     ensures some { IfSome result (λ root. (root ≡ get_or roots.now n 65535) × (root ≡ 65535 → ⊥)) }
 {
-    let root = *roots.get(n)?;
-    if root == Entry::NO_ROOT {
-        None
-    } else {
-        Some(root as usize)
-    }
+    stored_root(*roots.get(n)?)
 }
 
 // One link of an alias chain: where the definition of a name stands, and the name that it is.

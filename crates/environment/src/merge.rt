@@ -1,6 +1,6 @@
 // The merge of two sets of definitions: type_env.rs, `merge`. Trees are the same as stored, but labels of fields compare by label number,
 // so the numbers of all names are found once a call. Functions ask of their caller what an admitted book gives (specs/Merging.antt).
-ghost use Rattle.std.specs.Prelude.{◌≡◌, List, ℕ, length};
+ghost use Rattle.std.specs.Prelude.{◌≡◌, List, ℕ, length, get_or};
 ghost use Rattle.format.specs.Book.{Definition};
 ghost use Rattle.format.specs.Node.{labelled};
 ghost use Rattle.format.specs.Layout.{node_of, siblings};
@@ -13,8 +13,9 @@ ghost use Rattle.environment.specs.Tables.{Binds};
 ghost use Rattle.book.specs.Tables.{HashesAgree};
 ghost use Rattle.environment.specs.Merging.{NameIn, hash_in, same_node, ByNames, Compared, Mergeable, ComparedRoots, same_roots, either_root, MergedAs};
 
+use crate::root_of;
 use book::kinds::Kind;
-use book::read::{Entry, Node};
+use book::read::{Node, stored_root};
 use book::walks::Siblings;
 use format::{Limits, Place};
 use labels::Label;
@@ -63,14 +64,14 @@ impl<'a> Comparison<'a> {
         self.same_label(place, a.label(), b.label())
     }
 
-    // Whether the trees from node a up to node `a_until` are the same as those from node b up to node `b_until`, where all stand at `place`.
-    fn same_trees(self, place: Place, a: usize, a_until: usize, b: usize, b_until: usize) -> bool
-        requires { Compared self.rows.now a a_until b b_until }
+    // Whether trees side by side are the same as others, where all stand at `place`.
+    fn same_trees(self, place: Place, a: Siblings<'_>, b: Siblings<'_>) -> bool
+        requires { Compared self.rows.now a b }
         ensures { ByNames self.entry.hashes.now (λ names.
-            result ≡ same_forest names place (siblings self.entry.rows.now a a_until) (siblings self.entry.rows.now b b_until)) }
+            result ≡ same_forest names place (siblings self.entry.rows.now a.entry.at a.entry.until) (siblings self.entry.rows.now b.entry.at b.entry.until)) }
     {
-        let mut others = Siblings::new(self.rows, b, b_until);
-        for (i, t) in Siblings::new(self.rows, a, a_until) {
+        let mut others = b;
+        for (i, t) in a {
             let Some((j, u)) = others.next() else {
                 return false;
             };
@@ -78,27 +79,29 @@ impl<'a> Comparison<'a> {
                 return false;
             }
             let below = Kind::place_below(t.kind);
-            if !self.same_trees(below, i + 1, i + t.size, j + 1, j + u.size) {
+            let first = Siblings::new(self.rows, i + 1, i + t.size);
+            let second = Siblings::new(self.rows, j + 1, j + u.size);
+            if !self.same_trees(below, first, second) {
                 return false;
             }
         }
         others.next().is_none()
     }
 
-    // Whether the trees at two roots are the same, or one is none.
-    fn same_roots(self, a: u16, b: u16) -> bool
-        requires { ComparedRoots self.rows.now a b }
-        ensures { ByNames self.entry.hashes.now (λ names. result ≡ same_roots names self.entry.rows.now a b) }
+    // Whether the trees of a name by two tables of roots are the same, or one table has none.
+    fn same_roots(self, init: &[u16], main: &[u16], n: usize) -> bool
+        requires { ComparedRoots self.rows.now (get_or init.now n 65535) (get_or main.now n 65535) }
+        ensures { ByNames self.entry.hashes.now (λ names.
+            result ≡ same_roots names self.entry.rows.now (get_or init.now n 65535) (get_or main.now n 65535)) }
     {
-        // The numbers as the tables have them: an option of each would be made to be taken apart.
-        if a == Entry::NO_ROOT || b == Entry::NO_ROOT {
+        let (Some(i), Some(j)) = (root_of(init, n), root_of(main, n)) else {
             return true;
-        }
-        let i = a as usize;
-        let j = b as usize;
+        };
         let t = Node::at(self.rows, i);
         let u = Node::at(self.rows, j);
-        self.same_trees(Place::Root, i, i + t.size, j, j + u.size)
+        let first = Siblings::new(self.rows, i, i + t.size);
+        let second = Siblings::new(self.rows, j, j + u.size);
+        self.same_trees(Place::Root, first, second)
     }
 }
 
@@ -109,20 +112,18 @@ pub fn merge(rows: &[u8], hashes: &[u32], init: &[u16], main: &[u16], names: usi
         Binds rows.now init.now ids → Binds rows.now main.now ds → result ≡ merge_verdict ns ids ds }
 {
     let trees = Comparison { rows, hashes };
-    for n in 0..names {
-        if !trees.same_roots(init[n], main[n]) {
-            return Err(Refusal::Differs(n as u16));
-        }
+    match (0..names).find(|n| !trees.same_roots(init, main, *n)) {
+        None => Ok(()),
+        Some(n) => Err(Refusal::Differs(n as u16)),
     }
-    Ok(())
 }
 
 // The first root, or the second where the first is none.
-#[tactic(auto, unfolding(crate::specs::Merging::either_root))]
+#[tactic(auto, unfolding(crate::specs::Merging::either_root, book::specs::Reading::stored_root))]
 fn either_root(a: u16, b: u16) -> u16
     ensures { result ≡ either_root a b }
 {
-    if a == Entry::NO_ROOT { b } else { a }
+    if stored_root(a).is_some() { a } else { b }
 }
 
 // The table of both, into `both`: a name that both have keeps its first definition.
@@ -130,6 +131,7 @@ pub fn merged(init: &[u16], main: &[u16], both: &mut [u16])
     requires { (length init.now ≡ 1024) × (length main.now ≡ 1024) × (length both.old ≡ 1024) }
     ensures { MergedAs init.now main.now both.new }
 {
+    // By index: an adapter of `iter_mut`, as `zip`, tells a proof nothing of what is written through it.
     for n in 0..Limits::NAMES {
         both[n] = either_root(init[n], main[n]);
     }

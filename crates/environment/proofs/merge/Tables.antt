@@ -6,7 +6,7 @@
 use mathlib.Core.Path.{◌≡◌, sym, ap, ap₂, ◌∙◌}
 use mathlib.Core.Bool.{Bool, true, false}
 use mathlib.Core.List.{List}
-use Prim.Native.Nat.{ℕ, ◌+◌, ◌-◌, ◌≤◌, ◌<◌}
+use Prim.Native.Nat.{ℕ, zero, suc, ◌+◌, ◌≤◌, ◌<◌}
 use native.Mathlib.Decide.{ℕ_discrete, dec_lt}
 use native.Mathlib.Omega.{arith}
 use borrow.Author.Tests.{ne_eqb}
@@ -15,19 +15,20 @@ use Rattle.format.specs.declared.Place.TheVariants.{Root}
 use Rattle.format.specs.Book.{Definition}
 use Rattle.format.specs.Encode.{Row}
 use Rattle.format.specs.Layout.{row_at, siblings}
-use Rattle.format.specs.Whole.{WholeIn, tree_at}
+use Rattle.format.specs.Whole.{Whole, WholeAt, tree_at}
 use Rattle.format.proofs.Stored.{tree-whole}
 use Rattle.refusals.specs.declared.Refusal as refusal
-use Rattle.refusals.specs.Verdict.{Verdict, passes, unless}
-use Rattle.std.specs.Prelude.{Err}
+use Rattle.refusals.specs.declared.Refusal.{Refusal}
+use Rattle.refusals.specs.Verdict.{Verdict, passes, and_then, unless}
+use Rattle.std.specs.Prelude.{Option, Some, None, Err, MatchOption}
 use Rattle.judgement.specs.Environment.{find_type, merge_definitions, same_forest}
 use Rattle.judgement.specs.Check.{each_name, same_verdict, merge_verdict}
 use Rattle.judgement.proofs.Lookup.{merge-first, merge-second}
+use Rattle.judgement.proofs.Each.{passed-names}
 use Rattle.environment.specs.Tables.{Roots, found_at, Binds}
 use Rattle.book.specs.Tables.{HashesAgree}
-use Rattle.environment.specs.Merging.{Compared, Mergeable, ComparedRoots, same_roots, either_root, MergedAs}
-use Rattle.environment.proofs.Links.{found-none, found-some, in-table}
-use Rattle.environment.proofs.Ends.{each-cons}
+use Rattle.environment.specs.Merging.{ComparedRoots, same_roots, either_root, MergedAs}
+use Rattle.environment.proofs.Links.{found-none, found-some}
 use Rattle.environment.proofs.merge.Lockstep.{SameAs}
 
 -- ---- two roots
@@ -54,76 +55,71 @@ module _ (names : List (List ℕ)) (ns : List ℕ) (a b : ℕ) where
       go (no h) (yes e) = rw (found-some ns a h, found-none ns b e, ← second-none h e)
       go (no h) (no k) = rw (found-some ns a h, found-some ns b k, ← both-some h k)
 
-module _ {ns : List ℕ} {a b : ℕ} (x : ComparedRoots ns a b) (h : a ≡ 65535 → ⊥) (k : b ≡ 65535 → ⊥) where
-  first-tree : WholeIn ns a x.count
-  first-tree = x.nodes.tree a (x.first h)
+-- as `root_of` gives one
+abbrev pub RootOf : ℕ → ℕ → Type 0
+RootOf r i = (i ≡ r) × (i ≡ 65535 → ⊥)
 
-  second-tree : WholeIn ns b x.count
-  second-tree = x.nodes.tree b (x.second k)
+module _ {ns : List ℕ} {a b i j : ℕ} (x : ComparedRoots ns a b) (here : RootOf a i) (there : RootOf b j) where
+  first-tree : WholeAt ns i
+  first-tree = rw here.0 (x.nodes.tree a (x.first (λ e. here.1 (here.0 ∙ e)))).whole
 
-  module _ (r s : Row) (is : r ≡ row_at ns a) (at : s ≡ row_at ns b) where
-    pub roots-compared : Compared ns a (a + r.size) b (b + s.size)
-    roots-compared =
-        record {
-          names = x.names;
-          count = x.count;
-          nodes = x.nodes;
-          first = rw is (tree-whole first-tree.whole);
-          first-in = rw is first-tree.ends;
-          second = rw at (tree-whole second-tree.whole);
-          second-in = rw at second-tree.ends;
-        }
+  second-tree : WholeAt ns j
+  second-tree = rw there.0 (x.nodes.tree b (x.second (λ e. there.1 (there.0 ∙ e)))).whole
 
-    pub roots-same : (hashes : List ℕ) {v : Bool} → SameAs ns hashes Root a (a + r.size) b (b + s.size) v → (names : List (List ℕ)) → HashesAgree hashes names → v ≡ same_roots names ns a b
+  module _ (r s : Row) (is : r ≡ row_at ns i) (at : s ≡ row_at ns j) where
+    pub first-whole : Whole ns i (i + r.size)
+    first-whole = rw is (tree-whole first-tree)
+
+    pub second-whole : Whole ns j (j + s.size)
+    second-whole = rw at (tree-whole second-tree)
+
+    pub roots-same : (hashes : List ℕ) {v : Bool} → SameAs ns hashes Root i (i + r.size) j (j + s.size) v → (names : List (List ℕ)) → HashesAgree hashes names → v ≡ same_roots names ns a b
     roots-same hashes m names agree =
         m names agree
-        ∙ ap₂ (λ (p q : Row). same_forest names Root (siblings ns a (a + p.size)) (siblings ns b (b + q.size))) is at
-        ∙ both-some names ns a b h k
+        ∙ ap₂ (λ (p q : Row). same_forest names Root (siblings ns i (i + p.size)) (siblings ns j (j + q.size))) is at
+        ∙ rw (← here.0, ← there.0) (both-some names ns i j here.1 there.1)
 
--- ---- the loop that compares: what is left gives the verdict of all
-abbrev verdicts : List (List ℕ) → List Definition → List Definition → ℕ → Verdict
-verdicts names ids ds n = same_verdict names n (find_type ids n) (find_type ds n)
-
-pub record MergeLeft (ns hashes init main : List ℕ) (names n : ℕ) : Type 0 where
-  pub passed : n ≤ names
-  pub rest : (ls : List (List ℕ)) (ids ds : List Definition) → HashesAgree hashes ls → Binds ns init ids → Binds ns main ds →
-      each_name (λ m. same_verdict ls m (find_type ids m) (find_type ds m)) n (names - n) ≡ each_name (λ m. same_verdict ls m (find_type ids m) (find_type ds m)) 0 names
-
+-- ---- the names from 0 on: the lowest on which the tables differ
 -- What the comparison answers.
 abbrev pub MergeAs : List ℕ → List ℕ → List ℕ → List ℕ → ℕ → Verdict → Type 0
 MergeAs ns hashes init main names v =
     (ls : List (List ℕ)) (ids ds : List Definition) → HashesAgree hashes ls → length ls ≡ names → Binds ns init ids → Binds ns main ds → v ≡ merge_verdict ls ids ds
 
-module _ {ns hashes init main : List ℕ} {names n : ℕ} (x : Mergeable ns hashes init main names) (l : MergeLeft ns hashes init main names n) where
-  pub merge-end : names ≤ n → MergeAs ns hashes init main names passes
-  unfolding merge_verdict each_name
-  merge-end h ls ids ds a e i m = let z : names - n ≡ 0 = omega arith in rw (e, ← l.rest ls ids ds a i m, z)
+abbrev pub differs : Option ℕ → Verdict
+differs None = passes
+differs (Some n) = Err (refusal.Refusal.Differs n)
 
-  module _ (h : n < names) where
-    pub first-at : get_or init n 0 ≡ get_or init n 65535
-    first-at = in-table x.first (omega (arith, x.nodes.few_names))
+-- of k numbers from n on, of which w is the first that is refused
+first-refused : (f : ℕ → Verdict) (n k w : ℕ) (e : Refusal) → n ≤ w → w < n + k → f w ≡ Err e → ((i : ℕ) → n ≤ i → i < w → f i ≡ passes) → each_name f n k ≡ Err e
+unfolding each_name
+first-refused f n zero w e l u q h = let z : ⊥ = omega arith in absurd z
+first-refused f n (suc k) w e l u q h = go (ℕ_discrete n w) (λ m. first-refused f (suc n) k w e m (omega arith) q (λ i a b. h i (omega arith) b))
+  where
+    go : Dec (n ≡ w) → (suc n ≤ w → each_name f (suc n) k ≡ Err e) → and_then (f n) (each_name f (suc n) k) ≡ Err e
+    go (yes d) r = rw (d, q)
+    go (no d) r = rw (h n (omega arith) (omega arith)) (r (omega arith))
 
-    pub second-at : get_or main n 0 ≡ get_or main n 65535
-    second-at = in-table x.second (omega (arith, x.nodes.few_names))
+module _ (ns hashes init main : List ℕ) where
+  -- What it finds of name n.
+  abbrev pub SameAt : Bool → ℕ → Type 0
+  SameAt v n = (ls : List (List ℕ)) → HashesAgree hashes ls → v ≡ same_roots ls ns (get_or init n 65535) (get_or main n 65535)
 
-    module _ {v : Bool} (s : (ls : List (List ℕ)) → HashesAgree hashes ls → v ≡ same_roots ls ns (get_or init n 0) (get_or main n 0)) where
-      verdict-at : (ls : List (List ℕ)) (ids ds : List Definition) → HashesAgree hashes ls → Binds ns init ids → Binds ns main ds →
-          verdicts ls ids ds n ≡ unless v (refusal.Refusal.Differs n)
-      verdict-at ls ids ds a i m =
-          ap₂ (same_verdict ls n) (i n) (m n)
-          ∙ roots-verdict ls ns (get_or init n 65535) (get_or main n 65535) n
-          ∙ ap (λ (t : Bool). unless t (refusal.Refusal.Differs n)) (ap₂ (same_roots ls ns) (sym first-at) (sym second-at) ∙ sym (s ls a))
+  module _ (ls : List (List ℕ)) (ids ds : List Definition) (a : HashesAgree hashes ls) (i : Binds ns init ids) (m : Binds ns main ds) where
+    verdict-at : (n : ℕ) {v : Bool} → SameAt v n → same_verdict ls n (find_type ids n) (find_type ds n) ≡ unless v (refusal.Refusal.Differs n)
+    verdict-at n s =
+        ap₂ (same_verdict ls n) (i n) (m n)
+        ∙ roots-verdict ls ns _ _ n
+        ∙ ap (λ (t : Bool). unless t (refusal.Refusal.Differs n)) (sym (s ls a))
 
-      pub merge-differs : v ≡ false → MergeAs ns hashes init main names (Err (refusal.Refusal.Differs n))
-      unfolding merge_verdict
-      merge-differs f ls ids ds a e i m = rw (e, ← l.rest ls ids ds a i m, each-cons (verdicts ls ids ds) n names h, verdict-at ls ids ds a i m, f)
+  -- The first of so many on which they differ, or none.
+  abbrev pub FoundAs : ℕ → Option ℕ → Type 0
+  FoundAs names r = MatchOption r ((n : ℕ) → 0 ≤ n → n < names → SameAt true n) (λ n. (0 ≤ n) × (n < names) × SameAt false n × ((k : ℕ) → 0 ≤ k → k < n → SameAt true k))
 
-      pub merge-on : v ≡ true → MergeLeft ns hashes init main names (n + 1)
-      merge-on t =
-          record {
-            passed = omega arith;
-            rest = λ ls ids ds a i m. sym (each-cons (verdicts ls ids ds) n names h ∙ rw (verdict-at ls ids ds a i m, t)) ∙ l.rest ls ids ds a i m;
-          }
+  pub merged-as : (names : ℕ) (r : Option ℕ) → FoundAs names r → MergeAs ns hashes init main names (differs r)
+  unfolding merge_verdict
+  merged-as names None h ls ids ds a e i m = rw e (sym (passed-names _ 0 names (λ n l u. verdict-at ls ids ds a i m n (h n l (omega arith)))))
+  merged-as names (Some n) h ls ids ds a e i m =
+      rw e (sym (first-refused _ 0 names n _ (omega arith) (omega (arith, h.1)) (verdict-at ls ids ds a i m n h.2) (λ k l u. verdict-at ls ids ds a i m k (h.3 k l u))))
 
 -- ---- the loop that makes the table of both
 pub record MergedLeft (init main roots : List ℕ) (n : ℕ) : Type 0 where
