@@ -706,7 +706,7 @@ class Crates(unittest.TestCase):
                 mock.patch.object(calls, "DOCUMENT", os.path.join(folder, "document")):
             for old, new, options, status in (
                 ("", "", ["--stack"], 0), ("| 80 |", "| 81 |", ["--stack"], 1), ("| 80 |", "| 81 |", [], 0),
-                ("`a_until - a`", "`a - a_until`", [], 1), ("::services_fit`", "::services_fits`", [], 1), (calls.MARK, "", [], 2),
+                ("`a.until - a.at`", "`a.at - a.until`", [], 1), ("::services_fit`", "::services_fits`", [], 1), (calls.MARK, "", [], 2),
             ):
                 write(calls.DOCUMENT, self.document.replace(old, new))
                 with self.subTest(new):
