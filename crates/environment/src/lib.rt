@@ -16,6 +16,7 @@ pub mod scope;
 use book::admitted::AdmittedBook;
 use book::kinds::Kind;
 use book::read::{Entry, Node, stored_root};
+use book::walks;
 use format::Limits;
 use refusals::{Refusal, Verdict};
 
@@ -43,8 +44,7 @@ pub fn enter_entries(
     requires { Entries entries.now names nodes from to × (names ≤ 1024) × (nodes ≤ 4096) × (roots.old ≡ blank_table) }
     ensures { DefinesAs entries.now nodes from to roots.new result }
 {
-    for d in from..to {
-        let e = Entry::at(entries, d);
+    for e in walks::Entries::new(entries, from, to) {
         let n = e.name as usize;
         if root_of(roots, n).is_some() {
             roots.fill(Entry::NO_ROOT);
@@ -121,10 +121,12 @@ pub fn names_crossed(ends: &[u32], n: usize) -> u16
     chain_end::crossed(ends[n])
 }
 
-// What a lookup finds, found or not: the end of a chain. `Ok` where that is of the kind that is looked for.
+// What a lookup finds: the end of a chain, `Ok` where that is of the kind that is looked for. As that of `binary_search`, its `Err` is no error: how
+// many names were crossed is counted of what was not found too (document 02, request 3).
 pub type Lookup = Result<Reached, Reached>;
 
-// Looks for a type of this kind at the end of the chain from a node.
+// Looks for a type of this kind at the end of the chain from a node. The kind is a number, as a node stores it: no contract reads `as u8` of a `Kind`,
+// so that one would need a definition that numbers all 27.
 fn look_up(rows: &[u8], ends: &[u32], node: usize, kind: u8) -> Lookup
     requires { Ended rows.now ends.now node }
     ensures { LookupAs kind rows.now ends.now node result }
