@@ -26,7 +26,8 @@ use refusals::{Refusal, Verdict};
 
 // ---- Services
 
-// What is found at the end of a chain: a service, or why there is none. In each case how many names were crossed.
+// What is found at the end of a chain: a service, or why there is none. In each case how many names were crossed, which nobody reads yet: each
+// lookup of a service hands it on with what it finds, as the customer asked (docs/requests/03.md).
 #[derive(Clone, Copy)]
 struct Service {
     found: Result<u16, Refusal>,
@@ -84,9 +85,7 @@ impl Resolver<'_, '_> {
         let Some(n) = root else {
             return Ok(Interface {
                 actor: Actor::Merged(None),
-                from: 0,
-                until: 0,
-                services: ByFile::new(),
+                ..Interface::none()
             });
         };
         let top = crate::class::top_of(self.book.nodes(), n);
@@ -141,15 +140,11 @@ fn written(rows: &[u8], ends: &[u32], root: Option<usize>) -> Interface
     };
     let top = crate::class::top_of(rows, n);
     let service = environment::as_service(rows, ends, top.below);
-    let services = match service {
-        Ok(reached) => ByFile::from(reached.node),
-        Err(_) => ByFile::new(),
-    };
     Interface {
         actor: Actor::Written(n),
         from: top.from,
         until: top.until,
-        services,
+        services: ByFile::from(service.ok().and_then(|reached| reached.node)),
     }
 }
 

@@ -4,7 +4,8 @@ ghost use Rattle.std.specs.Prelude.{◌≡◌, List, [], ◌∷◌, ℕ, ◌+◌
 use format::Limits;
 use std::marker::Model;
 
-// The first `count` places hold them, and the others 0. A contract sees their list. An ArrayVec is no Copy, and what a check hands on is one.
+// The first `count` places hold them, and the others 0. A contract sees their list. It is no ArrayVec, which is no Copy: `Files`, `Interface` and
+// typing's `Passed` hold these numbers, and without Copy they would ask more of who copies one.
 #[derive(Clone, Copy)]
 pub struct ByFile {
     count: usize,

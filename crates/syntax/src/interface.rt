@@ -41,10 +41,7 @@ impl Interface {
     pub fn has_actor(self) -> bool
         ensures { result ≡ is_present self.actor }
     {
-        match self.actor {
-            Actor::Absent => false,
-            Actor::Written(_) | Actor::Merged(_) => true,
-        }
+        self.actor != Actor::Absent
     }
 
     // The node of main's own actor, where it has one.

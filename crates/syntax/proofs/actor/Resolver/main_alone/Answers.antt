@@ -8,7 +8,7 @@ use Rattle.syntax.proofs.actor.Resolver.main_alone.Goals as goal
 
 pub returns-in_default : goal.returns-in_default
 returns-in_default c =
-    rw (c.in_default.is, c.new.ensures) (main-none _ _ _ _ (all-trees (book-of _ _ c.args.self.now.book.laid)))
+    rw (c.in_default.is, c.none.ensures) (main-none _ _ _ _ (all-trees (book-of _ _ c.args.self.now.book.laid)))
 
 pub top_of-top-requires : goal.top_of-top-requires
 top_of-top-requires c = rw c.nodes.ensures (_, _, all-trees (book-of _ _ c.args.self.now.book.laid), rw c.in-Some.is at c.requires)
