@@ -40,8 +40,7 @@ fn draft_list_written(book: AdmittedBook, root: usize, out: &mut [u16]) -> Answe
 pub fn draft_list_admitted(book: AdmittedBook, out: &mut [u16]) -> Answer
     ensures { (a : Admitted book.entry.bytes.now book.entry.contents) → HandedAs (draft_list a.book) out.old out.new result }
 {
-    let files = book.files();
-    let main = Entry::at(files, 0);
-    let root = syntax::files::actor_root(main).ok_or(Refusal::NoActor)?;
+    let main = Entry::at(book.files(), 0);
+    let root = main.tree().ok_or(Refusal::NoActor)?;
     draft_list_written(book, root, out)
 }

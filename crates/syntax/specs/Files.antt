@@ -1,16 +1,16 @@
 -- The files of a book, as the code reads them. Definitions; assumes nothing.
---     files_in, actor_root, FileTable     the table of files
+--     files_in, FileTable        the table of files
 --     init_at, SplitAs           the init file, and the definitions before its own
 --     Listed                     the numbers of the service imports
 --     ImportsAs, FilesAs         what is found of them
-use Rattle.std.specs.Prelude.{◌≡◌, cond, List, Option, Some, None, map, ℕ, ◌-◌, ◌≤◌, ◌<◌, eqb, length, All, Result, IfOk}
+use Rattle.std.specs.Prelude.{◌≡◌, cond, List, map, ℕ, ◌-◌, ◌≤◌, ◌<◌, eqb, length, All, Result, IfOk}
 use Rattle.format.specs.Book.{File}
 use Rattle.format.specs.Layout.{run, entry_at, files_part}
 use Rattle.format.specs.Whole.{WholeAt, file_at}
 use Rattle.refusals.specs.declared.Refusal.{Refusal}
 use Rattle.refusals.specs.Verdict.{passes, verdict_of}
 use Rattle.book.specs.declared.kinds.Contents.{Contents}
-use Rattle.book.specs.Reading.{EntryWithin, Admitted}
+use Rattle.book.specs.Reading.{EntryWithin, Admitted, stored_root}
 use Rattle.judgement.specs.Actor.{service_imports}
 use Rattle.judgement.specs.Check.{imports_verdict}
 use Rattle.syntax.specs.declared.files.Files.{Files}
@@ -20,10 +20,6 @@ use Rattle.syntax.specs.declared.files.Files.{Files}
 -- The files that entries say.
 abbrev pub files_in : List ℕ → List ℕ → ℕ → List File
 files_in ns fs count = map (file_at ns) (run (entry_at fs) 0 count)
-
--- The node of a stored root; none where it is 65,535.
-unfoldable pub actor_root : ℕ → Option ℕ
-actor_root root = cond (eqb root 65535) None (Some root)
 
 -- The root of each file is a node, with a tree; or 65,535.
 pub record FileRoots (ns fs : List ℕ) (count : ℕ) : Type 0 where
@@ -71,7 +67,7 @@ pub record ImportsAs (fs : List ℕ) (count : ℕ) (r : Result (List ℕ) Refusa
 -- Where nothing is refused.
 pub record FilesPassed (bs : List ℕ) (c : Contents) (r : Files) : Type 0 where
   pub passed : (a : Admitted bs c) → imports_verdict (service_imports a.book.files) ≡ passes
-  pub root : r.root ≡ actor_root (entry_at (files_part bs) 0).root
+  pub root : r.root ≡ stored_root (entry_at (files_part bs) 0).root
   pub init : r.init ≡ init_at (files_part bs) c.files
   pub listed : Listed (files_part bs) c.files r.imports
 

@@ -2,7 +2,7 @@
 ghost use Rattle.std.specs.Prelude.{◌≡◌, List, ℕ};
 ghost use Rattle.format.specs.Layout.{files_part};
 ghost use Rattle.book.specs.Reading.{EntryWithin};
-ghost use Rattle.syntax.specs.Files.{actor_root, FileRoots, FileTable, init_at, SplitAs, ImportsAs, FilesAs};
+ghost use Rattle.syntax.specs.Files.{FileRoots, FileTable, init_at, SplitAs, ImportsAs, FilesAs};
 
 use crate::by_file::ByFile;
 use book::admitted::AdmittedBook;
@@ -19,18 +19,6 @@ pub struct Files {
     pub init: usize,
 }
 
-// The root of a file's actor, where it has one.
-#[tactic(auto, unfolding(crate::specs::Files::actor_root))]
-pub fn actor_root(file: Entry) -> Option<usize>
-    ensures { result ≡ actor_root file.root }
-{
-    if file.root == Entry::NO_ROOT {
-        None
-    } else {
-        Some(file.root as usize)
-    }
-}
-
 // The service imports. 12: one has no actor.
 fn list_imports(files: &[u8], count: usize) -> Result<ByFile, Refusal>
     requires { (nodes : ℕ) × FileTable files.now count nodes × ((ns : List ℕ) × FileRoots ns files.now count) }
@@ -40,9 +28,7 @@ fn list_imports(files: &[u8], count: usize) -> Result<ByFile, Refusal>
     for f in 1..count {
         let e = Entry::at(files, f);
         if e.owner == Role::ServiceImport as u16 {
-            if actor_root(e).is_none() {
-                return Err(Refusal::ImportWithoutActor(e.name));
-            }
+            e.tree().ok_or(Refusal::ImportWithoutActor(e.name))?;
             imports.push(f as u16);
         }
     }
@@ -74,7 +60,7 @@ pub fn read_files(book: AdmittedBook) -> Result<Files, Refusal>
     let imports = list_imports(files, count)?;
     let init = init_file(book);
     Ok(Files {
-        root: actor_root(main),
+        root: main.tree(),
         imports,
         init,
     })

@@ -19,7 +19,7 @@ use Rattle.format.specs.Whole.{definition_at, tree_at, actor_at}
 use Rattle.format.proofs.Admitted.{trees-whole}
 use Rattle.format.proofs.Stored.{tree-opens, actor-none, actor-some}
 use Rattle.book.specs.declared.kinds.Contents.{Contents}
-use Rattle.book.specs.Reading.{EntryWithin, Admitted}
+use Rattle.book.specs.Reading.{EntryWithin, Admitted, stored_root}
 use Rattle.book.proofs.Opened.{nodes-count, definitions-count}
 use Rattle.judgement.specs.Environment.{keep}
 use Rattle.judgement.specs.Actor.{main_actor}
@@ -34,8 +34,7 @@ use Rattle.syntax.proofs.Book.{all-made, definitions-parts, owners-rise, main-ac
 use Rattle.listing.specs.Chase.{chase_types, walked}
 use Rattle.listing.specs.Room.{needs_actor}
 use Rattle.listing.specs.DraftList.{draft_definitions, draft_list}
-use Rattle.std.proofs.Common.{Result, None, Some, is_some, rules, tests}
-use Rattle.syntax.specs.Files.{actor_root}
+use Rattle.std.proofs.Common.{Result, Option, None, Some, is_some, rules, tests}
 use Rattle.syntax.proofs.files.Laws.{root-some}
 use Rattle.refusals.specs.declared.Refusal.{Refusal}
 use Rattle.analysis.specs.declared.chase.Walk.{Walk}
@@ -46,8 +45,8 @@ use Rattle.passed.proofs.Walks.{Walks, walk-says}
 use Rattle.passed.proofs.Walks as walks
 use Rattle.format.specs.Encode.{Entry}
 
-root-is : {n root : ℕ} → actor_root n ≡ Some root → root ≡ n
-unfolding actor_root
+root-is : {n root : ℕ} → stored_root n ≡ Some root → root ≡ n
+unfolding stored_root
 root-is {n} {root} = look (eqb n 65535)
   where
     look : (b : Bool) → cond b None (Some n) ≡ Some root → root ≡ n
@@ -76,7 +75,7 @@ module _ {bs : List ℕ} {c : Contents} (a : Admitted bs c) where
   pub main-root : {fs : List ℕ} → fs ≡ files_part bs → {e : Entry} → e ≡ entry_at fs 0 → e.root ≡ (entry_at (files_part bs) 0).root
   main-root here q = ap (λ (e : Entry). e.root) q ∙ ap (λ (fs : List ℕ). (entry_at fs 0).root) here
 
-  pub main-written : {n root : ℕ} → n ≡ (entry_at (files_part bs) 0).root → actor_root n ≡ Some root → MainWritten bs root
+  pub main-written : {n root : ℕ} → n ≡ (entry_at (files_part bs) 0).root → stored_root n ≡ Some root → MainWritten bs root
   main-written e h =
       let i = root-is h in
       record { is = i ∙ e; some = λ q. root-some (ap is_some h) (sym i ∙ q) }

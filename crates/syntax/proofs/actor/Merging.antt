@@ -26,7 +26,7 @@ use Rattle.refusals.specs.declared.Refusal as refusal
 use Rattle.refusals.specs.declared.Refusal.{Refusal}
 use Rattle.refusals.specs.Verdict.{Verdict, and_then, passes, verdict_of}
 use Rattle.book.specs.declared.kinds.Contents.{Contents}
-use Rattle.book.specs.Reading.{EntryWithin, Admitted}
+use Rattle.book.specs.Reading.{EntryWithin, Admitted, stored_root}
 use Rattle.judgement.specs.Environment.{kids_of}
 use Rattle.judgement.specs.Aliases.{alias_end}
 use Rattle.judgement.specs.Actor.{service_imports, main_actor, below_class, merged_of}
@@ -36,7 +36,7 @@ use Rattle.environment.specs.Tables.{Tabled}
 use Rattle.syntax.specs.declared.files.Files.{Files}
 use Rattle.syntax.specs.declared.interface.Actor.TheVariants.{Written, Merged}
 use Rattle.syntax.specs.declared.interface.Interface.{Interface}
-use Rattle.syntax.specs.Files.{actor_root, Listed, listed_files, FilesPassed}
+use Rattle.syntax.specs.Files.{Listed, listed_files, FilesPassed}
 use Rattle.syntax.specs.Classes.{tree_of}
 use Rattle.syntax.specs.Interfaces.{IsService, methods_in, main_of, actor_tree, ActorAs}
 use Rattle.syntax.specs.Resolving.{ServesAs, MainAs, MainAlone, Gathered, ServicesAs, MergedActorAs, ResolvedAs}
@@ -56,8 +56,8 @@ unfolding methods_in
 methods-push ns a n = methods-append ns a (n ∷ []) ∙ ap (beside (methods_in ns a)) (beside-end (kids_of (tree_at ns n)))
 
 -- a stored root
-root-in : {count : ℕ} (root : ℕ) → ((root ≡ 65535 → ⊥) → root < count) → IfSome (actor_root root) (λ n. n < count)
-unfolding actor_root
+root-in : {count : ℕ} (root : ℕ) → ((root ≡ 65535 → ⊥) → root < count) → IfSome (stored_root root) (λ n. n < count)
+unfolding stored_root
 root-in {count} root h = go (ℕ_discrete root 65535)
   where
     go : Dec (root ≡ 65535) → IfSome (cond (eqb root 65535) None (Some root)) (λ n. n < count)

@@ -25,10 +25,10 @@ use Rattle.refusals.specs.declared.Refusal as refusal
 use Rattle.refusals.specs.declared.Refusal.{Refusal}
 use Rattle.refusals.specs.Verdict.{Verdict, verdict_of}
 use Rattle.book.specs.declared.kinds.Contents.{Contents}
-use Rattle.book.specs.Reading.{Admitted}
+use Rattle.book.specs.Reading.{Admitted, stored_root}
 use Rattle.judgement.specs.Actor.{is_service_import, service_imports}
 use Rattle.judgement.specs.Check.{imports_verdict}
-use Rattle.syntax.specs.Files.{files_in, actor_root, FileRoots, FileTable, init_at, listed_files, ImportsAs, FilesAs}
+use Rattle.syntax.specs.Files.{files_in, FileRoots, FileTable, init_at, listed_files, ImportsAs, FilesAs}
 use Rattle.syntax.proofs.Book.{file-roots, files-in}
 
 -- ---- files from file i on
@@ -74,16 +74,16 @@ unfolding no_trees
 tree-none ns n h = rw (actor-none ns n h)
 
 -- whether there is one
-pub root-none : {n : ℕ} → is_some (actor_root n) ≡ false → n ≡ 65535
-unfolding actor_root
+pub root-none : {n : ℕ} → is_some (stored_root n) ≡ false → n ≡ 65535
+unfolding stored_root
 root-none {n} h = go (ℕ_discrete n 65535)
   where
     go : Dec (n ≡ 65535) → n ≡ 65535
     go (yes e) = e
     go (no k) = let z : is_some (cond (eqb n 65535) None (Some n)) ≡ true = rw (ne_eqb n 65535 k) in absurd (true≢false (sym z ∙ h))
 
-pub root-some : {n : ℕ} → is_some (actor_root n) ≡ true → n ≡ 65535 → ⊥
-unfolding actor_root
+pub root-some : {n : ℕ} → is_some (stored_root n) ≡ true → n ≡ 65535 → ⊥
+unfolding stored_root
 root-some h e = false≢true (rw e at h)
 
 -- ---- 12 of a file
@@ -209,7 +209,7 @@ module _ {bs : List ℕ} {c : Contents} where
   pub files-refused : {r : Refusal} → ImportsAs (files_part bs) c.files (Err r) → FilesAs bs c (Err r)
   files-refused x = record { verdict = says x; files = tt }
 
-  pub files-as : {root : Option ℕ} {i : List ℕ} {init : ℕ} → root ≡ actor_root (entry_at (files_part bs) 0).root → ImportsAs (files_part bs) c.files (Ok i) →
+  pub files-as : {root : Option ℕ} {i : List ℕ} {init : ℕ} → root ≡ stored_root (entry_at (files_part bs) 0).root → ImportsAs (files_part bs) c.files (Ok i) →
       init ≡ init_at (files_part bs) c.files → FilesAs bs c (Ok (record { root = root; imports = i; init = init }))
   files-as r x e =
       record { verdict = says x; files = record { passed = λ a. sym (says x a); root = r; init = e; listed = x.listed } }

@@ -23,7 +23,7 @@ use Rattle.environment.proofs.FuncEnds.{stays}
 use Rattle.syntax.specs.declared.interface.Actor.{Actor}
 use Rattle.syntax.specs.declared.interface.Actor.TheVariants.{Absent, Written, Merged}
 use Rattle.syntax.specs.declared.interface.Interface.{Interface}
-use Rattle.syntax.specs.Files.{actor_root}
+use Rattle.book.specs.Reading.{stored_root}
 use Rattle.syntax.specs.Classes.{tree_of}
 use Rattle.syntax.specs.Interfaces.{is_present, main_of, actor_tree, ActorAs, InterfaceAs}
 
@@ -59,8 +59,8 @@ merged-some : (main methods : Forest Node) → merged_of main methods ≡ end �
 merged-some main methods = either-some (is_class main) _ _ not-end not-end
 
 -- the tree of a root as it is stored
-pub tree-root : (ns : List ℕ) (root : ℕ) → tree_of ns (actor_root root) ≡ actor_at ns root
-unfolding actor_root tree_of
+pub tree-root : (ns : List ℕ) (root : ℕ) → tree_of ns (stored_root root) ≡ actor_at ns root
+unfolding stored_root tree_of
 tree-root ns root = go (eqb root 65535)
   where
     go : (b : Bool) → tree_of ns (cond b None (Some root)) ≡ cond b end (tree_at ns root)

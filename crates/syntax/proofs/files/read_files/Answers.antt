@@ -4,7 +4,7 @@ use native.Mathlib.Omega.{arith}
 use Rattle.format.specs.Encode.{Entry}
 use Rattle.std.proofs.lemmas.Result.{err_from_is_err_and}
 use Rattle.book.proofs.Named.{book-of}
-use Rattle.syntax.specs.Files.{actor_root}
+use Rattle.book.specs.Reading.{stored_root}
 use Rattle.syntax.proofs.Book.{files-held, files-some, file-table, file-roots}
 use Rattle.syntax.proofs.files.Laws.{files-refused, files-as}
 use Rattle.syntax.proofs.files.read_files.Goals as goal
@@ -24,5 +24,5 @@ returns-in_err-imports c =
 
 pub returns : goal.returns
 returns c =
-    files-as (c.actor_root.ensures ∙ ap (λ (e : Entry). actor_root e.root) (rw c.files-files.ensures at c.at-main.ensures))
+    files-as (c.tree.ensures ∙ ap (λ (e : Entry). stored_root e.root) (rw c.files-files.ensures at c.at-main.ensures))
     (rw c.files-files.ensures at c.in_ok-imports.ensures) c.init_file-init.ensures
