@@ -1,13 +1,14 @@
 // The files of a book, walked once: which are service imports (12), and which has the init arguments.
-ghost use Rattle.std.specs.Prelude.{◌≡◌, List, ℕ};
+ghost use Rattle.std.specs.Prelude.{◌≡◌};
 ghost use Rattle.format.specs.Layout.{files_part};
 ghost use Rattle.book.specs.Reading.{EntryWithin};
-ghost use Rattle.syntax.specs.Files.{FileRoots, FileTable, init_at, SplitAs, ImportsAs, FilesAs};
+ghost use Rattle.syntax.specs.Files.{init_at, SplitAs, ImportsAs, FilesAs};
 
 use crate::by_file::ByFile;
 use book::admitted::AdmittedBook;
 use book::kinds::Role;
 use book::read::Entry;
+use book::walks::Entries;
 use refusals::Refusal;
 
 // What is found of the files: the root of main's actor, where it has one; the numbers of the service imports in order; and how many
@@ -20,13 +21,11 @@ pub struct Files {
 }
 
 // The service imports. 12: one has no actor.
-fn list_imports(files: &[u8], count: usize) -> Result<ByFile, Refusal>
-    requires { (nodes : ℕ) × FileTable files.now count nodes × ((ns : List ℕ) × FileRoots ns files.now count) }
-    ensures { ImportsAs files.now count result }
+fn list_imports(book: AdmittedBook) -> Result<ByFile, Refusal>
+    ensures { ImportsAs (files_part book.entry.bytes.now) book.entry.contents.files result }
 {
     let mut imports = ByFile::new();
-    for f in 1..count {
-        let e = Entry::at(files, f);
+    for (f, e) in Entries::new(book.files(), 0, book.contents.files).enumerate() {
         if e.owner == Role::ServiceImport as u16 {
             e.tree().ok_or(Refusal::ImportWithoutActor(e.name))?;
             imports.push(f as u16);
@@ -54,10 +53,8 @@ pub fn init_file(book: AdmittedBook) -> usize
 pub fn read_files(book: AdmittedBook) -> Result<Files, Refusal>
     ensures { FilesAs book.entry.bytes.now book.entry.contents result }
 {
-    let files = book.files();
-    let count = book.contents.files;
-    let main = Entry::at(files, 0);
-    let imports = list_imports(files, count)?;
+    let main = Entry::at(book.files(), 0);
+    let imports = list_imports(book)?;
     let init = init_file(book);
     Ok(Files {
         root: main.tree(),
@@ -66,12 +63,13 @@ pub fn read_files(book: AdmittedBook) -> Result<Files, Refusal>
     })
 }
 
-// How many of the definitions come before the first that file `init` has: its own come last, and a number that no file has leaves all.
+// How many of the definitions come before the first that file `init` has: its own come last, and a number that no file has leaves all. The entries may
+// be of no book, so that a book in their place would ask more.
 pub fn main_definitions(entries: &[u8], count: usize, init: usize) -> usize
     requires { EntryWithin entries.now count }
     ensures { SplitAs entries.now count init result }
 {
-    (0..count)
-        .find(|d| Entry::at(entries, *d).owner as usize == init)
-        .unwrap_or(count)
+    Entries::new(entries, 0, count)
+        .take_while(|e| e.owner as usize != init)
+        .count()
 }

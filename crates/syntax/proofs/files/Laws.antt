@@ -2,33 +2,40 @@
 --     files_from, from-cons, ..     the files from one on
 --     is-import, no-import, ..     a service import, by its role
 --     ImportsLeft                  the loop of `list_imports`
-use mathlib.Core.Path.{◌≡◌, refl, sym, ap, ◌∙◌}
-use mathlib.Core.Bool.{true, false, cond, true≢false, false≢true}
+use mathlib.Core.Path.{◌≡◌, refl, sym, ap, subst, ◌∙◌}
+use mathlib.Core.Bool.{Bool, true, false, cond, true≢false, false≢true}
 use mathlib.Core.List.{List, [], ◌∷◌, ◌++◌, map, map-append, append_assoc, append-nil}
 use Prim.Native.Nat.{ℕ, zero, suc, ◌+◌, ◌-◌, ◌≤◌, ◌<◌}
-use native.Mathlib.Nat.{sub-zero}
+use native.Mathlib.Nat.{zero-add, sub-zero}
 use native.Mathlib.Decide.{ℕ_discrete}
 use native.Mathlib.Omega.{arith}
-use borrow.Author.Tests.{ne_eqb}
+use borrow.Author.Tests.{ne_eqb, eq-eqb, eqb-true, not-false}
 use lib.Dec.{eqb}
-use lib.ListN.{length, length-append}
-use Rattle.std.specs.Prelude.{Option, Some, None, is_some, All, Result, Ok, Err}
+use lib.ListN.{length, length-append, get_or, take}
+use Rattle.std.specs.Prelude.{Option, Some, None, is_some, not, All, Result, Ok, Err}
+use Rattle.std.specs.List.{prefix_len}
+use Rattle.std.proofs.lemmas.Iterator.{YieldsList}
 use Rattle.std.proofs.lemmas.List.Elements.{All-nil, All-push}
+use Rattle.std.proofs.lemmas.List.Folds.{length-prefix_len}
+use Rattle.std.proofs.lemmas.List.Sums.{prefix_len-le-length, prefix_len_passes, prefix_len_stops}
 use Rattle.format.specs.Forest.{no_trees}
 use Rattle.format.specs.Book.{File}
 use Rattle.format.specs.Encode.{Entry}
 use Rattle.format.specs.Layout.{run, entry_at, nodes_part, files_part, role_of}
 use Rattle.format.specs.Whole.{WholeAt, actor_at, file_at}
-use Rattle.format.proofs.Lists.{run-none, run-cons}
+use Rattle.format.proofs.Lists.{run-none, run-cons, run-length, run-at}
 use Rattle.format.proofs.Stored.{tree-opens, actor-none, actor-some}
 use Rattle.refusals.specs.declared.Refusal as refusal
 use Rattle.refusals.specs.declared.Refusal.{Refusal}
 use Rattle.refusals.specs.Verdict.{Verdict, verdict_of}
 use Rattle.book.specs.declared.kinds.Contents.{Contents}
-use Rattle.book.specs.Reading.{Admitted, stored_root}
+use Rattle.book.specs.declared.walks.Entries.{Entries}
+use Rattle.book.specs.Reading.{Admitted, as_entry, stored_root}
+use Rattle.book.specs.Walks.{OverEntries, WalksEntries}
+use Rattle.book.proofs.Walking.{entries-yield}
 use Rattle.judgement.specs.Actor.{is_service_import, service_imports}
 use Rattle.judgement.specs.Check.{imports_verdict}
-use Rattle.syntax.specs.Files.{files_in, FileRoots, FileTable, init_at, listed_files, ImportsAs, FilesAs}
+use Rattle.syntax.specs.Files.{files_in, FileRoots, FileTable, init_at, SplitAs, listed_files, ImportsAs, FilesAs}
 use Rattle.syntax.proofs.Book.{file-roots, files-in}
 
 -- ---- files from file i on
@@ -102,18 +109,14 @@ module _ (ns : List ℕ) (e : Entry) (fs : List File) where
   other : (e.owner ≡ 2 → ⊥) → imports_verdict (service_imports fs) ≡ verdict
   other o = rw (no-import ns e fs o)
 
--- ---- the first file is main's
-module _ (ns : List ℕ) {fs : List ℕ} {count nodes : ℕ} (x : FileTable fs count nodes) where
-  pub first-file : files_in ns fs count ≡ file_at ns (entry_at fs 0) ∷ files_from ns fs count 1
-  first-file = sym (from-first ns fs count) ∙ from-cons ns fs count 0 (omega (arith, x.some)) (entry_at fs 0) refl
-
-  imports-after : service_imports (files_from ns fs count 1) ≡ service_imports (files_in ns fs count)
-  imports-after =
-      sym (ap service_imports first-file ∙ no-import ns (entry_at fs 0) (files_from ns fs count 1) (λ e. let f : ⊥ = omega (arith, x.main, e) in f))
+-- ---- the first file is main's, and no import
+no-main : {fs : List ℕ} {count nodes : ℕ} → FileTable fs count nodes → (f : ℕ) → (entry_at fs f).owner ≡ 2 → 1 ≤ f
+no-main x zero o = absurd (omega (arith, x.main, o))
+no-main x (suc f) o = omega arith
 
 -- ---- the loop of `list_imports`: the files that are left give the verdict, and the imports that are not listed yet
 pub record ImportsLeft (fs : List ℕ) (count : ℕ) (numbers : List ℕ) (f : ℕ) : Type 0 where
-  pub few : suc (length numbers) ≤ f
+  pub few : length numbers ≤ f - 1
   pub passed : f ≤ count
   pub inside : All (λ g. g < count) numbers
   pub rooted : All (λ g. (entry_at fs g).root ≡ 65535 → ⊥) numbers
@@ -121,15 +124,15 @@ pub record ImportsLeft (fs : List ℕ) (count : ℕ) (numbers : List ℕ) (f : �
   pub listed : (ns : List ℕ) → listed_files ns fs numbers ++ service_imports (files_from ns fs count f) ≡ service_imports (files_in ns fs count)
 
 module _ {fs : List ℕ} {count nodes : ℕ} (x : FileTable fs count nodes) where
-  pub imports-start : ImportsLeft fs count [] 1
+  pub imports-start : ImportsLeft fs count [] 0
   imports-start =
       record {
         few = omega arith;
-        passed = x.some;
+        passed = omega arith;
         inside = All-nil (λ g. g < count);
         rooted = All-nil (λ g. (entry_at fs g).root ≡ 65535 → ⊥);
-        same = λ ns w. ap imports_verdict (imports-after ns x);
-        listed = λ ns. imports-after ns x;
+        same = λ ns w. ap (λ (l : List File). imports_verdict (service_imports l)) (from-first ns fs count);
+        listed = λ ns. ap service_imports (from-first ns fs count);
       }
 
   module _ {numbers : List ℕ} {f : ℕ} (l : ImportsLeft fs count numbers f) where
@@ -150,10 +153,10 @@ module _ {fs : List ℕ} {count nodes : ℕ} (x : FileTable fs count nodes) wher
           };
         }
 
-    module _ (h : f < count) (e : Entry) (is : e ≡ entry_at fs f) where
-      pub imports-room : length numbers < 16
-      imports-room = omega (arith, l.few, x.few)
+    pub imports-room : f < count → length numbers < 16
+    imports-room h = omega (arith, l.few, x.few)
 
+    module _ (h : f < count) (e : Entry) (is : e ≡ entry_at fs f) where
       opens : (ns : List ℕ) → files_from ns fs count f ≡ file_at ns e ∷ files_from ns fs count (f + 1)
       opens ns = from-cons ns fs count f h e is
 
@@ -165,11 +168,14 @@ module _ {fs : List ℕ} {count nodes : ℕ} (x : FileTable fs count nodes) wher
             listed = tt;
           }
 
+      later : e.owner ≡ 2 → 1 ≤ f
+      later o = no-main x f (ap (λ (y : Entry). y.owner) (sym is) ∙ o)
+
       -- an import that has an actor is listed
       pub imports-on : e.owner ≡ 2 → (e.root ≡ 65535 → ⊥) → ImportsLeft fs count (numbers ++ f ∷ []) (f + 1)
       imports-on o r =
           record {
-            few = omega (arith, l.few, length-append numbers (f ∷ []));
+            few = omega (arith, l.few, later o, length-append numbers (f ∷ []));
             passed = omega arith;
             inside = All-push (λ g. g < count) numbers f l.inside h;
             rooted = All-push (λ g. (entry_at fs g).root ≡ 65535 → ⊥) numbers f l.rooted (λ z. r (ap (λ (y : Entry). y.root) is ∙ z));
@@ -200,6 +206,46 @@ module _ {fs : List ℕ} {count nodes : ℕ} (x : FileTable fs count nodes) wher
                 (sym (no-import ns e (files_from ns fs count (f + 1)) o) ∙ ap service_imports (sym (opens ns)))
                 ∙ l.listed ns;
           }
+
+-- ---- How many entries come before the first that fails a test
+pub entries-yielded : {es : List ℕ} {count : ℕ} {s t : Entries} → OverEntries es count s → s.at ≡ 0 → t ≡ s → YieldsList WalksEntries as_entry t (run (entry_at es) 0 count)
+entries-yielded {es} {count} {s} o z e =
+    let from : YieldsList WalksEntries as_entry s (run (entry_at es) 0 (count - 0)) =
+    subst (λ (n : ℕ). YieldsList WalksEntries as_entry s (run (entry_at es) n (count - n))) z (entries-yield o) in
+    rw e (rw (sub-zero count) at from)
+
+pub record Before (es : List ℕ) (count : ℕ) (test : Entry → Bool) (k : ℕ) : Type 0 where
+  pub within : k ≤ count
+  pub passed : (d : ℕ) → d < k → test (entry_at es d) ≡ true
+  pub next : k < count → test (entry_at es k) ≡ false
+
+pub counted : (es : List ℕ) (count : ℕ) (test : Entry → Bool) {k : ℕ} → k ≡ length (take (prefix_len test (run (entry_at es) 0 count)) (run (entry_at es) 0 count)) → Before es count test k
+counted es count test {k} h =
+    let all = run (entry_at es) 0 count in
+    let none = entry_at es 0 in
+    let is : k ≡ prefix_len test all = h ∙ length-prefix_len test all in
+    let long : length all ≡ count = run-length (entry_at es) 0 count in
+    let at : (d : ℕ) → d < count → get_or all d none ≡ entry_at es d = λ d l. run-at (entry_at es) 0 count d none l ∙ ap (entry_at es) (zero-add d) in
+    let within : prefix_len test all ≤ count = omega (arith, long, prefix_len-le-length test all) in
+    rw is
+    (record {
+      within = within;
+      passed = λ d l. ap test (sym (at d (omega arith))) ∙ prefix_len_passes test all d none l;
+      next = λ l. ap test (sym (at _ l)) ∙ prefix_len_stops test all none (omega (arith, long));
+    })
+
+-- the first of file `init`
+unfoldable pub of_other : ℕ → Entry → Bool
+of_other init e = not (eqb e.owner init)
+
+pub split-counted : {es : List ℕ} {count init k : ℕ} → Before es count (of_other init) k → SplitAs es count init k
+unfolding of_other
+split-counted {es} {init = init} {k = k} b =
+    record {
+      within = b.within;
+      before = λ d l e. false≢true (sym (ap not (eq-eqb _ init e)) ∙ b.passed d l);
+      next = λ l. eqb-true (entry_at es k).owner init (not-false _ (b.next l));
+    }
 
 -- ---- All of it
 module _ {bs : List ℕ} {c : Contents} where

@@ -1,23 +1,17 @@
 -- `main_definitions` meets its contract. Assumes nothing.
-use Rattle.std.proofs.Common.{◌≡◌, ℕ, ◌<◌, ◌≤◌, List, Option, Some, None, MatchOption, rules, tests}
-use native.Mathlib.Omega.{arith}
-use Rattle.std.specs.Option.{unwrap_or}
-use Rattle.std.proofs.lemmas.Iterator.{first_from_Range}
-use Rattle.format.specs.Layout.{entry_at}
-use Rattle.syntax.specs.Files.{SplitAs}
+use Rattle.std.proofs.Common.{rules, tests}
+use Rattle.std.proofs.lemmas.Iterator.Consumers.{count_from_yields_List}
+use Rattle.std.proofs.lemmas.Iterator.Search.{YieldsList-from_take_while}
+use Rattle.syntax.proofs.files.Laws.{entries-yielded, counted, of_other, split-counted}
 use Rattle.syntax.proofs.files.main_definitions.Goals as goal
 
-split : (es : List ℕ) (count init : ℕ) (r : Option ℕ) →
-    MatchOption r ((d : ℕ) → 0 ≤ d → d < count → (entry_at es d).owner ≡ init → ⊥)
-    (λ k. (0 ≤ k) × (k < count) × ((entry_at es k).owner ≡ init) × ((d : ℕ) → 0 ≤ d → d < k → (entry_at es d).owner ≡ init → ⊥)) →
-    SplitAs es count init (unwrap_or r count)
-split es count init (Some k) h = record { within = omega (arith, h.1); before = λ d l. h.3 d (omega arith) l; next = λ l. h.2 }
-split es count init None h = record { within = omega arith; before = λ d l. h d (omega arith) l; next = λ l. absurd (omega arith) }
-
 pub returns : goal.returns
+unfolding of_other
 returns c =
-    let es = c.args.entries.now in
-    let init = c.args.init in
-    rw c.unwrap_or.ensures
-    (split es c.args.count init c.find.result
-    (first_from_Range _ _ _ _ (λ d. (entry_at es d).owner ≡ init) (λ d. (entry_at es d).owner ≡ init → ⊥) c.find.ensures.ran (λ d q k. search (rules, tests)) (λ d q k. search (rules, tests))))
+    let test = of_other c.args.init in
+    let n = c.new.ensures in
+    let t = c.take_while.ensures in
+    split-counted
+    (counted _ _ test
+    (count_from_yields_List _ _ c.count.ensures.ran
+    (YieldsList-from_take_while _ test (entries-yielded n.over n.at t.source) t.closure t.done (λ x b q k. search (rules, tests)))))
