@@ -1,24 +1,25 @@
 // The definition list of a draft: main's own definitions and main's tree as written, unchecked.
 ghost use Rattle.refusals.specs.Handed.{HandedAs};
-ghost use Rattle.book.specs.Reading.{Admitted, EntryWithin};
+ghost use Rattle.format.specs.Layout.{definitions_part};
+ghost use Rattle.book.specs.Reading.{Admitted};
 ghost use Rattle.listing.specs.DraftList.{draft_list};
 ghost use Rattle.passed.specs.Drafts.{OwnAs, MainWritten};
 
 use book::admitted::AdmittedBook;
 use book::read::{Entry, Node};
+use book::walks::Entries;
 use environment::scope::BookScope;
 use format::Limits;
 use refusals::{Answer, Refusal};
 
-// How many of the definitions are the main file's own: they come first. syntax's main_definitions is this by another test; one function of a test
-// for both would be longer than these two.
-fn own_definitions(entries: &[u8], count: usize) -> usize
-    requires { EntryWithin entries.now count }
-    ensures { OwnAs entries.now count result }
+// How many of the definitions are the main file's own: they come first. syntax's main_definitions differs in the test, and one function of a test for
+// both would be `take_while` and `count` again.
+fn own_definitions(book: AdmittedBook) -> usize
+    ensures { OwnAs (definitions_part book.entry.bytes.now) book.entry.contents.definitions result }
 {
-    (0..count)
-        .find(|d| Entry::at(entries, *d).owner != 0)
-        .unwrap_or(count)
+    Entries::new(book.definitions(), 0, book.contents.definitions)
+        .take_while(|e| e.owner == 0)
+        .count()
 }
 
 // Main's tree as written stands at this root.
@@ -26,8 +27,7 @@ fn draft_list_written(book: AdmittedBook, root: usize, out: &mut [u16]) -> Answe
     requires { MainWritten book.bytes.now root }
     ensures { (a : Admitted book.entry.bytes.now book.entry.contents) → HandedAs (draft_list a.book) out.old out.new result }
 {
-    let entries = book.definitions();
-    let own = own_definitions(entries, book.contents.definitions);
+    let own = own_definitions(book);
     let mut roots = [Entry::NO_ROOT; Limits::NAMES];
     environment::enter(book, 0, own, &mut roots)?;
     let scope = BookScope::of(book, &roots);

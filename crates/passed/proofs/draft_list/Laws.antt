@@ -34,7 +34,7 @@ use Rattle.syntax.proofs.Book.{all-made, definitions-parts, owners-rise, main-ac
 use Rattle.listing.specs.Chase.{chase_types, walked}
 use Rattle.listing.specs.Room.{needs_actor}
 use Rattle.listing.specs.DraftList.{draft_definitions, draft_list}
-use Rattle.std.proofs.Common.{Result, Option, None, Some, is_some, rules, tests}
+use Rattle.std.proofs.Common.{Result, None, Some, is_some, rules, tests}
 use Rattle.syntax.proofs.files.Laws.{root-some}
 use Rattle.refusals.specs.declared.Refusal.{Refusal}
 use Rattle.analysis.specs.declared.chase.Walk.{Walk}
@@ -97,9 +97,9 @@ module _ {bs : List ℕ} {c : Contents} (a : Admitted bs c) where
         rw (main-is m.is, actor-some rows root m.some, tree-opens (book-trees.nodes.tree root root-inside).whole, e)
 
     -- ---- Main's own definitions
-    module _ {es : List ℕ} (here : es ≡ entries) {k : ℕ} (own : OwnAs es c.definitions k) where
+    module _ {k : ℕ} (own : OwnAs entries c.definitions k) where
       s : OwnAs entries (length b.definitions) k
-      s = rw (← here, ← definitions-count a) own
+      s = rw (← definitions-count a) own
 
       later : (d : ℕ) → k ≤ d → d < length b.definitions → (entry_at entries d).owner ≡ 0 → ⊥
       later d l h e = s.next (omega arith) (omega (arith, owners-rise bs a.laid k d l h))
