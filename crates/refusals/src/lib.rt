@@ -54,7 +54,7 @@ pub enum Refusal {
 
 // What a refusal tells beside its row.
 #[derive(Clone, Copy, PartialEq, Eq, Debug)]
-pub enum Told {
+enum Told {
     Nothing,
     // A name's number.
     Name(u16),

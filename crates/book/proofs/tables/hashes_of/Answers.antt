@@ -3,7 +3,7 @@ use Rattle.std.proofs.Common.{arith, ap, ◌∙◌}
 use Rattle.labels.specs.Number.{label_number}
 use Rattle.book.specs.Tables.{zero_table}
 use Rattle.book.specs.Walks.{names_left}
-use Rattle.book.proofs.Blank.{filling-start, filling-here, filling-name, filling-on, hashes-end}
+use Rattle.book.proofs.Blank.{filling-start, filling-name, filling-on, hashes-end}
 use Rattle.book.proofs.tables.hashes_of.Goals as goal
 
 pub loop-n-init : goal.loop-n-init
@@ -12,9 +12,6 @@ loop-n-init c =
     let e = c.into_iter-n-iterator.ensures.into_iter_gives in
     let s = c.enumerate-n-items.ensures in
     rw (e, s.count) (filling-start (omega (arith, c.requires.counted, c.requires.few)) (ap names_left s.source))
-
-pub bounds-hashes-n : goal.bounds-hashes-n
-bounds-hashes-n c = let z = c.in-Some.ensures.steps in omega (arith, filling-here c.loop-n.invariant z.0, c.loop-n.invariant.few, z.1)
 
 pub loop-n-preserved : goal.loop-n-preserved
 loop-n-preserved c =
