@@ -11,8 +11,9 @@ ghost use Rattle.analysis.specs.Reaching.{BookRows, ReachAs, Hit, NearAs, Defini
 use arrayvec::ArrayVec;
 use book::admitted::AdmittedBook;
 use book::kinds::Kind;
-use book::read::{Entry, Node};
+use book::read::Node;
 use book::tables::{ByName, Flags};
+use book::walks::Entries;
 use format::Limits;
 
 // For each row the first row from it on that tells; the number of rows where there is none, so that one comparison says whether trees tell.
@@ -54,8 +55,7 @@ fn owners(entries: &[u8], rows: &[u8], definitions: usize, owner: &mut ByRow)
     requires { ((names nodes : ℕ) × Defining rows.now entries.now names nodes definitions) × (owner.old ≡ no_rows) }
     ensures { OwnersAs rows.now entries.now definitions owner.new }
 {
-    for d in 0..definitions {
-        let e = Entry::at(entries, d);
+    for e in Entries::new(entries, 0, definitions) {
         let root = e.root as usize;
         let until = root + Node::at(rows, root).size;
         owner[root..until].fill(e.name + 1);

@@ -84,8 +84,8 @@ module _ (owners : List ℕ) (a e v : ℕ) (ys : List ℕ) (h : a ≤ e) (l : e 
   filled-out j (inl b) = search (rules, places)
   filled-out j (inr b) = search (rules, places)
 
-pub owners-start : (ns es : List ℕ) (definitions : ℕ) (owners : List ℕ) → owners ≡ no_rows → OwnersLeft ns es definitions owners 0
-owners-start ns es definitions owners e =
+pub owners-start : (ns es : List ℕ) (definitions : ℕ) (owners : List ℕ) → owners ≡ no_rows → {d : ℕ} → d ≡ 0 → OwnersLeft ns es definitions owners d
+owners-start ns es definitions owners e is =
     record {
       passed = omega arith;
       written = record {
