@@ -1,13 +1,10 @@
 -- What functions inside the crates ask, of an admitted book and of one that passed. Assumes nothing.
 --     definition-within, body-inside     a definition's entry, and the root of its body
---     main-within, body-ended, ..        of a passed book: its bodies and its actor, with the table of alias ends
-use mathlib.Core.Path.{◌≡◌, sym, ap}
+--     main-within, body-ended            of a passed book: its bodies, with the table of alias ends
+use mathlib.Core.Path.{◌≡◌, ap}
 use mathlib.Core.List.{List}
 use Prim.Native.Nat.{ℕ, ◌+◌, ◌≤◌, ◌<◌}
 use native.Mathlib.Omega.{arith}
-use Rattle.std.specs.Prelude.{Some}
-use Rattle.format.specs.Forest.{count}
-use Rattle.format.specs.Book.{trees}
 use Rattle.format.specs.Encode as stored
 use Rattle.format.specs.Layout.{entry_at, nodes_part, definitions_part}
 use Rattle.book.specs.declared.kinds.Contents.{Contents}
@@ -15,12 +12,7 @@ use Rattle.book.specs.declared.read.Entry.{Entry}
 use Rattle.book.specs.Reading.{as_entry, EntryWithin, Admitted}
 use Rattle.book.proofs.Opened.{nodes-count, definitions-count}
 use Rattle.environment.specs.Tables.{Ended}
-use Rattle.environment.specs.Trees.{AllTrees}
-use Rattle.syntax.specs.declared.class.Top.{Top}
-use Rattle.syntax.specs.Classes.{TopAs}
-use Rattle.syntax.specs.Interfaces.{main_of}
 use Rattle.environment.proofs.Book.{entries-held, entries-of}
-use Rattle.syntax.proofs.actor.AsWritten.{below-ended}
 use Rattle.typing.specs.declared.prog.Passed.{Passed}
 use Rattle.typing.specs.Passing.{PassedBook}
 
@@ -48,15 +40,3 @@ module _ {bs : List ℕ} {c : Contents} {roots ends' : List ℕ} {p : Passed} (b
         table = b.passed.checked.ended;
         inside = omega (arith, body-inside b.admitted (omega (arith, main-within)) is, nodes-count b.admitted);
       }
-
-  -- the actor
-  module _ {root : ℕ} (h : Some root ≡ main_of p.interface.actor) where
-    actor-inside : root < count (trees b.admitted.book)
-    actor-inside = rw (sym h) at b.passed.nodes.main
-
-    pub actor-trees : (names nodes : ℕ) × AllTrees (nodes_part bs) names nodes × (root < nodes)
-    actor-trees = (_, _, b.passed.all, actor-inside)
-
-    pub actor-ended : {top : Top} → ((names nodes : ℕ) → AllTrees (nodes_part bs) names nodes → root < nodes → TopAs (nodes_part bs) nodes root top) →
-        Ended (nodes_part bs) ends' top.below
-    actor-ended t = below-ended b.passed.all b.passed.checked.ended (t _ _ b.passed.all actor-inside) actor-inside

@@ -106,7 +106,8 @@ impl Program<'_> {
         }
     }
 
-    // Writes a text to standard output. Answers how many bytes are known to be written: all, or none where it failed, which was told.
+    // Writes a text to standard output. Answers how many bytes are known to be written: all, or none where it failed, which was told. A count and
+    // no `()`: std promises nothing of a write, so that of a `()` the contract could say nothing.
     pub fn write(&self, text: &[u8]) -> Option<usize>
         ensures { WrittenAs result text.now }
     {

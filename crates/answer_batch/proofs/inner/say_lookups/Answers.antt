@@ -1,8 +1,6 @@
--- `say_lookups` is safe: a definition that is not the init file's has a body among the nodes, and so has what stands below main's actor. Assumes
--- nothing.
-use mathlib.Core.Path.{sym, ◌∙◌}
+-- `say_lookups` is safe: a definition that is not the init file's has a body among the nodes. Assumes nothing.
 use native.Mathlib.Omega.{arith}
-use Rattle.answer_batch.proofs.Laws.{main-within, definition-within, body-ended, actor-trees, actor-ended}
+use Rattle.answer_batch.proofs.Laws.{main-within, definition-within, body-ended}
 use Rattle.answer_batch.proofs.inner.say_lookups.Goals as goal
 
 pub at-node-requires : goal.at-node-requires
@@ -13,10 +11,3 @@ as_func-function-requires c = rw c.nodes-rows.ensures (body-ended c.args.passed.
 
 pub as_service-service-requires : goal.as_service-service-requires
 as_service-service-requires c = rw c.nodes-rows.ensures (body-ended c.args.passed.now.passes c.loop-d-test.true (rw c.definitions-definitions.ensures at c.at-node.ensures))
-
-pub top_of-top-requires : goal.top_of-top-requires
-top_of-top-requires c = rw c.nodes-rows.ensures (actor-trees c.args.passed.now.passes (sym c.in-Some.is ∙ c.main.ensures))
-
-pub as_service-requires : goal.as_service-requires
-as_service-requires c =
-    rw c.nodes-rows.ensures (actor-ended c.args.passed.now.passes (sym c.in-Some.is ∙ c.main.ensures) (rw c.nodes-rows.ensures at c.top_of-top.ensures))
