@@ -2,7 +2,7 @@
 use mathlib.Core.Path.{◌≡◌, sym, ap, ◌∙◌}
 use mathlib.Core.List.{List, []}
 use lib.ListN.{drop, drop_of_length-le}
-use Rattle.inhabitants.specs.declared.empty.Waiting.{Waiting}
+use Rattle.book.specs.declared.walks.Waiting.{Waiting}
 use Rattle.inhabitants.specs.Empty.{all_empty}
 use Rattle.inhabitants.proofs.empty.Fields.{empty-on}
 use Rattle.inhabitants.proofs.empty.all_empty.Goals as goal

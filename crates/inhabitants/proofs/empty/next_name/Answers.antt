@@ -1,39 +1,15 @@
--- `next_name` meets its contract: the types before are no names, or not empty. Assumes nothing.
-use mathlib.Core.Path.{sym, ap, ◌∙◌}
-use Rattle.format.specs.Encode.{Row}
-use Rattle.book.proofs.Walking.{here, row, at, over-next, last}
-use Rattle.inhabitants.proofs.empty.Fields.{names-start, name-found, names-on}
+-- `next_name` meets its contract: what `find` says of each type. Assumes nothing.
+use mathlib.Core.Path.{◌≡◌, refl, sym, subst}
+use Prim.Native.Nat.{ℕ, ◌<◌}
+use Rattle.std.proofs.Common.{rules}
+use Rattle.book.specs.declared.read.Node.{Node}
+use Rattle.inhabitants.proofs.empty.Next.{serves, named, next-found}
 use Rattle.inhabitants.proofs.empty.next_name.Goals as goal
 
-pub loop-i-init : goal.loop-i-init
-loop-i-init c =
-    rw c.into_iter-i-iterator.ensures.into_iter_gives
-    (record { over = c.new-i-items.ensures.over; passed = rw c.new-i-items.ensures.at (names-start c.requires.0) })
-
-pub may_be_empty-requires : goal.may_be_empty-requires
-may_be_empty-requires c =
-    λ k.
-    let o = c.loop-i.invariant.over in
-    let x = c.in-Some.ensures.steps in
-    let r = row o x in
-    rw (ap (λ (q : Row). q.value) r) (c.requires.1 _ (here o x) (ap (λ (q : Row). q.kind) (sym r) ∙ k))
-
-pub returns-then-may_be_empty : goal.returns-then-may_be_empty
-returns-then-may_be_empty c =
-    let o = c.loop-i.invariant.over in
-    let x = c.in-Some.ensures.steps in
-    rw x.place (name-found c.loop-i.invariant.passed (here o x) c.in-Some.t (row o x) (sym c.may_be_empty.ensures ∙ c.if-may_be_empty.true))
-
-pub loop-i-preserved : goal.loop-i-preserved
-loop-i-preserved c =
-    let o = c.loop-i.invariant.over in
-    let x = c.in-Some.ensures.steps in
-    record {
-      over = over-next o x;
-      passed = rw (at o x) (names-on c.loop-i.invariant.passed (here o x) _ (row o x) (sym c.may_be_empty.ensures ∙ c.if-may_be_empty.false));
-    }
+pub find-requires-clause-callable : goal.find-requires-clause-callable
+find-requires-clause-callable c =
+    serves (record { rows = refl; until = refl }) (λ x q k. search rules)
+    (λ x h is y e l p g i u v. subst (λ (z : ℕ × Node). z.1.kind ≡ 18 → z.1.value < 1024) (sym e) (named _ _ c.requires x h is))
 
 pub returns : goal.returns
-returns c =
-    let e = last c.loop-i.invariant.over c.in-None.ensures.steps in
-    rw e at c.loop-i.invariant.passed
+returns c = next-found _ c.args.marks.now (λ x q k. search rules) _ (λ x k. search rules) c.find.result c.find.new.self c.find.ensures.ran

@@ -1,3 +1,4 @@
+use mathlib.Core.Path.{◌≡◌}
 use Prim.Native.Nat.{◌+◌}
 use lib.ListN.{length}
 use Rattle.inhabitants.specs.Empty.{new_marks}
@@ -6,7 +7,10 @@ use Rattle.inhabitants.proofs.empty.visit_fields.Given as goal
 
 abbrev pub invariant-walk : goal.invariant-walk
 invariant-walk l =
-    RowsLeft l.scope.rows.now l.scope.roots.now l.scope.names l.from l.until l.initial.marks l.waiting.items l.at l.end l.marks
+    record {
+      rows : l.left.rows.now ≡ l.scope.rows.now;
+      rest : RowsLeft l.scope.rows.now l.scope.roots.now l.scope.names l.types.at l.types.until l.initial.marks l.waiting.items l.left.at l.left.until l.marks;
+    }
 
 abbrev pub decreases-walk : goal.decreases-walk
 decreases-walk l =
