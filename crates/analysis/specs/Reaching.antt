@@ -38,11 +38,6 @@ pub record NearAs (ns flags : List ℕ) (nodes : ℕ) (near : List ℕ) : Type 0
 pub record KeptFrom (n : ℕ) (old new : List ℕ) : Type 0 where
   pub kept : (i : ℕ) → n ≤ i → get_or new i 0 ≡ get_or old i 0
 
--- What is asked for it: rows of a book, whatever its number of names is.
-pub record BookRows (ns : List ℕ) (nodes : ℕ) : Type 0 where
-  pub names : ℕ
-  pub known : Nodes ns names nodes
-
 -- ---- Which rows are whose
 
 -- The bodies of the first definitions lie apart, in the order of their entries.

@@ -55,7 +55,8 @@ fn next_new(rows: &[u8], seen: &[u8], from: usize, until: usize) -> Option<usize
 
 // The names of the nodes from `from` up to `until`, from left to right. Nothing recurses, so that the walk is moved once and not for each
 // name: a name that is gone into waits, and is listed when no new name is left below it. No index is counted in the loop: where it goes on is
-// where a name's definition stands, or after the name that waits last.
+// where a name's definition stands, or after the name that waits last. `from` and `until` are no Siblings: that has rows of its own, of which
+// the clauses would have to say that they are the scope's.
 fn chase(book: BookScope, from: usize, until: usize, walk: Walk) -> Result<Walk, Refusal>
     requires { Whole book.scope.rows.now from until × (until ≤ book.scope.nodes) × Started book.scope.rows.now book.scope.roots.now walk }
     ensures { ChasedAs book.entry.scope.rows.now book.entry.scope.roots.now from until walk result }
@@ -94,7 +95,8 @@ fn chase(book: BookScope, from: usize, until: usize, walk: Walk) -> Result<Walk,
     }
 }
 
-// `chase_types`: the trees from node `from` up to node `until`.
+// `chase_types`: the trees from node `from` up to node `until`. Who walks shows that the table is of no more than 512 definitions, which is what
+// there is room for: a scope may have any table.
 pub fn chase_types(book: BookScope, from: usize, until: usize) -> Result<Walk, Refusal>
     requires { Whole book.scope.rows.now from until × (until ≤ book.scope.nodes) × Counted book.scope.rows.now book.scope.roots.now }
     ensures { WalkedAs book.entry.scope.rows.now book.entry.scope.roots.now (siblings book.entry.scope.rows.now from until) result }

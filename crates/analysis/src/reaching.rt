@@ -4,9 +4,10 @@
 // are lent, since a copy of one costs more than all else does on a small book.
 ghost use Rattle.std.specs.Prelude.{◌≡◌, ◌↔◌, ◌+◌, ◌≤◌, ◌<◌, ℕ, IsTrue};
 ghost use Rattle.format.specs.Layout.{nodes_part, definitions_part};
-ghost use Rattle.environment.specs.Tables.{definitions_in};
+ghost use Rattle.environment.specs.Tables.{Nodes, definitions_in};
+ghost use Rattle.environment.specs.Props.{props};
 ghost use Rattle.book.specs.Tables.{zero_table};
-ghost use Rattle.analysis.specs.Reaching.{BookRows, ReachAs, Hit, NearAs, Defining, OwnersAs, no_rows, no_places, LinksAs, KeptFrom, KeptElse, Linked, NearestAs};
+ghost use Rattle.analysis.specs.Reaching.{ReachAs, Hit, NearAs, Defining, OwnersAs, no_rows, no_places, LinksAs, KeptFrom, KeptElse, Linked, NearestAs};
 
 use arrayvec::ArrayVec;
 use book::admitted::AdmittedBook;
@@ -26,27 +27,51 @@ type Links = [u16; Limits::NODES + 1];
 // made fastest.
 type ByRow = [u16; Limits::NODES];
 
-// Whether row i is a name with its flag set.
-fn tells(rows: &[u8], flags: &Flags, i: usize) -> bool
-    requires { (nodes : ℕ) × BookRows rows.now nodes × (i < nodes) }
-    ensures { IsTrue result ↔ Hit rows.now flags.now i }
-{
-    let t = Node::at(rows, i);
-    t.kind == Kind::Var as u8 && flags[t.value as usize] == 1
+// The rows of a book, and how many there are.
+#[derive(Clone, Copy)]
+struct BookRows<'a> {
+    rows: &'a [u8],
+    nodes: usize,
+    ghost known: { Nodes rows.now 1024 nodes } by { Prim.hlevel props },
 }
 
-// Writes for each row the first row from it on, before row `nodes`, that is a name with its flag set; `nodes` where there is none.
-fn nearest(rows: &[u8], nodes: usize, flags: &Flags, near: &mut Near)
-    requires { BookRows rows.now nodes }
-    ensures { NearAs rows.now flags.now nodes near.new × KeptFrom (nodes + 1) near.old near.new }
-{
-    let mut last = nodes as u16;
-    near[nodes] = last;
-    for i in (0..nodes).rev() {
-        if tells(rows, flags, i) {
-            last = i as u16;
+impl BookRows<'_> {
+    // Whether row i is a name with its flag set.
+    fn tells(self, flags: &Flags, i: usize) -> bool
+        requires { i < self.nodes }
+        ensures { IsTrue result ↔ Hit self.entry.rows.now flags.now i }
+    {
+        let t = Node::at(self.rows, i);
+        t.kind == Kind::Var as u8 && flags[t.value as usize] == 1
+    }
+
+    // Writes for each row the first row from it on that is a name with its flag set; the number of rows where there is none.
+    fn nearest(self, flags: &Flags, near: &mut Near)
+        ensures { NearAs self.entry.rows.now flags.now self.entry.nodes near.new × KeptFrom (self.entry.nodes + 1) near.old near.new }
+    {
+        let mut last = self.nodes as u16;
+        near[self.nodes] = last;
+        for i in (0..self.nodes).rev() {
+            if self.tells(flags, i) {
+                last = i as u16;
+            }
+            near[i] = last;
         }
-        near[i] = last;
+    }
+
+    // Links rows that are the same name in one pass, from the last one to the first. `head` has nothing before, and what `next` has is not read.
+    fn link(self, head: &mut ByName, next: &mut Links)
+        requires { head.old ≡ zero_table }
+        ensures { LinksAs self.entry.rows.now self.entry.nodes head.new next.new × KeptElse self.entry.rows.now self.entry.nodes next.old next.new }
+    {
+        for j in 0..self.nodes {
+            let t = Node::at(self.rows, j);
+            if t.kind == Kind::Var as u8 {
+                let v = t.value as usize;
+                next[j] = head[v];
+                head[v] = (j + 1) as u16;
+            }
+        }
     }
 }
 
@@ -59,21 +84,6 @@ fn owners(entries: &[u8], rows: &[u8], definitions: usize, owner: &mut ByRow)
         let root = e.root as usize;
         let until = root + Node::at(rows, root).size;
         owner[root..until].fill(e.name + 1);
-    }
-}
-
-// Links rows that are the same name in one pass, from the last one to the first. `head` has nothing before, and what `next` has is not read.
-fn link(rows: &[u8], nodes: usize, head: &mut ByName, next: &mut Links)
-    requires { BookRows rows.now nodes × (head.old ≡ zero_table) }
-    ensures { LinksAs rows.now nodes head.new next.new × KeptElse rows.now nodes next.old next.new }
-{
-    for j in 0..nodes {
-        let t = Node::at(rows, j);
-        if t.kind == Kind::Var as u8 {
-            let v = t.value as usize;
-            next[j] = head[v];
-            head[v] = (j + 1) as u16;
-        }
     }
 }
 
@@ -130,7 +140,8 @@ pub fn find_nearest_in(
     let mut owner = [0; Limits::NODES];
     owners(entries, rows, definitions, &mut owner);
     let mut head = [0; Limits::NAMES];
-    link(rows, nodes, &mut head, near);
+    let book = BookRows { rows, nodes };
+    book.link(&mut head, near);
     let flags = reaching(&owner, &head, near, wanted);
-    nearest(rows, nodes, &flags, near);
+    book.nearest(&flags, near);
 }

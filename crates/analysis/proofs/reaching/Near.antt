@@ -21,6 +21,19 @@ name-small {i = i} k h t is e =
     let n = (k.row i h).name (sym (ap (λ (r : Row). r.kind) is) ∙ e) in
     omega (arith, n, k.few_names, ap (λ (r : Row). r.value) is)
 
+-- Rows with few names are rows with as many as there may be.
+pub widened : {ns : List ℕ} {names nodes : ℕ} → Nodes ns names nodes → Nodes ns 1024 nodes
+widened k =
+    record {
+      few_names = omega arith;
+      few_nodes = k.few_nodes;
+      within = k.within;
+      tree = k.tree;
+      row = λ n h.
+          let r = k.row n h in
+          record { kind = r.kind; lkind = r.lkind; name = λ e. omega (arith, r.name e, k.few_names); label = λ e. omega (arith, r.label e, k.few_names); same = r.same };
+    }
+
 -- ---- All rows from i on are done
 pub record NearLeft (ns flags : List ℕ) (nodes : ℕ) (old near : List ℕ) (last i : ℕ) : Type 0 where
   pub inside : i ≤ nodes

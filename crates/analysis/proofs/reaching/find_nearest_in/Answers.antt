@@ -15,7 +15,7 @@ owners-requires c = ((_, _, c.requires.0.1), refl)
 
 pub link-requires : goal.link-requires
 unfolding zero_table
-link-requires c = (record { names = _; known = c.requires.0.1.known }, refl)
+link-requires c = refl
 
 pub reaching-flags-requires : goal.reaching-flags-requires
 reaching-flags-requires c = (
@@ -31,9 +31,6 @@ reaching-flags-requires c = (
   },
   c.requires.1,
 )
-
-pub nearest-requires : goal.nearest-requires
-nearest-requires c = record { names = _; known = c.requires.0.1.known }
 
 pub returns : goal.returns
 returns c =
