@@ -1,6 +1,6 @@
 -- What functions inside the crates ask, of an admitted book and of one that passed. Assumes nothing.
---     definition-within, body-inside     a definition's entry, and the root of its body
---     main-within, body-ended            of a passed book: its bodies, with the table of alias ends
+--     body-inside               the root of a definition's body
+--     main-held, body-ended     of a passed book: its entries and their bodies, with the table of alias ends
 use mathlib.Core.Path.{◌≡◌, ap}
 use mathlib.Core.List.{List}
 use Prim.Native.Nat.{ℕ, ◌+◌, ◌≤◌, ◌<◌}
@@ -18,9 +18,6 @@ use Rattle.typing.specs.Passing.{PassedBook}
 
 -- ---- An admitted book
 module _ {bs : List ℕ} {c : Contents} (a : Admitted bs c) {d : ℕ} (h : d < c.definitions) where
-  pub definition-within : EntryWithin (definitions_part bs) (d + 1)
-  definition-within = let w = entries-held a in record { held = omega (arith, w.held); few = w.few }
-
   pub body-inside : {e : Entry} → as_entry e ≡ entry_at (definitions_part bs) d → e.root < c.nodes
   body-inside {e} is =
       let r : e.root ≡ (entry_at (definitions_part bs) d).root = ap (λ (x : stored.Entry). x.root) is in
@@ -28,8 +25,11 @@ module _ {bs : List ℕ} {c : Contents} (a : Admitted bs c) {d : ℕ} (h : d < c
 
 -- ---- A book that passed
 module _ {bs : List ℕ} {c : Contents} {roots ends' : List ℕ} {p : Passed} (b : PassedBook bs c roots ends' p) where
-  pub main-within : p.main ≤ c.definitions
+  main-within : p.main ≤ c.definitions
   main-within = omega (arith, b.passed.within, definitions-count b.admitted)
+
+  pub main-held : EntryWithin (definitions_part bs) p.main
+  main-held = let w = entries-held b.admitted in record { held = omega (arith, w.held, main-within); few = w.few }
 
   pub body-ended : {d : ℕ} → d < p.main → {e : Entry} → as_entry e ≡ entry_at (definitions_part bs) d → Ended (nodes_part bs) ends' e.root
   body-ended h is =

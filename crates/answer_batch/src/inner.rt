@@ -5,6 +5,7 @@ use crate::asking::Asking;
 use crate::lines::Lines;
 use crate::tally::Given;
 use book::read::Entry;
+use book::walks::Entries;
 use environment::scope::Scope;
 use environment::{End, Lookup};
 use format::Limits;
@@ -41,14 +42,12 @@ impl Asking<'_> {
 fn say_chains(lines: Lines, bytes: &[u8], limits: Limits) -> Answer {
     let book = admission::admit(bytes, limits)?;
     let c = book.contents;
-    let definitions = book.definitions();
     let mut roots = [Entry::NO_ROOT; Limits::NAMES];
     environment::enter(book, 0, c.definitions, &mut roots)?;
     let scope = Scope::of(book, &roots);
     lines.count(b"given ", c.definitions);
-    for d in 0..c.definitions {
-        let root = Entry::at(definitions, d).root as usize;
-        let found = scope.alias_end(c.definitions, root);
+    for e in Entries::new(book.definitions(), 0, c.definitions) {
+        let found = scope.alias_end(c.definitions, e.root as usize);
         print_end(lines, bytes, found.end, found.crossed);
     }
     lines.write(b"\n");
@@ -69,11 +68,10 @@ fn print_end(lines: Lines, book: &[u8], end: End, crossed: usize) {
 // What is looked up from the body of each definition but the init file's, in order, and then from main's actor: the service below its class, or
 // the actor itself; nothing where main has none. With service imports too it is main's own tree.
 fn say_lookups(lines: Lines, passed: &CheckedBook) {
-    let definitions = passed.book.definitions();
     let rows = passed.book.nodes();
     lines.count(b"given ", passed.main);
-    for d in 0..passed.main {
-        let node = Entry::at(definitions, d).root as usize;
+    for e in Entries::new(passed.book.definitions(), 0, passed.main) {
+        let node = e.root as usize;
         let function = environment::as_func(rows, &passed.ends, node);
         let service = environment::as_service(rows, &passed.ends, node);
         print_found(lines, function, service);

@@ -331,9 +331,9 @@ flag-set Visiting = refl
 flag-set (Answered true) = refl
 flag-set (Answered false) = refl
 
-pub flag-at : {F : Type 0} (g : Mut F (Mark × Unit {0}) ℕ) {f : F} {marks : List Mark} {flags : List ℕ} {n : ℕ} → IsMapOf g f marks flags n →
+pub flag-at : {F : Type 0} {g : Mut F (Mark × Unit {0}) ℕ} {f : F} {marks : List Mark} {flags : List ℕ} {n : ℕ} → IsMapOf g f marks flags n →
     ((m : Mark) (p q : F) (b : ℕ) → Called g p (m, tt) b q → b ≡ flag_of m) → (i : ℕ) → i < n → get_or flags i 0 ≡ flag_of (get_or marks i Unvisited)
-flag-at g {marks = marks} {flags} each is i h = let m = each.at i Unvisited 0 h in is (get_or marks i Unvisited) m.0 m.1 (get_or flags i 0) m.2
+flag-at {marks = marks} {flags} each is i h = let m = each.at i Unvisited 0 h in is (get_or marks i Unvisited) m.0 m.1 (get_or flags i 0) m.2
 
 module _ (marks : List Mark) (flags : List ℕ) (each : (i : ℕ) → i < length marks → get_or flags i 0 ≡ flag_of (get_or marks i Unvisited)) where
   flags-from : (n k : ℕ) → n + k ≤ length marks → flagged flags n k ≡ empty_from n (map mark_of (take k (drop n marks)))

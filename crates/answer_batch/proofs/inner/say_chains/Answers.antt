@@ -2,16 +2,21 @@
 use mathlib.Core.Path.{refl}
 use Rattle.book.specs.Tables.{blank_table}
 use Rattle.book.proofs.Named.{book-of}
-use Rattle.answer_batch.proofs.Laws.{definition-within, body-inside}
+use Rattle.book.proofs.Walking.{entry-left, entry-is}
+use Rattle.environment.proofs.Book.{entries-held}
+use Rattle.answer_batch.proofs.Laws.{body-inside}
 use Rattle.answer_batch.proofs.inner.say_chains.Goals as goal
 
 pub enter-requires-clause-empty : goal.enter-requires-clause-empty
 unfolding blank_table
 enter-requires-clause-empty c = refl
 
-pub at-root-requires : goal.at-root-requires
-at-root-requires c = rw c.definitions-definitions.ensures (definition-within (book-of _ _ c.in_ok-book.book.laid) c.loop-d-test.true)
+pub new-e-items-requires : goal.new-e-items-requires
+new-e-items-requires c = rw c.definitions.ensures (entries-held (book-of _ _ c.in_ok-book.book.laid))
 
 pub alias_end-found-requires : goal.alias_end-found-requires
 alias_end-found-requires c =
-    rw c.of-scope.ensures.nodes (body-inside (book-of _ _ c.in_ok-book.book.laid) c.loop-d-test.true (rw c.definitions-definitions.ensures at c.at-root.ensures))
+    let w = c.loop-e.invariant in
+    let x = c.in-Some.ensures.steps in
+    let a = rw c.in_ok-book.ensures.bytes at (book-of _ _ c.in_ok-book.book.laid) in
+    rw c.of-scope.ensures.nodes (body-inside a (entry-left w x) (entry-is w x))

@@ -1,13 +1,19 @@
 -- `say_lookups` is safe: a definition that is not the init file's has a body among the nodes. Assumes nothing.
-use native.Mathlib.Omega.{arith}
-use Rattle.answer_batch.proofs.Laws.{main-within, definition-within, body-ended}
+use Rattle.book.proofs.Walking.{entry-left, entry-is}
+use Rattle.answer_batch.proofs.Laws.{main-held, body-ended}
 use Rattle.answer_batch.proofs.inner.say_lookups.Goals as goal
 
-pub at-node-requires : goal.at-node-requires
-at-node-requires c = let p = c.args.passed.now.passes in rw c.definitions-definitions.ensures (definition-within p.admitted (omega (arith, main-within p, c.loop-d-test.true)))
+pub new-e-items-requires : goal.new-e-items-requires
+new-e-items-requires c = rw c.definitions.ensures (main-held c.args.passed.now.passes)
 
 pub as_func-function-requires : goal.as_func-function-requires
-as_func-function-requires c = rw c.nodes-rows.ensures (body-ended c.args.passed.now.passes c.loop-d-test.true (rw c.definitions-definitions.ensures at c.at-node.ensures))
+as_func-function-requires c =
+    let w = c.loop-e.invariant in
+    let x = c.in-Some.ensures.steps in
+    rw c.nodes-rows.ensures (body-ended c.args.passed.now.passes (entry-left w x) (entry-is w x))
 
 pub as_service-service-requires : goal.as_service-service-requires
-as_service-service-requires c = rw c.nodes-rows.ensures (body-ended c.args.passed.now.passes c.loop-d-test.true (rw c.definitions-definitions.ensures at c.at-node.ensures))
+as_service-service-requires c =
+    let w = c.loop-e.invariant in
+    let x = c.in-Some.ensures.steps in
+    rw c.nodes-rows.ensures (body-ended c.args.passed.now.passes (entry-left w x) (entry-is w x))

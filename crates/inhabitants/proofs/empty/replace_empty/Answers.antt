@@ -27,5 +27,5 @@ pub returns : goal.returns
 returns c =
     let each = c.map.ensures.items in
     let l = c.loop-n.invariant.long in
-    keys-end c.loop-n.marks c.map.result (λ i h. flag-at _ each (λ m p q b k. search rules) i (omega (arith, l)))
+    keys-end c.loop-n.marks c.map.result (λ i h. flag-at each (λ m p q b k. search rules) i (omega (arith, l)))
     c.args.scope.whole.few_names c.loop-n.invariant c.loop-n-test.false each.long
