@@ -1,13 +1,13 @@
 -- Where the chain of the type at a node ends, by the table of alias ends. Assumes nothing.
 --     end-other, end-named,
 --     crossed-other, ..        `end_of`
---     served-..                the node
+--     served-whole, served-at  the node, and another
 --     end-at, end-inside       what stands at the end, and that it is a node of the book
 --     name-ended               a name that the table has is on no circle
 --     length-at, reached       how many names are crossed
 use mathlib.Core.Path.{◌≡◌, refl, sym, ap, subst, ◌∙◌}
 use mathlib.Core.List.{List}
-use Prim.Native.Nat.{ℕ, ◌+◌, ◌≤◌, ◌<◌}
+use Prim.Native.Nat.{ℕ, ◌<◌}
 use native.Mathlib.Decide.{ℕ_discrete}
 use native.Mathlib.Omega.{arith}
 use borrow.Author.Tests.{ne_eqb}
@@ -16,8 +16,7 @@ use Rattle.std.specs.Prelude.{Option, Some}
 use Rattle.format.specs.Book.{Definition}
 use Rattle.format.specs.Encode.{Row}
 use Rattle.format.specs.Layout.{row_at}
-use Rattle.format.specs.Whole.{Within, WholeAt, tree_at}
-use Rattle.format.proofs.Rows.{node-within}
+use Rattle.format.specs.Whole.{WholeAt, tree_at}
 use Rattle.judgement.specs.Environment.{find_type}
 use Rattle.judgement.specs.Aliases.{End, circle, ends, chain, alias_end, alias_length, name_type}
 use Rattle.judgement.proofs.Lengths.{crossed-same, crossed-most}
@@ -45,20 +44,6 @@ crossed-named ns ends' node r is h = rw (← is, h)
 module _ {ns ends' : List ℕ} {node : ℕ} (s : Ended ns ends' node) where
   pub served-whole : WholeAt ns node
   served-whole = (s.nodes.tree node s.inside).whole
-
-  pub served-within : Within ns (node + 1)
-  served-within = node-within served-whole
-
-  pub served-small : node < 4096
-  served-small = omega (arith, s.inside, s.nodes.few_nodes)
-
-  pub served-until : node + (row_at ns node).size ≤ s.count
-  served-until = (s.nodes.tree node s.inside).ends
-
-  pub served-named : (r : Row) → r ≡ row_at ns node → r.kind ≡ 18 → r.value < length ends'
-  served-named r is k =
-      let small : (row_at ns node).value < s.names = (s.nodes.row node s.inside).name (sym (ap (λ (z : Row). z.kind) is) ∙ k) in
-      omega (arith, small, s.nodes.few_names, s.table.long, ap (λ (z : Row). z.value) is)
 
   -- another node of the book
   unfoldable pub served-at : (i : ℕ) → i < s.count → Ended ns ends' i

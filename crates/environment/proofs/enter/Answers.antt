@@ -8,6 +8,3 @@ enter_entries-requires c =
     let a = book-of _ _ c.args.book.laid in
     let n = nodes-of a in
     rw c.definitions.ensures (entries-of a c.requires.ordered c.requires.within, n.few_names, n.few_nodes, c.requires.empty)
-
-pub returns : goal.returns
-returns c = rw c.definitions.ensures at c.enter_entries.ensures

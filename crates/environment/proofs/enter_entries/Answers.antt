@@ -1,23 +1,15 @@
 -- `enter_entries` meets its contract: what the table lacks is found in the entries that are left. Assumes nothing.
 use mathlib.Core.Path.{sym, ◌∙◌}
-use native.Mathlib.Omega.{arith}
 use Rattle.book.proofs.Walking.{entry-left, entry-is, entry-next, entry-last}
 use Rattle.environment.proofs.BlankTable.{blank-filled}
 use Rattle.environment.proofs.Links.{rooted, unrooted}
-use Rattle.environment.proofs.RootTable.{table-start, table-end, name-fits, table-twice, table-on}
+use Rattle.environment.proofs.RootTable.{table-start, table-end, table-twice, table-on}
 use Rattle.environment.proofs.enter_entries.Goals as goal
 
 pub loop-e-init : goal.loop-e-init
 loop-e-init c =
     let new = c.new-e-items.ensures in
     rw c.into_iter-e-iterator.ensures.into_iter_gives (record { walk = new.over; table = rw (c.requires.3, new.at) (table-start _ _ _ _ _ c.requires.0) })
-
-pub bounds-roots-n : goal.bounds-roots-n
-bounds-roots-n c =
-    let p = c.requires in
-    let l = c.loop-e.invariant in
-    let x = c.in-Some.ensures.steps in
-    omega (arith, name-fits p.0 p.1 p.2 l.table (entry-left l.walk x) _ (entry-is l.walk x), l.table.long)
 
 pub returns-then-is_some : goal.returns-then-is_some
 returns-then-is_some c =

@@ -101,13 +101,6 @@ module _ {ns hashes : List ℕ} {p : Place} {a b : Siblings} {i j : ℕ} {r s : 
   pub first-fits : RowFits 1024 r
   first-fits = rw turn.is (more-names turn.compared.nodes.few_names (turn.compared.nodes.row i (omega (arith, turn.more, turn.compared.first-in))))
 
-  -- the size of each tree
-  pub first-size : (1 ≤ r.size) × (i + r.size ≤ a.until)
-  first-size = let o = opens turn.left.first turn.more in rw turn.is (o.here.one, o.rest.ordered)
-
-  pub second-size : (1 ≤ s.size) × (j + s.size ≤ b.until)
-  second-size = let o = opens turn.left.second turn.other in rw turn.at (o.here.one, o.rest.ordered)
-
   -- both open: their nodes, what is below these, and what is after them
   both-open : (names : List (List ℕ)) →
       same_forest names p (siblings ns i a.until) (siblings ns j b.until)

@@ -1,6 +1,6 @@
--- Two tables of roots: the loop that compares them, and the one that makes them one. Assumes nothing.
---     roots-compared, roots-same           two roots
---     MergeLeft, merge-on, ..              the loop that compares all
+-- Two tables of roots: how they are compared, and the loop that makes them one. Assumes nothing.
+--     first-none, roots-same, ..           two roots
+--     SameAt, FoundAs, merged-as           the lowest name on which two tables differ
 --     MergedLeft, merged-end               the loop that makes the table of both
 --     merged-roots, merged-binds           that table is one of roots, and has what the merged definitions say
 use mathlib.Core.Path.{◌≡◌, sym, ap, ap₂, ◌∙◌}

@@ -6,16 +6,10 @@ use Rattle.environment.proofs.scope.Scope.find_ends.Goals as goal
 pub loop-n-init : goal.loop-n-init
 loop-n-init c = ends-start _ _ _ _ _ _ c.open_ends.ensures
 
-pub follow-requires : goal.follow-requires
-follow-requires c = record { ends = c.loop-n.invariant.table; name = c.loop-n-test.true; defined = c.requires.defined; few = c.requires.few }
-
 pub returns-in_default : goal.returns-in_default
 returns-in_default c =
     let l = c.loop-n.invariant in
     ends-circle c.args.self.whole.few_names l c.loop-n-test.true c.in_default.ensures (zero-filled l.table.long (c.fill.ensures.after (λ y e. e)))
-
-pub note-requires : goal.note-requires
-note-requires c = record { ends = c.loop-n.invariant.table; name = c.loop-n-test.true; known = c.in-Some.ensures.known }
 
 pub loop-n-preserved : goal.loop-n-preserved
 loop-n-preserved c = ends-on c.args.self.whole.few_names c.loop-n.invariant c.loop-n-test.true c.in-Some.ensures.known _ c.note.ensures

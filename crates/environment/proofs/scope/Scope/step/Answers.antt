@@ -3,11 +3,6 @@ use mathlib.Core.Path.{sym, ◌∙◌}
 use Rattle.environment.proofs.Links.{link-none, link-some}
 use Rattle.environment.proofs.scope.Scope.step.Goals as goal
 
-pub var_at-next-requires : goal.var_at-next-requires
-var_at-next-requires c =
-    let r = c.in_ok-root.ensures.some in
-    rw r.0 (c.args.self.bound.node _ (λ e. r.1 (r.0 ∙ e)))
-
 pub returns-in_err-root : goal.returns-in_err-root
 returns-in_err-root c = rw c.from_residual.ensures (sym (link-none _ _ c.in_err-root.ensures.none))
 
