@@ -72,15 +72,15 @@ fn say_lookups(lines: Lines, passed: &CheckedBook) {
     lines.count(b"given ", passed.main);
     for e in Entries::new(passed.book.definitions(), 0, passed.main) {
         let node = e.root as usize;
-        let function = environment::as_func(rows, &passed.ends, node);
-        let service = environment::as_service(rows, &passed.ends, node);
+        let function = environment::as_func(rows, &passed.tables.ends, node);
+        let service = environment::as_service(rows, &passed.tables.ends, node);
         print_found(lines, function, service);
     }
     if let Some(n) = passed.interface.main() {
         let top = syntax::class::top_of(rows, n);
         print_actor(
             lines,
-            environment::as_service(rows, &passed.ends, top.below),
+            environment::as_service(rows, &passed.tables.ends, top.below),
         );
     }
     lines.write(b"\n");

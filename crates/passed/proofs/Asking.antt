@@ -27,6 +27,7 @@ use Rattle.refusals.specs.Verdict.{verdict_of}
 use Rattle.judgement.specs.Resolve.{resolve_actor}
 use Rattle.judgement.specs.Check.{check, check_bytes, init_check, init_check_bytes}
 use Rattle.typing.specs.declared.prog.Passed.{Passed}
+use Rattle.typing.specs.declared.tables.Tables.{Tables}
 use Rattle.typing.specs.Passing.{PassedAs, FoundAs, PassedBook}
 use Rattle.listing.specs.Room.{AfterCheck, needs_actor}
 use Rattle.listing.proofs.Room as rooms
@@ -48,9 +49,9 @@ module _ (bs : Source) where
   unfolding check_bytes judged
   pass-refused e = record { verdict = rw (admission-refuses bs e); passed = tt }
 
-  module _ {c : Contents} (e : Ok c ≡ admission_of (admitted bs)) {roots ends' : List ℕ} {r : Result Passed Refusal}
-      (found : (a : Admitted bs.bytes c) → FoundAs a roots ends' r) where
-    x : FoundAs (admission-gives bs e).read roots ends' r
+  module _ {c : Contents} (e : Ok c ≡ admission_of (admitted bs)) {t : Tables} {r : Result Passed Refusal}
+      (found : (a : Admitted bs.bytes c) → FoundAs a t r) where
+    x : FoundAs (admission-gives bs e).read t r
     x = found (admission-gives bs e).read
 
     verdict-is : verdict_of r ≡ check_bytes bs
@@ -61,10 +62,10 @@ module _ (bs : Source) where
     check-refused is = record { verdict = ap verdict_of (sym is) ∙ verdict-is; passed = tt }
 
     module _ {p : Passed} (is : r ≡ Ok p) where
-      passed : PassedAs (admission-gives bs e).read roots ends' p
-      passed = subst (λ (r : Result Passed Refusal). IfOk r (PassedAs (admission-gives bs e).read roots ends')) is x.found.passed
+      passed : PassedAs (admission-gives bs e).read t.roots t.ends p
+      passed = subst (λ (r : Result Passed Refusal). IfOk r (PassedAs (admission-gives bs e).read t.roots t.ends)) is x.found.passed
 
-      pub book-passed : PassedBook bs.bytes c roots ends' p
+      pub book-passed : PassedBook bs.bytes c t.roots t.ends p
       book-passed = record { admitted = (admission-gives bs e).read; passed = passed }
 
       pub pass-goes : (b : CheckedBook) → b.book.bytes.now ≡ bs.bytes → PassAs bs (Ok b)

@@ -17,6 +17,7 @@ use Rattle.syntax.specs.declared.interface.Interface.{Interface}
 use Rattle.typing.specs.Props as typing
 use Rattle.typing.specs.Passing.{PassedBook}
 use Rattle.typing.specs.declared.prog.Passed.{Passed}
+use Rattle.typing.specs.declared.tables.Tables.{Tables}
 use Rattle.passed.specs.Passes.{Passes}
 
 -- Two forests are equal exactly if their parts are.
@@ -91,5 +92,5 @@ EndAt-prop ns o (ends t) x y =
 PassedBook-prop : (bs : List ℕ) (c : Contents) (roots ends' : List ℕ) (p : Passed) → IsProp (PassedBook bs c roots ends' p)
 PassedBook-prop bs c roots ends' p = Prim.hlevel (typing.props, Forest-set, Admitted-prop, EndAt-prop)
 
-pub Passes-prop : (bs : List ℕ) (c : Contents) (main : ℕ) (i : Interface) (roots ends' : List ℕ) → IsProp (Passes bs c main i roots ends')
-Passes-prop bs c main i roots ends' = PassedBook-prop bs c roots ends' (record { main = main; interface = i })
+pub Passes-prop : (bs : List ℕ) (c : Contents) (main : ℕ) (i : Interface) (t : Tables) → IsProp (Passes bs c main i t)
+Passes-prop bs c main i t = PassedBook-prop bs c t.roots t.ends (record { main = main; interface = i })

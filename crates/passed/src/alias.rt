@@ -33,11 +33,11 @@ impl CheckedBook<'_> {
         ensures { result ≡ alias_answer (alias (book_of self.now) name) }
     {
         let n = name as usize;
-        if environment::root_of(&self.roots, n).is_none() {
+        if environment::root_of(&self.tables.roots, n).is_none() {
             return Err(Refusal::Unbound(name));
         }
-        let names = environment::names_crossed(&self.ends, n);
-        let scope = Scope::of(self.book, &self.roots);
+        let names = environment::names_crossed(&self.tables.ends, n);
+        let scope = Scope::of(self.book, &self.tables.roots);
         let last = last_crossed(scope, name, names);
         Ok(Crossed { names, last })
     }

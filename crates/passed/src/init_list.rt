@@ -21,7 +21,7 @@ impl CheckedBook<'_> {
         requires { both.old ≡ blank_table }
         ensures { InitFoundAs self.now.passes.admitted both.new result }
     {
-        typing::init::check_init_args(self.book, self.main, &self.roots, both)
+        typing::init::check_init_args(self.book, self.main, &self.tables.roots, both)
     }
 
     pub fn init_check(&self) -> Verdict

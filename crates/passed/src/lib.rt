@@ -15,21 +15,19 @@ pub mod project;
 pub mod uses;
 
 use book::admitted::AdmittedBook;
-use book::read::Entry;
 use format::Limits;
 use refusals::Refusal;
 use syntax::interface::Interface;
+use typing::tables::Tables;
 
-// A book that passed, with what its check found: how many definitions are not the init file's, what its actor offers, and the tables of roots and
-// of alias ends.
+// A book that passed, with what its check found: how many definitions are not the init file's, what its actor offers, and the tables of its names.
 #[derive(Drop)]
 pub struct CheckedBook<'b> {
     pub book: AdmittedBook<'b>,
     pub main: usize,
     pub interface: Interface,
-    pub roots: [u16; Limits::NAMES],
-    pub ends: [u32; Limits::NAMES],
-    pub ghost passes: { Passes book.bytes.now book.contents main interface roots ends } by { Passes-prop _ _ _ _ _ _ },
+    pub tables: Tables,
+    pub ghost passes: { Passes book.bytes.now book.contents main interface tables } by { Passes-prop _ _ _ _ _ },
 }
 
 impl<'b> CheckedBook<'b> {
@@ -45,15 +43,13 @@ impl<'b> CheckedBook<'b> {
         ensures { PassAs (book.now under limits) result }
     {
         let admitted = admission::admit(book, limits)?;
-        let mut roots = [Entry::NO_ROOT; Limits::NAMES];
-        let mut ends = [0; Limits::NAMES];
-        let found = typing::prog::check_prog(admitted, &mut roots, &mut ends)?;
+        let mut tables = Tables::new();
+        let found = typing::prog::check_prog(admitted, &mut tables)?;
         Ok(CheckedBook {
             book: admitted,
             main: found.main,
             interface: found.interface,
-            roots,
-            ends,
+            tables,
         })
     }
 

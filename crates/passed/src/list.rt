@@ -13,7 +13,7 @@ impl CheckedBook<'_> {
         ensures { HandedAs (list (book_of self.now)) out.old out.new result }
     {
         let actor = self.actor()?;
-        let scope = BookScope::of(self.book, &self.roots);
+        let scope = BookScope::of(self.book, &self.tables.roots);
         let w = analysis::chase::chase_actor(scope, *actor)?;
         refusals::hand(w.listed.as_slice(), out)
     }

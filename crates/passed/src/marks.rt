@@ -13,7 +13,7 @@ impl CheckedBook<'_> {
     pub fn marks(&self, list: &[u16], out: &mut [u16]) -> Answer
         ensures { HandedAs (marks_over (book_of self.now) list.now) out.old out.new result }
     {
-        let scope = BookScope::of(self.book, &self.roots);
+        let scope = BookScope::of(self.book, &self.tables.roots);
         let marks = Marks::new().infer_rec(scope, list)?;
         let marked = analysis::hand::names_of(&marks.marked, self.book.contents.names);
         refusals::hand(marked.as_slice(), out)

@@ -40,7 +40,7 @@ impl CheckedBook<'_> {
         analysis::reaching::find_nearest(self.book, self.main, wanted, &mut near);
         let searched = Searched {
             rows: self.book.nodes(),
-            ends: &self.ends,
+            ends: &self.tables.ends,
             near: &near,
         };
         hand_uses(&searched, actor, out)

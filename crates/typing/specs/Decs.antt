@@ -4,9 +4,10 @@ use Rattle.format.specs.Book.{Definition}
 use Rattle.format.specs.Layout.{nodes_part, definitions_part}
 use Rattle.refusals.specs.Verdict.{Verdict, passes}
 use Rattle.judgement.specs.Check.{decs_verdict}
-use Rattle.book.specs.Tables.{blank_table, zero_table}
 use Rattle.environment.specs.Tables.{Roots, EndNodes, Chains, DefinesAs, AliasEndsAs, definitions_in}
 use Rattle.typing.specs.Walk.{Env}
+use Rattle.typing.specs.Tables.{IsBlank}
+use Rattle.typing.specs.declared.tables.Tables.{Tables}
 use Rattle.typing.specs.declared.decs.Decs.{Decs}
 
 -- The tables of definitions that passed: they say what each name stands for, and where each chain ends.
@@ -15,19 +16,17 @@ pub record Checked (ns roots ends' : List ℕ) (count : ℕ) (ds : List Definiti
   pub ended : EndNodes ends' count
   pub env : Env ns roots ends' false ds
 
--- Definitions that are in the table of roots have a verdict. Where they pass, the tables are theirs; where they are refused, that of alias ends
--- has nothing, as it was lent.
+-- Definitions that are in the table of roots have a verdict. Where they pass, the tables are theirs.
 pub record EnteredAs (es ns : List ℕ) (names count from to : ℕ) (v : Verdict) (roots ends' : List ℕ) : Type 0 where
   pub verdict : v ≡ decs_verdict names (definitions_in ns es from to)
   pub checked : OnOk v (Checked ns roots ends' count (definitions_in ns es from to))
   pub chains : OnOk v (Chains ns ends' names (definitions_in ns es from to))
   pub beyond : OnOk v ((n : ℕ) → names ≤ n → get_or ends' n 0 ≡ 0)
-  pub left : OnErr v (ends' ≡ zero_table)
 
--- The same, and where they are refused, the table of roots has nothing either, as it was lent.
-pub record DecsAs (es ns : List ℕ) (names count from to : ℕ) (v : Verdict) (roots ends' : List ℕ) : Type 0 where
-  pub entered : EnteredAs es ns names count from to v roots ends'
-  pub left : OnErr v (roots ≡ blank_table)
+-- The same, and where they are refused, the tables have nothing, as they were lent.
+pub record DecsAs (es ns : List ℕ) (names count from to : ℕ) (v : Verdict) (t : Tables) : Type 0 where
+  pub entered : EnteredAs es ns names count from to v t.roots t.ends
+  pub left : OnErr v (IsBlank t)
 
 -- ---- Of definitions of a book
 
@@ -45,5 +44,5 @@ EndsFound d roots ends' = AliasEndsAs (nodes_part d.book.bytes.now) roots d.book
 abbrev pub EnteredOf : Decs → Verdict → List ℕ → List ℕ → Type 0
 EnteredOf d = EnteredAs (definitions_part d.book.bytes.now) (nodes_part d.book.bytes.now) d.book.contents.names d.book.contents.nodes d.from d.to
 
-abbrev pub DecsOf : Decs → Verdict → List ℕ → List ℕ → Type 0
+abbrev pub DecsOf : Decs → Verdict → Tables → Type 0
 DecsOf d = DecsAs (definitions_part d.book.bytes.now) (nodes_part d.book.bytes.now) d.book.contents.names d.book.contents.nodes d.from d.to

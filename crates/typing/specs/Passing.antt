@@ -11,18 +11,19 @@ use Rattle.judgement.specs.Resolve.{resolve_actor}
 use Rattle.judgement.specs.Check.{check}
 use Rattle.environment.specs.Tables.{Chains, definitions_in}
 use Rattle.typing.specs.declared.prog.Passed.{Passed}
+use Rattle.typing.specs.declared.tables.Tables.{Tables}
 use Rattle.environment.specs.Trees.{AllTrees}
 use Rattle.book.specs.Reading.{Admitted}
-use Rattle.book.specs.Tables.{blank_table, zero_table}
+use Rattle.typing.specs.Tables.{IsBlank}
 use Rattle.typing.specs.Decs.{Checked, DecsAs}
 use Rattle.syntax.specs.Files.{init_at, SplitAs}
 use Rattle.syntax.specs.declared.interface.Interface.{Interface}
 use Rattle.syntax.specs.Interfaces.{interface_tree, InterfaceNodes, InterfaceAs}
 
 -- The definitions of an admitted book that are not the init file's passed, with their tables.
-pub record DecsPassed {bs : List ℕ} {c : Contents} (a : Admitted bs c) (main : ℕ) (roots ends' : List ℕ) : Type 0 where
+pub record DecsPassed {bs : List ℕ} {c : Contents} (a : Admitted bs c) (main : ℕ) (t : Tables) : Type 0 where
   pub split : SplitAs (definitions_part bs) c.definitions (init_at (files_part bs) c.files) main
-  pub passed : DecsAs (definitions_part bs) (nodes_part bs) c.names c.nodes 0 main passes roots ends'
+  pub passed : DecsAs (definitions_part bs) (nodes_part bs) c.names c.nodes 0 main passes t
 
 -- What the check hands on of an admitted book that passes, with the table of roots and that of alias ends.
 pub record PassedAs {bs : List ℕ} {c : Contents} (a : Admitted bs c) (roots ends' : List ℕ) (p : Passed) : Type 0 where
@@ -45,11 +46,10 @@ pub record ActorFoundAs {bs : List ℕ} {c : Contents} (a : Admitted bs c) (root
   pub verdict : verdict_of r ≡ check a.book
   pub passed : IfOk r (PassedAs a roots ends')
 
--- The same, and where the book is refused, both tables have nothing, as they were lent.
-pub record FoundAs {bs : List ℕ} {c : Contents} (a : Admitted bs c) (roots ends' : List ℕ) (r : Result Passed Refusal) : Type 0 where
-  pub found : ActorFoundAs a roots ends' r
-  pub roots-left : OnErr r (roots ≡ blank_table)
-  pub ends-left : OnErr r (ends' ≡ zero_table)
+-- The same, and where the book is refused, the tables have nothing, as they were lent.
+pub record FoundAs {bs : List ℕ} {c : Contents} (a : Admitted bs c) (t : Tables) (r : Result Passed Refusal) : Type 0 where
+  pub found : ActorFoundAs a t.roots t.ends r
+  pub left : OnErr r (IsBlank t)
 
 -- A passed book, as a question takes it.
 pub record PassedBook (bs : List ℕ) (c : Contents) (roots ends' : List ℕ) (p : Passed) : Type 0 where

@@ -1,10 +1,10 @@
 // Definitions of a book, or of its init file: `check_decs` of typing.rs.
 ghost use Rattle.std.specs.Prelude.{◌≤◌};
 
+use crate::tables::Tables;
 use crate::types::Walk;
 use book::admitted::AdmittedBook;
 use book::read::{Entry, Node};
-use environment::chain_end;
 use environment::scope::Scope;
 use refusals::{Refusal, Verdict};
 
@@ -21,7 +21,8 @@ pub(crate) struct Decs<'a> {
 impl<'a> Decs<'a> {
     ghost use Rattle.std.specs.Prelude.{◌≡◌};
     ghost use Rattle.judgement.specs.Check.{bodies_verdict, bodies_fit};
-    ghost use Rattle.book.specs.Tables.{blank_table, zero_table};
+    ghost use Rattle.book.specs.Tables.{zero_table};
+    ghost use Rattle.typing.specs.Tables.{IsBlank};
     ghost use Rattle.typing.specs.Decs.{definitions_of, Defined, EndsFound, EnteredOf, DecsOf};
 
     pub(crate) fn new(book: AdmittedBook<'a>, from: usize, to: usize) -> Decs<'a>
@@ -48,11 +49,11 @@ impl<'a> Decs<'a> {
     }
 
     // 8: whether each method in the bodies is a function.
-    fn methods_fit<'t>(self, roots: &'t [u16], ends: &'t [u32]) -> bool
-        requires { Defined self roots.now × EndsFound self roots.now ends.now }
+    fn methods_fit(self, tables: &Tables) -> bool
+        requires { Defined self tables.now.roots × EndsFound self tables.now.roots tables.now.ends }
         ensures { result ≡ bodies_fit (definitions_of self.entry) (definitions_of self.entry) }
     {
-        let walk = Walk::new(self.book, roots, Some(ends));
+        let walk = Walk::new(self.book, &tables.roots, Some(&tables.ends));
         let entries = self.book.definitions();
         (self.from..self.to).all(|d| {
             let root = Entry::at(entries, d).root as usize;
@@ -61,32 +62,31 @@ impl<'a> Decs<'a> {
         })
     }
 
-    // 3 to 8, of definitions that are in the table. Their alias ends go into a table that has nothing, and has nothing again where they are refused.
-    fn check_entered(self, roots: &[u16], ends: &mut [u32]) -> Verdict
-        requires defined { Defined self roots.now }
-        requires empty { ends.old ≡ zero_table }
-        ensures { EnteredOf self.entry result roots.now ends.new }
+    // 3 to 8, of definitions that are in the table of roots. Their alias ends go into one that has nothing.
+    fn check_entered(self, tables: &mut Tables) -> Verdict
+        requires defined { Defined self tables.old.roots }
+        requires empty { tables.old.ends ≡ zero_table }
+        ensures { EnteredOf self.entry result tables.new.roots tables.new.ends }
     {
-        self.check_bodies(roots)?;
-        let scope = Scope::of(self.book, roots);
-        scope.find_ends(self.to - self.from, ends)?;
-        if self.methods_fit(roots, ends) {
-            return Ok(());
+        self.check_bodies(&tables.roots)?;
+        let scope = Scope::of(self.book, &tables.roots);
+        scope.find_ends(self.to - self.from, &mut tables.ends)?;
+        if self.methods_fit(tables) {
+            Ok(())
+        } else {
+            Err(Refusal::NoFunction)
         }
-        ends.fill(chain_end::NONE);
-        Err(Refusal::NoFunction)
     }
 
-    // 2 to 8. The roots and alias ends go into tables that have nothing, and have nothing again where the definitions are refused.
-    pub(crate) fn check(self, roots: &mut [u16], ends: &mut [u32]) -> Verdict
-        requires roots { roots.old ≡ blank_table }
-        requires ends { ends.old ≡ zero_table }
-        ensures { DecsOf self.entry result roots.new ends.new }
+    // 2 to 8, into tables that have nothing, and have nothing again where the definitions are refused.
+    pub(crate) fn check(self, tables: &mut Tables) -> Verdict
+        requires { IsBlank tables.old }
+        ensures { DecsOf self.entry result tables.new }
     {
-        environment::enter(self.book, self.from, self.to, roots)?;
-        let checked = self.check_entered(roots, ends);
+        environment::enter(self.book, self.from, self.to, &mut tables.roots)?;
+        let checked = self.check_entered(tables);
         if checked.is_err() {
-            roots.fill(Entry::NO_ROOT);
+            *tables = Tables::new();
         }
         checked
     }

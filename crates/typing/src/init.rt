@@ -6,9 +6,11 @@ ghost use Rattle.book.specs.Tables.{blank_table};
 ghost use Rattle.environment.specs.Tables.{Roots, definitions_in};
 ghost use Rattle.book.specs.Reading.{EntryWithin, Admitted};
 ghost use Rattle.typing.specs.Init.{lacked, OwnDecsAs, OwnPassed, MergeAs, Merged, Seen, ArgumentsFound, InitSeenAs, InitFoundAs};
+ghost use Rattle.typing.specs.Tables.{IsBlank};
 ghost use Rattle.typing.specs.Passing.{PassedMain};
 
 use crate::decs::Decs;
+use crate::tables::Tables;
 use crate::types::Walk;
 use book::admitted::AdmittedBook;
 use book::read::{Entry, Node};
@@ -26,15 +28,14 @@ pub struct InitArgs {
     pub until: usize,
 }
 
-// The init file's own definitions, which are those of the entries from `main` on: they do not see main's. Their table goes into `own`, which
-// has nothing before, and nothing where they are refused.
-fn check_own(book: AdmittedBook, main: usize, own: &mut [u16]) -> Verdict
+// The init file's own definitions, which are those of the entries from `main` on: they do not see main's. Their tables go into `own`, which
+// have nothing before, and nothing where they are refused.
+fn check_own(book: AdmittedBook, main: usize, own: &mut Tables) -> Verdict
     requires within { main ≤ book.contents.definitions }
-    requires empty { own.old ≡ blank_table }
-    ensures { OwnDecsAs book.entry.bytes.now book.entry.contents main own.new result }
+    requires empty { IsBlank own.old }
+    ensures { OwnDecsAs book.entry.bytes.now book.entry.contents main own.new.roots result }
 {
-    let mut ends = [chain_end::NONE; Limits::NAMES];
-    Decs::new(book, main, book.contents.definitions).check(own, &mut ends)
+    Decs::new(book, main, book.contents.definitions).check(own)
 }
 
 // 11: the init file's definitions against main's.
@@ -99,7 +100,8 @@ fn check_seen(
 }
 
 // The init arguments of a book that passed: refusals 2 to 9 and 11. The table of the definitions that they see goes into `both`, which has
-// nothing before, and nothing where they are refused. Without an init file the arguments, which are none, see main's definitions.
+// nothing before, and nothing where they are refused. Without an init file the arguments, which are none, see main's definitions. `roots` and `both`
+// are no `Tables`: main's alias ends are not read here, and those of both `check_arguments` finds and reads alone.
 pub fn check_init_args(
     book: AdmittedBook,
     main: usize,
@@ -110,9 +112,9 @@ pub fn check_init_args(
     ensures { (x : PassedMain book.entry.bytes.now book.entry.contents roots.now main) → InitFoundAs x.book.admitted both.new result }
 {
     let init = syntax::files::init_file(book);
-    let mut own = [Entry::NO_ROOT; Limits::NAMES];
+    let mut own = Tables::new();
     if init == book.contents.files {
-        environment::merge::merged(&own, roots, both);
+        environment::merge::merged(&own.roots, roots, both);
         return Ok(InitArgs {
             count: book.contents.definitions,
             from: 0,
@@ -120,9 +122,9 @@ pub fn check_init_args(
         });
     }
     check_own(book, main, &mut own)?;
-    merge(book, &own, roots)?;
-    environment::merge::merged(&own, roots, both);
-    let args = check_seen(book, main, &own, init, both);
+    merge(book, &own.roots, roots)?;
+    environment::merge::merged(&own.roots, roots, both);
+    let args = check_seen(book, main, &own.roots, init, both);
     if args.is_err() {
         both.fill(Entry::NO_ROOT);
     }

@@ -5,4 +5,5 @@ mod actor;
 mod decs;
 pub mod init;
 pub mod prog;
+pub mod tables;
 mod types;

@@ -26,7 +26,7 @@ use Rattle.refusals.specs.declared.Refusal.TheVariants.{NoFunction}
 use Rattle.refusals.specs.Verdict.{Verdict, passes, and_then, unless}
 use Rattle.judgement.specs.Check.{once_verdict, bodies_verdict, check_forest, methods_fit, bodies_fit, decs_verdict}
 use Rattle.book.specs.Reading.{EntryWithin, Admitted}
-use Rattle.book.specs.Tables.{blank_table, zero_table}
+use Rattle.book.specs.Tables.{zero_table}
 use Rattle.book.proofs.Named.{book-of}
 use Rattle.environment.specs.Tables.{Nodes, Entries, Roots, Binds, Tabled, DefinesAs, AliasEndsAs, definitions_in}
 use Rattle.environment.proofs.Definitions.{defined-length, defined-binds, defined-once}
@@ -35,6 +35,8 @@ use Rattle.environment.proofs.Book.{all-trees, rows-exact, entries-of, entries-h
 use Rattle.typing.specs.declared.types.Walk.{Walk}
 use Rattle.typing.specs.declared.decs.Decs.{Decs}
 use Rattle.typing.specs.Walk.{type_verdict}
+use Rattle.typing.specs.Tables.{IsBlank}
+use Rattle.typing.specs.declared.tables.Tables.{Tables}
 use Rattle.typing.specs.Types.{Reads, WalkEnv, Under}
 use Rattle.typing.specs.Decs.{Checked, definitions_of, Defined, EndsFound, EnteredOf, DecsOf}
 use Rattle.typing.proofs.Walk.{tree-verdict}
@@ -180,38 +182,38 @@ module _ (d : Decs) where
             (says-fit false (d.from + z.0) (subst (Says false) (get_or-range_with_len d.from (d.to - d.from) z.0 0 l) (z.2 0)))
 
     -- ---- the verdict
-    refuse : {x : Refusal} → Err x ≡ decs_verdict d.book.contents.names ds → {ends' : List ℕ} → ends' ≡ zero_table → EnteredOf d (Err x) roots ends'
-    refuse is z = record { verdict = is; checked = tt; chains = tt; beyond = tt; left = z }
+    refuse : {x : Refusal} → Err x ≡ decs_verdict d.book.contents.names ds → {ends' : List ℕ} → EnteredOf d (Err x) roots ends'
+    refuse is = record { verdict = is; checked = tt; chains = tt; beyond = tt }
 
-    pub decs-body : {x : Refusal} → Err x ≡ bodies_verdict ds ds → {ends' : List ℕ} → ends' ≡ zero_table → EnteredOf d (Err x) roots ends'
+    pub decs-body : {x : Refusal} → Err x ≡ bodies_verdict ds ds → {ends' : List ℕ} → EnteredOf d (Err x) roots ends'
     unfolding decs_verdict
     decs-body q = refuse (sym (rw (once-passed, ← q) refl))
 
     module _ (q : passes ≡ bodies_verdict ds ds) where
       pub decs-circle : {x : Refusal} {ends' : List ℕ} → AliasEndsAs ns roots d.book.contents.names d.book.contents.nodes (d.to - d.from) ends' (Err x) → EnteredOf d (Err x) roots ends'
       unfolding decs_verdict
-      decs-circle a = refuse (sym (rw (once-passed, ← q, ← a.lowest ds binds many) refl)) a.left
+      decs-circle a = refuse (sym (rw (once-passed, ← q, ← a.lowest ds binds many) refl))
 
       module _ {ends' : List ℕ} (a : EndsFound d roots ends') where
         said : (b : Bool) → b ≡ bodies_fit ds ds → unless b NoFunction ≡ decs_verdict d.book.contents.names ds
         unfolding decs_verdict
         said b e = sym (rw (once-passed, ← q, ← a.lowest ds binds many, e) refl)
 
-        pub decs-unfit : false ≡ bodies_fit ds ds → {after : List ℕ} → after ≡ zero_table → EnteredOf d (Err NoFunction) roots after
-        decs-unfit e z = refuse (said false e) z
+        pub decs-unfit : false ≡ bodies_fit ds ds → EnteredOf d (Err NoFunction) roots ends'
+        decs-unfit e = refuse (said false e)
 
         pub decs-passed : true ≡ bodies_fit ds ds → EnteredOf d passes roots ends'
-        decs-passed e = record { verdict = said true e; checked = checked a; chains = a.all ds binds many; beyond = a.beyond; left = tt }
+        decs-passed e = record { verdict = said true e; checked = checked a; chains = a.all ds binds many; beyond = a.beyond }
 
-  -- ---- the table of roots where they are refused
-  pub decs-twice : {x : Refusal} {roots : List ℕ} → DefinesAs es d.book.contents.nodes d.from d.to roots (Err x) → {ends' : List ℕ} → ends' ≡ zero_table → DecsOf d (Err x) roots ends'
+  -- ---- the tables where they are refused
+  pub decs-twice : {x : Refusal} {t : Tables} → DefinesAs es d.book.contents.nodes d.from d.to t.roots (Err x) → t.ends ≡ zero_table → DecsOf d (Err x) t
   unfolding decs_verdict
   decs-twice t z =
       record {
-        entered = record { verdict = sym (rw (← defined-once ns entries t) refl); checked = tt; chains = tt; beyond = tt; left = z };
-        left = t.left;
+        entered = record { verdict = sym (rw (← defined-once ns entries t) refl); checked = tt; chains = tt; beyond = tt };
+        left = record { roots = t.left; ends = z };
       }
 
-  pub decs-cleared : (v : Verdict) → is_err v ≡ true → {roots after ends' : List ℕ} → EnteredOf d v roots ends' → after ≡ blank_table → DecsOf d v after ends'
+  pub decs-cleared : (v : Verdict) → is_err v ≡ true → {roots ends' : List ℕ} → EnteredOf d v roots ends' → {after : Tables} → IsBlank after → DecsOf d v after
   decs-cleared (Ok u) h e z = absurd (false≢true h)
-  decs-cleared (Err x) h e z = record { entered = record { verdict = e.verdict; checked = tt; chains = tt; beyond = tt; left = e.left }; left = z }
+  decs-cleared (Err x) h e z = record { entered = record { verdict = e.verdict; checked = tt; chains = tt; beyond = tt }; left = z }

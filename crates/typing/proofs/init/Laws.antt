@@ -49,6 +49,7 @@ use Rattle.typing.proofs.Walk.{Said, many-stops, many-pass}
 use Rattle.syntax.specs.Files.{init_at, SplitAs}
 use Rattle.typing.specs.Decs.{DecsAs}
 use Rattle.typing.specs.declared.init.InitArgs.{InitArgs}
+use Rattle.typing.specs.declared.tables.Tables.{Tables}
 use Rattle.typing.specs.declared.types.Walk.{Walk}
 use Rattle.typing.specs.Init.{lacked, both_definitions, InitFile, NoInitFile, own_definitions, OwnDecsAs, OwnPassed, MergeAs, Merged, Seen, ArgumentsFound, InitPassedAs, InitSeenAs, InitFoundAs}
 use Rattle.typing.specs.declared.prog.Passed.{Passed as Handed}
@@ -115,9 +116,9 @@ module _ {bs : List ℕ} {c : Contents} (a : Admitted bs c) where
   abbrev rows : List ℕ
   rows = nodes_part bs
 
-  pub own-as : {main : ℕ} {own ends' : List ℕ} (v : Verdict) → DecsAs (definitions_part bs) rows c.names c.nodes main c.definitions v own ends' → OwnDecsAs bs c main own v
+  pub own-as : {main : ℕ} {own : Tables} (v : Verdict) → DecsAs (definitions_part bs) rows c.names c.nodes main c.definitions v own → OwnDecsAs bs c main own.roots v
   own-as (Ok tt) d = record { verdict = d.entered.verdict; table = d.entered.checked.table; binds = d.entered.checked.env.binds; left = tt }
-  own-as (Err r) d = record { verdict = d.entered.verdict; table = tt; binds = tt; left = d.left }
+  own-as (Err r) d = record { verdict = d.entered.verdict; table = tt; binds = tt; left = d.left.roots }
 
   hashed : {hs : List ℕ} → HashesOf hs (read bs).names → HashesOf hs a.book.names
   hashed {hs} o = record { long = o.long; agree = subst (HashesAgree hs) (names-book a) o.agree }

@@ -22,7 +22,6 @@ use Rattle.refusals.specs.Verdict.{Verdict, passes, and_then}
 use Rattle.refusals.proofs.Verdicts.{both-pass, unless-passed}
 use Rattle.book.specs.declared.kinds.Contents.{Contents}
 use Rattle.book.specs.Reading.{Admitted}
-use Rattle.book.specs.Tables.{blank_table, zero_table}
 use Rattle.book.proofs.Opened.{names-count, nodes-count, definitions-count, files-count}
 use Rattle.judgement.specs.Environment.{main_definitions, kids_of}
 use Rattle.judgement.specs.Aliases.{as_service}
@@ -41,6 +40,8 @@ use Rattle.syntax.proofs.Book.{main-definitions-are}
 use Rattle.syntax.proofs.interface.Laws.{interface-as}
 use Rattle.typing.specs.declared.types.Walk.{Walk}
 use Rattle.typing.specs.Walk.{Env}
+use Rattle.typing.specs.Tables.{IsBlank}
+use Rattle.typing.specs.declared.tables.Tables.{Tables}
 use Rattle.typing.specs.Types.{Reads, WalkEnv, Under}
 use Rattle.typing.specs.Decs.{Checked, DecsAs}
 use Rattle.typing.specs.Actors.{ActorOf}
@@ -69,22 +70,21 @@ module _ {bs : List ℕ} {c : Contents} (a : Admitted bs c) where
   ds = main_definitions a.book
 
   -- a refusal before anything is in the tables
-  stop-blank : {x : Refusal} → Err x ≡ check a.book → {roots ends' : List ℕ} → roots ≡ blank_table → ends' ≡ zero_table → FoundAs a roots ends' (Err x)
-  stop-blank is y z = record { found = record { verdict = is; passed = tt }; roots-left = y; ends-left = z }
+  stop-blank : {x : Refusal} → Err x ≡ check a.book → {t : Tables} → IsBlank t → FoundAs a t (Err x)
+  stop-blank is z = record { found = record { verdict = is; passed = tt }; left = z }
 
   -- ---- 12
-  pub imports-refused : {x : Refusal} → FilesAs bs c (Err x) → {roots ends' : List ℕ} → roots ≡ blank_table → ends' ≡ zero_table → FoundAs a roots ends' (Err x)
+  pub imports-refused : {x : Refusal} → FilesAs bs c (Err x) → {t : Tables} → IsBlank t → FoundAs a t (Err x)
   unfolding check
   imports-refused x = stop-blank (sym (rw (← x.verdict a) refl))
 
   -- ---- The tables: with nothing again where the actor is refused, and else as they are
-  pub left-blank : (r : Result Passed Refusal) → is_err r ≡ true → {old olds : List ℕ} → ActorFoundAs a old olds r → {roots ends' : List ℕ} → roots ≡ blank_table → ends' ≡ zero_table →
-      FoundAs a roots ends' r
-  left-blank (Ok p) e f y z = absurd (false≢true e)
-  left-blank (Err x) e f y z = stop-blank f.verdict y z
+  pub left-blank : (r : Result Passed Refusal) → is_err r ≡ true → {roots ends' : List ℕ} → ActorFoundAs a roots ends' r → {t : Tables} → IsBlank t → FoundAs a t r
+  left-blank (Ok p) e f z = absurd (false≢true e)
+  left-blank (Err x) e f z = stop-blank f.verdict z
 
-  pub left-whole : (r : Result Passed Refusal) → is_err r ≡ false → {roots ends' : List ℕ} → ActorFoundAs a roots ends' r → FoundAs a roots ends' r
-  left-whole (Ok p) e f = record { found = f; roots-left = tt; ends-left = tt }
+  pub left-whole : (r : Result Passed Refusal) → is_err r ≡ false → {t : Tables} → ActorFoundAs a t.roots t.ends r → FoundAs a t r
+  left-whole (Ok p) e f = record { found = f; left = tt }
   left-whole (Err x) e f = absurd (false≢true (sym e))
 
   past-imports : {r : Files} → FilesPassed bs c r →
@@ -102,18 +102,24 @@ module _ {bs : List ℕ} {c : Contents} (a : Admitted bs c) where
     definitions-are : ds ≡ definitions_in (nodes_part bs) (definitions_part bs) 0 main
     definitions-are = main-definitions-are bs a.laid (rw (← definitions-count a, ← files-count a) s)
 
-    module _ {r : Files} (x : FilesPassed bs c r) {roots ends' : List ℕ} where
-      decs-is : {w : Verdict} → DecsAs (definitions_part bs) (nodes_part bs) c.names c.nodes 0 main w roots ends' → w ≡ decs_verdict (length a.book.names) ds
+    module _ {r : Files} (x : FilesPassed bs c r) {t : Tables} where
+      decs-is : {w : Verdict} → DecsAs (definitions_part bs) (nodes_part bs) c.names c.nodes 0 main w t → w ≡ decs_verdict (length a.book.names) ds
       decs-is d = d.entered.verdict ∙ ap (λ (k : ℕ). decs_verdict k (definitions_in (nodes_part bs) (definitions_part bs) 0 main)) (names-count a) ∙ ap (decs_verdict (length a.book.names)) (sym definitions-are)
 
-      pub decs-refused : {y : Refusal} → DecsAs (definitions_part bs) (nodes_part bs) c.names c.nodes 0 main (Err y) roots ends' → FoundAs a roots ends' (Err y)
-      decs-refused d = stop-blank (sym (past-imports x ∙ rw (← decs-is d) refl)) d.left d.entered.left
+      pub decs-refused : {y : Refusal} → DecsAs (definitions_part bs) (nodes_part bs) c.names c.nodes 0 main (Err y) t → FoundAs a t (Err y)
+      decs-refused d = stop-blank (sym (past-imports x ∙ rw (← decs-is d) refl)) d.left
 
-      pub defined : DecsAs (definitions_part bs) (nodes_part bs) c.names c.nodes 0 main passes roots ends' → DecsPassed a main roots ends'
+      pub defined : DecsAs (definitions_part bs) (nodes_part bs) c.names c.nodes 0 main passes t → DecsPassed a main t
       defined d = record { split = s; passed = d }
 
   -- ---- The resolved actor
-  module _ {r : Files} (x : FilesPassed bs c r) {main : ℕ} {roots ends' : List ℕ} (o : DecsPassed a main roots ends') where
+  module _ {r : Files} (x : FilesPassed bs c r) {main : ℕ} {t : Tables} (o : DecsPassed a main t) where
+    abbrev roots : List ℕ
+    roots = t.roots
+
+    abbrev ends' : List ℕ
+    ends' = t.ends
+
     tables : Checked (nodes_part bs) roots ends' c.nodes ds
     tables = rw (definitions-are o.split) o.passed.entered.checked
 

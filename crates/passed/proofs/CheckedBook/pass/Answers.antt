@@ -1,20 +1,11 @@
 -- `CheckedBook::pass` meets its contract. Assumes nothing.
-use mathlib.Core.Path.{refl, ap}
-use Rattle.book.specs.Tables.{blank_table, zero_table}
+use mathlib.Core.Path.{ap}
 use Rattle.refusals.proofs.Handing.{handed-on}
 use Rattle.passed.proofs.Asking.{pass-refused, check-refused, book-passed, pass-goes}
 use Rattle.passed.proofs.CheckedBook.pass.Goals as goal
 
 pub returns-in_err-admitted : goal.returns-in_err-admitted
 returns-in_err-admitted c = rw (handed-on c.from_residual.result c.from_residual.ensures) (pass-refused _ c.in_err-admitted.ensures.answer)
-
-pub check_prog-requires-clause-roots : goal.check_prog-requires-clause-roots
-unfolding blank_table
-check_prog-requires-clause-roots c = refl
-
-pub check_prog-requires-clause-ends : goal.check_prog-requires-clause-ends
-unfolding zero_table
-check_prog-requires-clause-ends c = refl
 
 pub returns-in_err-found : goal.returns-in_err-found
 returns-in_err-found c =

@@ -1,6 +1,5 @@
 -- `check_init_args` meets its contract. Assumes nothing.
-use mathlib.Core.Path.{refl, sym, ◌∙◌}
-use Rattle.book.specs.Tables.{blank_table}
+use mathlib.Core.Path.{sym, ◌∙◌}
 use Rattle.book.proofs.Blank.{blank-length}
 use Rattle.environment.proofs.BlankTable.{blank-filled}
 use Rattle.refusals.proofs.Handing.{handed-on}
@@ -9,16 +8,14 @@ use Rattle.typing.proofs.init.check_init_args.Goals as goal
 
 -- Without an init file.
 pub merged-requires : goal.merged-requires
-merged-requires c = (refl, c.requires.0.book.passed.checked.table.long, rw c.requires.1 blank-length)
+merged-requires c = (rw c.new-own.ensures.roots blank-length, c.requires.0.book.passed.checked.table.long, rw c.requires.1 blank-length)
 
 pub returns-then-init-book : goal.returns-then-init-book
-unfolding blank_table
-returns-then-init-book c = λ y. let x = y.book in init-none x.admitted (sym c.init_file-init.ensures ∙ c.if-init-book.true) x.passed refl c.merged.ensures
+returns-then-init-book c = λ y. let x = y.book in init-none x.admitted (sym c.init_file-init.ensures ∙ c.if-init-book.true) x.passed c.new-own.ensures.roots c.merged.ensures
 
 -- With one: its own definitions, the merge and the arguments.
 pub check_own-requires : goal.check_own-requires
-unfolding blank_table
-check_own-requires c = record { within = c.requires.0.book.passed.split.within; empty = refl }
+check_own-requires c = record { within = c.requires.0.book.passed.split.within; empty = c.new-own.ensures }
 
 pub returns-in_err-check_own : goal.returns-in_err-check_own
 returns-in_err-check_own c =

@@ -1,13 +1,7 @@
 -- `check_own` meets its contract. Assumes nothing.
-use mathlib.Core.Path.{refl}
-use Rattle.book.specs.Tables.{zero_table}
 use Rattle.book.proofs.Named.{book-of}
 use Rattle.typing.proofs.init.Laws.{own-as}
 use Rattle.typing.proofs.init.check_own.Goals as goal
-
-pub check-requires-clause-ends : goal.check-requires-clause-ends
-unfolding zero_table
-check-requires-clause-ends c = refl
 
 pub returns : goal.returns
 returns c =

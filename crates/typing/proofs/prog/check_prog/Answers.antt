@@ -2,7 +2,6 @@
 use mathlib.Core.Path.{sym, ◌∙◌}
 use Rattle.book.proofs.Named.{book-of}
 use Rattle.environment.proofs.Book.{entries-held}
-use Rattle.environment.proofs.BlankTable.{blank-filled, zero-filled}
 use Rattle.refusals.proofs.Handing.{handed-on}
 use Rattle.typing.proofs.prog.Laws.{imports-refused, split-files, decs-refused, defined, left-blank, left-whole}
 use Rattle.typing.proofs.prog.check_prog.Goals as goal
@@ -10,7 +9,7 @@ use Rattle.typing.proofs.prog.check_prog.Goals as goal
 pub returns-in_err-files : goal.returns-in_err-files
 returns-in_err-files c =
     rw (handed-on c.from_residual.result c.from_residual.ensures)
-    (λ a. imports-refused a c.in_err-files.ensures c.requires.roots c.requires.ends)
+    (λ a. imports-refused a c.in_err-files.ensures c.requires)
 
 pub main_definitions-main-requires : goal.main_definitions-main-requires
 main_definitions-main-requires c = rw c.definitions.ensures (entries-held (book-of _ _ c.args.book.laid))
@@ -36,7 +35,7 @@ returns-then-is_err c =
     λ a.
     let s = split-files a x c.definitions.ensures c.main_definitions-main.ensures in
     let o = defined a s x (rw (c.new.ensures.book, c.new.ensures.from, c.new.ensures.to) at c.in_ok-check.ensures) in
-    left-blank a _ (sym c.is_err.ensures.value ∙ c.if-is_err.true) (c.check_resolved-found.ensures a x o) (blank-filled c.in_ok-check.ensures.entered.checked.table.long (c.fill.ensures.after (λ y e. e))) (zero-filled c.in_ok-check.ensures.entered.checked.ended.long (c.fill-then-is_err.ensures.after (λ y e. e)))
+    left-blank a _ (sym c.is_err.ensures.value ∙ c.if-is_err.true) (c.check_resolved-found.ensures a x o) c.new-then-is_err.ensures
 
 pub returns-else-is_err : goal.returns-else-is_err
 returns-else-is_err c =

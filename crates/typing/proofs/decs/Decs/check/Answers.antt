@@ -1,6 +1,5 @@
 -- `check` meets its contract. Assumes nothing.
 use mathlib.Core.Path.{sym, ◌∙◌}
-use Rattle.environment.proofs.BlankTable.{blank-filled}
 use Rattle.refusals.proofs.Handing.{handed-on}
 use Rattle.typing.proofs.decs.Laws.{decs-twice, decs-cleared}
 use Rattle.typing.proofs.decs.Decs.check.Goals as goal
@@ -10,4 +9,4 @@ returns-in_err-enter c = rw (handed-on c.from_residual.result c.from_residual.en
 
 pub returns-then-is_err : goal.returns-then-is_err
 returns-then-is_err c =
-    decs-cleared c.args.self c.check_entered-checked.result (sym c.is_err.ensures.value ∙ c.if-is_err.true) c.check_entered-checked.ensures (blank-filled c.in_ok-enter.ensures.table.long (c.fill.ensures.after (λ y e. e)))
+    decs-cleared c.args.self c.check_entered-checked.result (sym c.is_err.ensures.value ∙ c.if-is_err.true) c.check_entered-checked.ensures c.new.ensures

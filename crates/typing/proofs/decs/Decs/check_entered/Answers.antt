@@ -1,11 +1,10 @@
 -- `check_entered` meets its contract. Assumes nothing.
-use Rattle.environment.proofs.BlankTable.{zero-filled}
 use Rattle.refusals.proofs.Handing.{handed-on}
 use Rattle.typing.proofs.decs.Laws.{few, tabled, table, decs-body, decs-circle, decs-unfit, decs-passed}
 use Rattle.typing.proofs.decs.Decs.check_entered.Goals as goal
 
 pub returns-in_err-check_bodies : goal.returns-in_err-check_bodies
-returns-in_err-check_bodies c = rw (handed-on c.from_residual.result c.from_residual.ensures) (decs-body c.args.self c.requires.defined c.in_err-check_bodies.ensures c.requires.empty)
+returns-in_err-check_bodies c = rw (handed-on c.from_residual.result c.from_residual.ensures) (decs-body c.args.self c.requires.defined c.in_err-check_bodies.ensures)
 
 pub of-scope-requires : goal.of-scope-requires
 of-scope-requires c = table c.args.self c.requires.defined
@@ -33,8 +32,8 @@ returns-then-methods_fit c =
     decs-passed c.args.self c.requires.defined c.in_ok-check_bodies.ensures (rw (o.rows, o.roots, o.names, o.nodes) at c.in_ok-find_ends.ensures)
     (rw c.if-methods_fit.true at c.methods_fit.ensures)
 
-pub returns : goal.returns
-returns c =
+pub returns-else-methods_fit : goal.returns-else-methods_fit
+returns-else-methods_fit c =
     let o = c.of-scope.ensures in
     decs-unfit c.args.self c.requires.defined c.in_ok-check_bodies.ensures (rw (o.rows, o.roots, o.names, o.nodes) at c.in_ok-find_ends.ensures)
-    (rw c.if-methods_fit.false at c.methods_fit.ensures) (zero-filled c.in_ok-find_ends.ensures.nodes.long (c.fill.ensures.after (λ y e. e)))
+    (rw c.if-methods_fit.false at c.methods_fit.ensures)

@@ -1,0 +1,24 @@
+// What a check finds of the names of a book: for each the root of its definition, and where its alias chain ends.
+ghost use Rattle.typing.specs.Tables.{IsBlank};
+
+use book::read::Entry;
+use environment::chain_end;
+use format::Limits;
+
+#[derive(Drop)]
+pub struct Tables {
+    pub roots: [u16; Limits::NAMES],
+    pub ends: [u32; Limits::NAMES],
+}
+
+impl Tables {
+    // They have nothing.
+    pub fn new() -> Tables
+        ensures { IsBlank result }
+    {
+        Tables {
+            roots: [Entry::NO_ROOT; Limits::NAMES],
+            ends: [chain_end::NONE; Limits::NAMES],
+        }
+    }
+}
