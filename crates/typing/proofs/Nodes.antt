@@ -41,29 +41,29 @@ below-service : (r : Row) → r.kind ≡ 24 → place_below (node_of r).kind ≡
 unfolding place_below node_of kind_of kinds
 below-service r k = rw k
 
-module _ {w : Walk} {n : ℕ} (h : n < w.scope.nodes) where
+module _ {w : Walk} {n : ℕ} (h : n < w.env.scope.nodes) where
   -- what stands below it
-  pub kids-in : (methods : Bool) → (methods ≡ true → (row_at w.scope.rows.now n).kind ≡ 24) → TreesIn w methods (n + 1) (n + (row_at w.scope.rows.now n).size)
+  pub kids-in : (methods : Bool) → (methods ≡ true → (row_at w.env.scope.rows.now n).kind ≡ 24) → TreesIn w methods (n + 1) (n + (row_at w.env.scope.rows.now n).size)
   kids-in methods k =
       record {
-        whole = kids-whole (w.trees.nodes.tree n h).whole;
-        inside = (w.trees.nodes.tree n h).ends;
+        whole = kids-whole (w.env.trees.nodes.tree n h).whole;
+        inside = (w.env.trees.nodes.tree n h).ends;
         methods_are = λ m.
-            let f = node-fits w.trees w.scope.bound (table-ended w.scope.nodes w.ends w.ended) h in
-            let t : Trees w.scope.rows.now w.scope.roots.now (ends_of w.ends) n (n + (row_at w.scope.rows.now n).size) = record {
-              count = w.scope.nodes;
+            let f = node-fits w.env.trees w.env.scope.bound (table-ended w.env.scope.nodes w.ends w.ended) h in
+            let t : Trees w.env.scope.rows.now w.env.scope.roots.now (ends_of w.ends) n (n + (row_at w.env.scope.rows.now n).size) = record {
+              count = w.env.scope.nodes;
               place = f.0;
-              walk = record { names = w.scope.names; nodes = w.trees.nodes; bound = w.scope.bound; ended = table-ended w.scope.nodes w.ends w.ended };
-              whole = tree-whole (w.trees.nodes.tree n h).whole;
-              inside = (w.trees.nodes.tree n h).ends;
+              walk = record { names = w.env.scope.names; nodes = w.env.trees.nodes; bound = w.env.scope.bound; ended = table-ended w.env.scope.nodes w.ends w.ended };
+              whole = tree-whole (w.env.trees.nodes.tree n h).whole;
+              inside = (w.env.trees.nodes.tree n h).ends;
               fits = f.1;
             } in
-            let some : n < n + (row_at w.scope.rows.now n).size = omega (arith, (w.trees.nodes.tree n h).whole.one) in
-            subst (λ (p : Place). T (forest_fits w.scope.names p (siblings w.scope.rows.now (n + 1) (n + (row_at w.scope.rows.now n).size)))) (below-service (row_at w.scope.rows.now n) (k m)) (fit-parts t some).0.1;
+            let some : n < n + (row_at w.env.scope.rows.now n).size = omega (arith, (w.env.trees.nodes.tree n h).whole.one) in
+            subst (λ (p : Place). T (forest_fits w.env.scope.names p (siblings w.env.scope.rows.now (n + 1) (n + (row_at w.env.scope.rows.now n).size)))) (below-service (row_at w.env.scope.rows.now n) (k m)) (fit-parts t some).0.1;
       }
 
-pub kind-few : (w : Walk) {n : ℕ} → n < w.scope.nodes → {r : Row} → r ≡ row_at w.scope.rows.now n → r.kind < 27
-kind-few w h is = rw is (w.trees.nodes.row _ h).kind
+pub kind-few : (w : Walk) {n : ℕ} → n < w.env.scope.nodes → {r : Row} → r ≡ row_at w.env.scope.rows.now n → r.kind < 27
+kind-few w h is = rw is (w.env.trees.nodes.row _ h).kind
 
 -- ---- kinds 0 to 17
 abbrev prims : List Kind

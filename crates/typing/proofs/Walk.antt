@@ -78,33 +78,33 @@ pub table-ended : (count : ℕ) (o : Option (Bor (List ℕ))) → IfSome o (λ e
 table-ended count None h = no-ends count zero_table refl
 table-ended count (Some e) h = h
 
-abbrev methods-of : {w : Walk} {methods : Bool} {i until : ℕ} → TreesIn w methods i until → methods ≡ true → Trees w.scope.rows.now w.scope.roots.now (ends_of w.ends) i until
+abbrev methods-of : {w : Walk} {methods : Bool} {i until : ℕ} → TreesIn w methods i until → methods ≡ true → Trees w.env.scope.rows.now w.env.scope.roots.now (ends_of w.ends) i until
 methods-of {w} t m =
     record {
-      count = w.scope.nodes;
+      count = w.env.scope.nodes;
       place = Method;
-      walk = record { names = w.scope.names; nodes = w.trees.nodes; bound = w.scope.bound; ended = table-ended w.scope.nodes w.ends w.ended };
+      walk = record { names = w.env.scope.names; nodes = w.env.trees.nodes; bound = w.env.scope.bound; ended = table-ended w.env.scope.nodes w.ends w.ended };
       whole = t.whole;
       inside = t.inside;
       fits = t.methods_are m;
     }
 
 module _ {w : Walk} {methods : Bool} {i until : ℕ} (t : TreesIn w methods i until) (h : i < until) where
-  pub first : Opened w.scope.rows.now i until
+  pub first : Opened w.env.scope.rows.now i until
   first = opens t.whole h
 
-  pub rest-in : TreesIn w methods (i + (row_at w.scope.rows.now i).size) until
+  pub rest-in : TreesIn w methods (i + (row_at w.env.scope.rows.now i).size) until
   unfolding rest-trees
   rest-in = record { whole = first.rest; inside = t.inside; methods_are = λ m. (rest-trees (methods-of t m) h).fits }
 
   -- a method is tested where there is a table of alias ends
-  module _ {fits : Bool} (is : fits ≡ (is_none w.ends || end_is 23 w.scope.rows.now (ends_of w.ends) i)) (ds : List Definition) (e : WalkEnv w ds) where
+  module _ {fits : Bool} (is : fits ≡ (is_none w.ends || end_is 23 w.env.scope.rows.now (ends_of w.ends) i)) (ds : List Definition) (e : WalkEnv w ds) where
     abbrev method : Verdict
-    method = method_verdict (not (is_none w.ends) && methods) ds (node_of (row_at w.scope.rows.now i)) (siblings w.scope.rows.now (i + 1) (i + (row_at w.scope.rows.now i).size))
+    method = method_verdict (not (is_none w.ends) && methods) ds (node_of (row_at w.env.scope.rows.now i)) (siblings w.env.scope.rows.now (i + 1) (i + (row_at w.env.scope.rows.now i).size))
 
     method-is : (pre : Bool) → is_none w.ends ≡ pre → (tested : Bool) → methods ≡ tested →
-        method_verdict (not pre && tested) ds (node_of (row_at w.scope.rows.now i)) (siblings w.scope.rows.now (i + 1) (i + (row_at w.scope.rows.now i).size))
-        ≡ unless (not tested || fits) (MethodNoFunction (label_value (node_of (row_at w.scope.rows.now i)).label))
+        method_verdict (not pre && tested) ds (node_of (row_at w.env.scope.rows.now i)) (siblings w.env.scope.rows.now (i + 1) (i + (row_at w.env.scope.rows.now i).size))
+        ≡ unless (not tested || fits) (MethodNoFunction (label_value (node_of (row_at w.env.scope.rows.now i)).label))
     unfolding method_verdict
     method-is true p false m = refl
     method-is true p true m = rw (is, p) refl
@@ -112,7 +112,7 @@ module _ {w : Walk} {methods : Bool} {i until : ℕ} (t : TreesIn w methods i un
     method-is false p true m =
         rw (is, p, e.func p i (node-within first.here), tree-opens first.here) refl
 
-    pub method-stops : methods ≡ true → fits ≡ false → Err (MethodNoFunction (label_value (node_of (row_at w.scope.rows.now i)).label)) ≡ method
+    pub method-stops : methods ≡ true → fits ≡ false → Err (MethodNoFunction (label_value (node_of (row_at w.env.scope.rows.now i)).label)) ≡ method
     method-stops m f = sym (method-is (is_none w.ends) refl methods refl ∙ rw (m, f) refl)
 
     pub method-goes : (not methods || fits) ≡ true → method ≡ passes
@@ -120,50 +120,50 @@ module _ {w : Walk} {methods : Bool} {i until : ℕ} (t : TreesIn w methods i un
 
 -- ---- a walk that goes over the trees from node `from` up to node `until`
 pub record WalkLeft (w : Walk) (methods : Bool) (from until kids : ℕ) (s : Siblings) : Type 0 where
-  pub over : Over w.scope.rows.now until s
+  pub over : Over w.env.scope.rows.now until s
   pub trees : TreesIn w methods s.at until
   pub later : from ≤ s.at
   pub few : kids ≤ s.at
-  pub counted : kids + breadth (siblings w.scope.rows.now s.at until) ≡ breadth (siblings w.scope.rows.now from until)
-  pub same : Under w (λ pre ds. check_forest pre (not pre && methods) ds (siblings w.scope.rows.now s.at until) ≡ check_forest pre (not pre && methods) ds (siblings w.scope.rows.now from until))
+  pub counted : kids + breadth (siblings w.env.scope.rows.now s.at until) ≡ breadth (siblings w.env.scope.rows.now from until)
+  pub same : Under w (λ pre ds. check_forest pre (not pre && methods) ds (siblings w.env.scope.rows.now s.at until) ≡ check_forest pre (not pre && methods) ds (siblings w.env.scope.rows.now from until))
 
 -- what it says of all of them
 abbrev pub Said : Walk → Bool → ℕ → ℕ → Answer → Type 0
 Said w methods from until r =
-    Under w (λ pre ds. r ≡ so_many (check_forest pre (not pre && methods) ds (siblings w.scope.rows.now from until)) (breadth (siblings w.scope.rows.now from until)))
+    Under w (λ pre ds. r ≡ so_many (check_forest pre (not pre && methods) ds (siblings w.env.scope.rows.now from until)) (breadth (siblings w.env.scope.rows.now from until)))
 
 module _ {w : Walk} {methods : Bool} {from until kids : ℕ} {s : Siblings} (l : WalkLeft w methods from until kids s) where
   pub walk-end : {t : Siblings} → Walks s None t → Said w methods from until (Ok kids)
   walk-end x ds e =
       let h : until ≤ s.at = omega (arith, last l.over x) in
-      let n : kids ≡ breadth (siblings w.scope.rows.now from until) = omega (arith, breadth-none w.scope.rows.now s.at until h, l.counted) in
-      rw (← l.same ds e, check-none (is_none w.ends) (not (is_none w.ends) && methods) ds w.scope.rows.now s.at until h, n) refl
+      let n : kids ≡ breadth (siblings w.env.scope.rows.now from until) = omega (arith, breadth-none w.env.scope.rows.now s.at until h, l.counted) in
+      rw (← l.same ds e, check-none (is_none w.ends) (not (is_none w.ends) && methods) ds w.env.scope.rows.now s.at until h, n) refl
 
   module _ {n : ℕ} {node : Node} {t : Siblings} (x : NextTree s n node t) where
     h : s.at < until
     h = here l.over x
 
-    pub next-label : methods ≡ true → (node.label < 1024) × (node.label ≡ label_value (node_of (row_at w.scope.rows.now s.at)).label)
+    pub next-label : methods ≡ true → (node.label < 1024) × (node.label ≡ label_value (node_of (row_at w.env.scope.rows.now s.at)).label)
     next-label m =
         let q = method-label (methods-of l.trees m) h refl in
         let e = ap (λ (r : Row). r.label) (row l.over x) in
         (omega (arith, e, q.0), e ∙ sym q.1)
 
     abbrev after : Verdict → Verdict → Bool → List Definition → Verdict
-    after v m pre ds = and_then (and_then v m) (check_forest pre (not pre && methods) ds (siblings w.scope.rows.now (s.at + (row_at w.scope.rows.now s.at).size) until))
+    after v m pre ds = and_then (and_then v m) (check_forest pre (not pre && methods) ds (siblings w.env.scope.rows.now (s.at + (row_at w.env.scope.rows.now s.at).size) until))
 
-    opens-so : (v m : Verdict) (ds : List Definition) (e : WalkEnv w ds) → v ≡ type_verdict (is_none w.ends) ds w.scope.rows.now n →
-        m ≡ method_verdict (not (is_none w.ends) && methods) ds (node_of (row_at w.scope.rows.now s.at)) (siblings w.scope.rows.now (s.at + 1) (s.at + (row_at w.scope.rows.now s.at).size)) →
-        after v m (is_none w.ends) ds ≡ check_forest (is_none w.ends) (not (is_none w.ends) && methods) ds (siblings w.scope.rows.now from until)
+    opens-so : (v m : Verdict) (ds : List Definition) (e : WalkEnv w ds) → v ≡ type_verdict (is_none w.ends) ds w.env.scope.rows.now n →
+        m ≡ method_verdict (not (is_none w.ends) && methods) ds (node_of (row_at w.env.scope.rows.now s.at)) (siblings w.env.scope.rows.now (s.at + 1) (s.at + (row_at w.env.scope.rows.now s.at).size)) →
+        after v m (is_none w.ends) ds ≡ check_forest (is_none w.ends) (not (is_none w.ends) && methods) ds (siblings w.env.scope.rows.now from until)
     opens-so v m ds e p q =
         rw (p, x.place, q) refl ∙ sym (check-opens (is_none w.ends) (not (is_none w.ends) && methods) ds (first l.trees h)) ∙ l.same ds e
 
-    pub walk-stop : (r : Refusal) → Under w (λ pre ds. Err r ≡ type_verdict pre ds w.scope.rows.now n) → Said w methods from until (Err r)
+    pub walk-stop : (r : Refusal) → Under w (λ pre ds. Err r ≡ type_verdict pre ds w.env.scope.rows.now n) → Said w methods from until (Err r)
     walk-stop r is ds e = rw (← opens-so (Err r) _ ds e (is ds e) refl) refl
 
-    module _ (is : Under w (λ pre ds. passes ≡ type_verdict pre ds w.scope.rows.now n)) {fits : Bool} (f : fits ≡ (is_none w.ends || end_is 23 w.scope.rows.now (ends_of w.ends) n)) where
-      f' : fits ≡ (is_none w.ends || end_is 23 w.scope.rows.now (ends_of w.ends) s.at)
-      f' = f ∙ ap (λ (k : ℕ). is_none w.ends || end_is 23 w.scope.rows.now (ends_of w.ends) k) x.place
+    module _ (is : Under w (λ pre ds. passes ≡ type_verdict pre ds w.env.scope.rows.now n)) {fits : Bool} (f : fits ≡ (is_none w.ends || end_is 23 w.env.scope.rows.now (ends_of w.ends) n)) where
+      f' : fits ≡ (is_none w.ends || end_is 23 w.env.scope.rows.now (ends_of w.ends) s.at)
+      f' = f ∙ ap (λ (k : ℕ). is_none w.ends || end_is 23 w.env.scope.rows.now (ends_of w.ends) k) x.place
 
       pub walk-method : methods ≡ true → fits ≡ false → Said w methods from until (Err (MethodNoFunction node.label))
       walk-method m z ds e =

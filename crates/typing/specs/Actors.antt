@@ -7,4 +7,4 @@ use Rattle.typing.specs.declared.types.Walk.{Walk}
 
 -- The actor of the book that is walked, under these definitions.
 abbrev pub ActorOf : Walk → Interface → List Definition → Type 0
-ActorOf w i ds = ActorAs w.scope.rows.now w.scope.nodes ds (interface_tree w.scope.rows.now i) i
+ActorOf w i ds = ActorAs w.env.scope.rows.now w.env.scope.nodes ds (interface_tree w.env.scope.rows.now i) i

@@ -16,10 +16,10 @@ use Rattle.typing.specs.declared.types.Walk.{Walk}
 
 -- What a walk reads.
 pub record Reads (bs : List ℕ) (c : Contents) (roots : List ℕ) (ends : Option (Bor (List ℕ))) (w : Walk) : Type 0 where
-  pub rows-are : w.scope.rows.now ≡ nodes_part bs
-  pub names-are : w.scope.names ≡ c.names
-  pub nodes-are : w.scope.nodes ≡ c.nodes
-  pub roots-are : w.scope.roots.now ≡ roots
+  pub rows-are : w.env.scope.rows.now ≡ nodes_part bs
+  pub names-are : w.env.scope.names ≡ c.names
+  pub nodes-are : w.env.scope.nodes ≡ c.nodes
+  pub roots-are : w.env.scope.roots.now ≡ roots
   pub ends-are : w.ends ≡ ends
 
 -- The table of alias ends; one that has nothing while bodies are walked.
@@ -29,7 +29,7 @@ ends_of (Some e) = e.now
 
 -- The walk's tables are those of the definitions.
 abbrev pub WalkEnv : Walk → List Definition → Type 0
-WalkEnv w ds = Env w.scope.rows.now w.scope.roots.now (ends_of w.ends) (is_none w.ends) ds
+WalkEnv w ds = Env w.env.scope.rows.now w.env.scope.roots.now (ends_of w.ends) (is_none w.ends) ds
 
 -- What is said holds of every environment that the tables are of.
 abbrev pub Under : Walk → (Bool → List Definition → Type 0) → Type 0
@@ -37,9 +37,9 @@ Under w P = (ds : List Definition) → WalkEnv w ds → P (is_none w.ends) ds
 
 -- The nodes from `from` up to `until` are trees that stand beside each other in the book, and methods of a service where `methods` says so.
 pub record TreesIn (w : Walk) (methods : Bool) (from until : ℕ) : Type 0 where
-  pub whole : Whole w.scope.rows.now from until
-  pub inside : until ≤ w.scope.nodes
-  pub methods_are : methods ≡ true → T (forest_fits w.scope.names Method (siblings w.scope.rows.now from until))
+  pub whole : Whole w.env.scope.rows.now from until
+  pub inside : until ≤ w.env.scope.nodes
+  pub methods_are : methods ≡ true → T (forest_fits w.env.scope.names Method (siblings w.env.scope.rows.now from until))
 
 -- So many, where a verdict passes.
 abbrev pub so_many : Verdict → ℕ → Answer

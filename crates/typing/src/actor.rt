@@ -18,10 +18,10 @@ impl Walk<'_, '_> {
 
     // The children of a class, or another type.
     fn check_top(&self, n: usize) -> Verdict
-        requires { n < self.now.scope.nodes }
-        ensures { Under self.now (λ pre ds. result ≡ check_forest pre false ds (below_top (tree_at self.now.scope.rows.now n))) }
+        requires { n < self.now.env.scope.nodes }
+        ensures { Under self.now (λ pre ds. result ≡ check_forest pre false ds (below_top (tree_at self.now.env.scope.rows.now n))) }
     {
-        let t = Node::at(self.scope.rows, n);
+        let t = Node::at(self.env.scope.rows, n);
         if t.kind == Kind::Class as u8 {
             self.check_types(false, n + 1, n + t.size)?;
             return Ok(());
@@ -33,7 +33,7 @@ impl Walk<'_, '_> {
     fn check_merged(&self, interface: &Interface) -> Verdict
         requires { (ds : List Definition) × ActorOf self.now interface.now ds × IsMerged interface.now.actor }
         ensures { IsSome self.now.ends → Under self.now (λ pre ds. ActorOf self.now interface.now ds → IsMerged interface.now.actor →
-            result ≡ actor_verdict ds (interface_tree self.now.scope.rows.now interface.now)) }
+            result ≡ actor_verdict ds (interface_tree self.now.env.scope.rows.now interface.now)) }
     {
         self.check_types(false, interface.from, interface.until)?;
         for service in interface.services.as_slice() {
@@ -46,7 +46,7 @@ impl Walk<'_, '_> {
     pub(crate) fn check_actor(&self, interface: &Interface) -> Verdict
         requires { (ds : List Definition) × ActorOf self.now interface.now ds }
         ensures { IsSome self.now.ends → Under self.now (λ pre ds. ActorOf self.now interface.now ds →
-            result ≡ actor_verdict ds (interface_tree self.now.scope.rows.now interface.now)) }
+            result ≡ actor_verdict ds (interface_tree self.now.env.scope.rows.now interface.now)) }
     {
         match interface.actor {
             Actor::Absent => Ok(()),

@@ -57,7 +57,7 @@ impl<'a> Decs<'a> {
         let entries = self.book.definitions();
         (self.from..self.to).all(|d| {
             let root = Entry::at(entries, d).root as usize;
-            let size = Node::at(walk.scope.rows, root).size;
+            let size = Node::at(walk.env.scope.rows, root).size;
             walk.services_fit(false, root, root + size)
         })
     }

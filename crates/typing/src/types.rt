@@ -5,7 +5,6 @@ ghost use Rattle.format.specs.Forest.{breadth};
 ghost use Rattle.format.specs.Layout.{siblings};
 ghost use Rattle.judgement.specs.Check.{check_forest, methods_fit};
 ghost use Rattle.environment.specs.Tables.{Roots, EndNodes, end_is};
-ghost use Rattle.environment.specs.Trees.{AllTrees};
 ghost use Rattle.typing.specs.Props.{props};
 ghost use Rattle.typing.specs.Walk.{bound_verdict, value_verdict, type_verdict};
 
@@ -13,7 +12,7 @@ use book::admitted::AdmittedBook;
 use book::kinds::{Kind, Mode};
 use book::read::Node;
 use book::walks::Siblings;
-use environment::scope::Scope;
+use environment::scope::BookScope;
 use refusals::{Answer, Refusal, Verdict};
 
 // A function's modes: at most one, and oneway without results.
@@ -38,10 +37,9 @@ fn check_modes(value: u32, kids: usize) -> Verdict
 // is none of alias ends yet, and no method is tested for being a function.
 #[derive(Clone, Copy)]
 pub(crate) struct Walk<'b, 't> {
-    pub(crate) scope: Scope<'b, 't>,
+    pub(crate) env: BookScope<'b, 't>,
     pub(crate) ends: Option<&'t [u32]>,
-    ghost trees: { AllTrees scope.rows.now scope.names scope.nodes } by { Prim.hlevel props },
-    ghost ended: { IfSome ends (λ e. EndNodes e.now scope.nodes) } by { Prim.hlevel props },
+    ghost ended: { IfSome ends (λ e. EndNodes e.now env.scope.nodes) } by { Prim.hlevel props },
 }
 
 impl<'b, 't> Walk<'b, 't> {
@@ -58,7 +56,7 @@ impl<'b, 't> Walk<'b, 't> {
         ensures { Reads book.entry.bytes.now book.entry.contents roots.entry.now ends.entry result }
     {
         Walk {
-            scope: Scope::of(book, roots),
+            env: BookScope::of(book, roots),
             ends,
         }
     }
@@ -66,30 +64,30 @@ impl<'b, 't> Walk<'b, 't> {
     // A name has to have a definition.
     #[tactic(auto, unfolding(crate::specs::Walk::bound_verdict))]
     fn check_var(&self, v: u32) -> Verdict
-        requires { v < self.now.scope.names }
-        ensures { result ≡ bound_verdict v (get_or self.now.scope.roots.now v 65535) }
+        requires { v < self.now.env.scope.names }
+        ensures { result ≡ bound_verdict v (get_or self.now.env.scope.roots.now v 65535) }
     {
-        environment::root_of(self.scope.roots, v as usize)
+        environment::root_of(self.env.scope.roots, v as usize)
             .map(|_| ())
             .ok_or(Refusal::Unbound(v as u16))
     }
 
     // Whether a method may stand.
     fn method_fits(&self, n: usize) -> bool
-        requires { n < self.now.scope.nodes }
-        ensures { result ≡ (is_none self.now.ends || end_is 23 self.now.scope.rows.now (ends_of self.now.ends) n) }
+        requires { n < self.now.env.scope.nodes }
+        ensures { result ≡ (is_none self.now.ends || end_is 23 self.now.env.scope.rows.now (ends_of self.now.ends) n) }
     {
-        self.ends.is_none_or(|ends| environment::as_func(self.scope.rows, ends, n).is_ok())
+        self.ends.is_none_or(|ends| environment::as_func(self.env.scope.rows, ends, n).is_ok())
     }
 
     // The type at node n. Inlined, so that a level of nested types takes one frame of the stack.
     #[cycle(types)]
     #[inline(always)]
     pub(crate) fn check_type(&self, n: usize) -> Verdict
-        requires { n < self.now.scope.nodes }
-        ensures { Under self.now (λ pre ds. result ≡ type_verdict pre ds self.now.scope.rows.now n) }
+        requires { n < self.now.env.scope.nodes }
+        ensures { Under self.now (λ pre ds. result ≡ type_verdict pre ds self.now.env.scope.rows.now n) }
     {
-        let t = Node::at(self.scope.rows, n);
+        let t = Node::at(self.env.scope.rows, n);
         if t.kind < Kind::Var as u8 {
             return Ok(());
         }
@@ -113,10 +111,10 @@ impl<'b, 't> Walk<'b, 't> {
     pub(crate) fn check_types(&self, methods: bool, from: usize, until: usize) -> Answer
         requires { TreesIn self.now methods from until }
         ensures { Under self.now (λ pre ds.
-            result ≡ so_many (check_forest pre (not pre && methods) ds (siblings self.now.scope.rows.now from until)) (breadth (siblings self.now.scope.rows.now from until))) }
+            result ≡ so_many (check_forest pre (not pre && methods) ds (siblings self.now.env.scope.rows.now from until)) (breadth (siblings self.now.env.scope.rows.now from until))) }
     {
         let mut kids: usize = 0;
-        for (n, t) in Siblings::new(self.scope.rows, from, until) {
+        for (n, t) in Siblings::new(self.env.scope.rows, from, until) {
             self.check_type(n)?;
             if methods && !self.method_fits(n) {
                 return Err(Refusal::MethodNoFunction(t.label as u16));
@@ -130,9 +128,9 @@ impl<'b, 't> Walk<'b, 't> {
     // one function as in the definition, `methods_fit`.
     pub(crate) fn services_fit(&self, methods: bool, from: usize, until: usize) -> bool
         requires { TreesIn self.now false from until }
-        ensures { IsSome self.now.ends → Under self.now (λ pre ds. result ≡ methods_fit ds methods (siblings self.now.scope.rows.now from until)) }
+        ensures { IsSome self.now.ends → Under self.now (λ pre ds. result ≡ methods_fit ds methods (siblings self.now.env.scope.rows.now from until)) }
     {
-        for (n, t) in Siblings::new(self.scope.rows, from, until) {
+        for (n, t) in Siblings::new(self.env.scope.rows, from, until) {
             if methods && !self.method_fits(n) {
                 return false;
             }

@@ -47,28 +47,28 @@ use Rattle.typing.proofs.Walk.{Said, many-stops, many-pass, tree-verdict}
 use Rattle.typing.proofs.Fits.{some-not-none}
 
 -- ---- what is walked of an actor as written
-whole : (w : Walk) {n : ℕ} → n < w.scope.nodes → WholeAt w.scope.rows.now n
-whole w h = (w.trees.nodes.tree _ h).whole
+whole : (w : Walk) {n : ℕ} → n < w.env.scope.nodes → WholeAt w.env.scope.rows.now n
+whole w h = (w.env.trees.nodes.tree _ h).whole
 
-module _ (w : Walk) {n : ℕ} (h : n < w.scope.nodes) {r : Row} (is : r ≡ row_at w.scope.rows.now n) where
-  top-class : r.kind ≡ 25 → siblings w.scope.rows.now (n + 1) (n + r.size) ≡ below_top (tree_at w.scope.rows.now n)
+module _ (w : Walk) {n : ℕ} (h : n < w.env.scope.nodes) {r : Row} (is : r ≡ row_at w.env.scope.rows.now n) where
+  top-class : r.kind ≡ 25 → siblings w.env.scope.rows.now (n + 1) (n + r.size) ≡ below_top (tree_at w.env.scope.rows.now n)
   unfolding below_top
   top-class k =
-      ap (λ (q : Row). siblings w.scope.rows.now (n + 1) (n + q.size)) is ∙ sym (tree-kids (whole w h))
+      ap (λ (q : Row). siblings w.env.scope.rows.now (n + 1) (n + q.size)) is ∙ sym (tree-kids (whole w h))
       ∙ rw (tree-class (whole w h), ap (λ (q : Row). q.kind) (sym is) ∙ k)
 
   module _ (k : r.kind ≡ 25) where
-    pub top-stop : {x : Refusal} → Said w false (n + 1) (n + r.size) (Err x) → Under w (λ pre ds. Err x ≡ check_forest pre false ds (below_top (tree_at w.scope.rows.now n)))
+    pub top-stop : {x : Refusal} → Said w false (n + 1) (n + r.size) (Err x) → Under w (λ pre ds. Err x ≡ check_forest pre false ds (below_top (tree_at w.env.scope.rows.now n)))
     top-stop s ds e = rw (and-false (not (is_none w.ends)), top-class k) at (sym (many-stops _ _ (sym (s ds e))))
 
-    pub top-end : {j : ℕ} → Said w false (n + 1) (n + r.size) (Ok j) → Under w (λ pre ds. passes ≡ check_forest pre false ds (below_top (tree_at w.scope.rows.now n)))
+    pub top-end : {j : ℕ} → Said w false (n + 1) (n + r.size) (Ok j) → Under w (λ pre ds. passes ≡ check_forest pre false ds (below_top (tree_at w.env.scope.rows.now n)))
     top-end s ds e = rw (and-false (not (is_none w.ends)), top-class k) at (sym (many-pass _ _ (sym (s ds e))).0)
 
-  pub top-other : (r.kind ≡ 25 → ⊥) → {v : Verdict} → Under w (λ pre ds. v ≡ type_verdict pre ds w.scope.rows.now n) → Under w (λ pre ds. v ≡ check_forest pre false ds (below_top (tree_at w.scope.rows.now n)))
+  pub top-other : (r.kind ≡ 25 → ⊥) → {v : Verdict} → Under w (λ pre ds. v ≡ type_verdict pre ds w.env.scope.rows.now n) → Under w (λ pre ds. v ≡ check_forest pre false ds (below_top (tree_at w.env.scope.rows.now n)))
   unfolding below_top
   top-other k u ds e =
       u ds e ∙ tree-verdict (is_none w.ends) ds (whole w h)
-      ∙ ap (check_forest (is_none w.ends) false ds) (rw (tree-class (whole w h), ne_eqb (row_at w.scope.rows.now n).kind 25 (λ e. k (ap (λ (q : Row). q.kind) is ∙ e))) refl)
+      ∙ ap (check_forest (is_none w.ends) false ds) (rw (tree-class (whole w h), ne_eqb (row_at w.env.scope.rows.now n).kind 25 (λ e. k (ap (λ (q : Row). q.kind) is ∙ e))) refl)
 
 -- ---- trees beside each other
 check-beside : (pre tested : Bool) (ds : List Definition) (f g : Forest Node) → check_forest pre tested ds (beside f g) ≡ and_then (check_forest pre tested ds f) (check_forest pre tested ds g)
@@ -107,101 +107,101 @@ module _ (ds : List Definition) (methods : Forest Node) where
 -- ---- the loop over services
 abbrev pub MergedLeft : Walk → List ℕ → ℕ → Type 0
 MergedLeft w services k =
-    Under w (λ pre ds. check_forest false true ds (methods_in w.scope.rows.now (drop k services)) ≡ check_forest false true ds (methods_in w.scope.rows.now services))
+    Under w (λ pre ds. check_forest false true ds (methods_in w.env.scope.rows.now (drop k services)) ≡ check_forest false true ds (methods_in w.env.scope.rows.now services))
 
 -- what is said of an actor merged from services
 abbrev pub SaidOf : Walk → Interface → Verdict → Type 0
-SaidOf w i v = IsSome w.ends → Under w (λ pre ds. ActorOf w i ds → IsMerged i.actor → v ≡ actor_verdict ds (interface_tree w.scope.rows.now i))
+SaidOf w i v = IsSome w.ends → Under w (λ pre ds. ActorOf w i ds → IsMerged i.actor → v ≡ actor_verdict ds (interface_tree w.env.scope.rows.now i))
 
 module _ (w : Walk) (i : Interface) where
   -- where the arguments have the verdict v and the methods the verdict u
   merged-is : {ds : List Definition} → ActorOf w i ds → IsMerged i.actor → (v u : Verdict) →
-      v ≡ check_forest false false ds (siblings w.scope.rows.now i.from i.until) → u ≡ check_forest false true ds (methods_in w.scope.rows.now i.services) →
-      and_then v u ≡ actor_verdict ds (interface_tree w.scope.rows.now i)
+      v ≡ check_forest false false ds (siblings w.env.scope.rows.now i.from i.until) → u ≡ check_forest false true ds (methods_in w.env.scope.rows.now i.services) →
+      and_then v u ≡ actor_verdict ds (interface_tree w.env.scope.rows.now i)
   unfolding actor_tree
   merged-is {ds} a m v u p q =
-      rw (p, q, a.arguments.are ∙ tree-arguments w.scope.rows.now i.services m.1)
-      (merged-verdict ds (methods_in w.scope.rows.now i.services) (tree_of w.scope.rows.now m.0) ∙ ap (actor_verdict ds) (rw m.1 refl))
+      rw (p, q, a.arguments.are ∙ tree-arguments w.env.scope.rows.now i.services m.1)
+      (merged-verdict ds (methods_in w.env.scope.rows.now i.services) (tree_of w.env.scope.rows.now m.0) ∙ ap (actor_verdict ds) (rw m.1 refl))
 
   pub arguments-stop : {x : Refusal} → Said w false i.from i.until (Err x) → SaidOf w i (Err x)
   arguments-stop {x} s q ds e a m =
       merged-is a m (Err x) _ (rw (and-false (not (is_none w.ends)), some-not-none w.ends q) at (sym (many-stops _ _ (sym (s ds e))))) refl
 
   module _ {j : ℕ} (s : Said w false i.from i.until (Ok j)) where
-    arguments-pass : IsSome w.ends → Under w (λ pre ds. passes ≡ check_forest false false ds (siblings w.scope.rows.now i.from i.until))
+    arguments-pass : IsSome w.ends → Under w (λ pre ds. passes ≡ check_forest false false ds (siblings w.env.scope.rows.now i.from i.until))
     arguments-pass q ds e = rw (and-false (not (is_none w.ends)), some-not-none w.ends q) at (sym (many-pass _ _ (sym (s ds e))).0)
 
     pub merged-end : {services : List ℕ} → services ≡ i.services → {k : ℕ} → length services ≤ k → (IsSome w.ends → MergedLeft w services k) → SaidOf w i passes
     unfolding methods_in check_forest
     merged-end {services} z {k} h l q ds e a m =
-        let f = λ (l : List ℕ). check_forest false true ds (methods_in w.scope.rows.now l) in
+        let f = λ (l : List ℕ). check_forest false true ds (methods_in w.env.scope.rows.now l) in
         merged-is a m passes passes (arguments-pass q ds e) (sym (at_drop_all f services k h) ∙ l q ds e ∙ ap f z)
 
     module _ {services : List ℕ} (z : services ≡ i.services) {k : ℕ} (h : k < length services) (l : IsSome w.ends → MergedLeft w services k) {ds' : List Definition} (a' : ActorOf w i ds') where
-      service : IsService w.scope.rows.now w.scope.nodes (get_or services k 0)
-      service = All-get_or (IsService w.scope.rows.now w.scope.nodes) services k 0 h (rw z a'.nodes.service)
+      service : IsService w.env.scope.rows.now w.env.scope.nodes (get_or services k 0)
+      service = All-get_or (IsService w.env.scope.rows.now w.env.scope.nodes) services k 0 h (rw z a'.nodes.service)
 
-      merged-opens : {v : Verdict} → Under w (λ pre ds. v ≡ type_verdict pre ds w.scope.rows.now (get_or services k 0)) → IsSome w.ends →
-          Under w (λ pre ds. and_then v (check_forest false true ds (methods_in w.scope.rows.now (drop (k + 1) services))) ≡ check_forest false true ds (methods_in w.scope.rows.now services))
+      merged-opens : {v : Verdict} → Under w (λ pre ds. v ≡ type_verdict pre ds w.env.scope.rows.now (get_or services k 0)) → IsSome w.ends →
+          Under w (λ pre ds. and_then v (check_forest false true ds (methods_in w.env.scope.rows.now (drop (k + 1) services))) ≡ check_forest false true ds (methods_in w.env.scope.rows.now services))
       unfolding methods_in
       merged-opens {v} u q ds e =
           let n : ℕ = get_or services k 0 in
-          let f = λ (l : List ℕ). check_forest false true ds (methods_in w.scope.rows.now l) in
-          let is : v ≡ check_forest false true ds (kids_of (tree_at w.scope.rows.now n)) =
-          (rw (some-not-none w.ends q) at (u ds e)) ∙ sym (at-service false ds w.scope.rows.now n (row_at w.scope.rows.now n) refl service.1)
+          let f = λ (l : List ℕ). check_forest false true ds (methods_in w.env.scope.rows.now l) in
+          let is : v ≡ check_forest false true ds (kids_of (tree_at w.env.scope.rows.now n)) =
+          (rw (some-not-none w.ends q) at (u ds e)) ∙ sym (at-service false ds w.env.scope.rows.now n (row_at w.env.scope.rows.now n) refl service.1)
           ∙ ap (check_forest false true ds) (sym (tree-kids (whole w service.0))) in
           ap (λ (u : Verdict). and_then u (f (drop (k + 1) services))) is
-          ∙ sym (check-beside false true ds (kids_of (tree_at w.scope.rows.now n)) (methods_in w.scope.rows.now (drop (k + 1) services)))
+          ∙ sym (check-beside false true ds (kids_of (tree_at w.env.scope.rows.now n)) (methods_in w.env.scope.rows.now (drop (k + 1) services)))
           ∙ sym (at_drop_more f services k 0 h) ∙ l q ds e
 
-      pub merged-stop : {x : Refusal} → Under w (λ pre ds. Err x ≡ type_verdict pre ds w.scope.rows.now (get_or services k 0)) → SaidOf w i (Err x)
+      pub merged-stop : {x : Refusal} → Under w (λ pre ds. Err x ≡ type_verdict pre ds w.env.scope.rows.now (get_or services k 0)) → SaidOf w i (Err x)
       merged-stop {x} u q ds e a m =
-          merged-is a m passes (Err x) (arguments-pass q ds e) (merged-opens u q ds e ∙ ap (λ (l : List ℕ). check_forest false true ds (methods_in w.scope.rows.now l)) z)
+          merged-is a m passes (Err x) (arguments-pass q ds e) (merged-opens u q ds e ∙ ap (λ (l : List ℕ). check_forest false true ds (methods_in w.env.scope.rows.now l)) z)
 
-      pub merged-on : Under w (λ pre ds. passes ≡ type_verdict pre ds w.scope.rows.now (get_or services k 0)) → IsSome w.ends → MergedLeft w services (k + 1)
+      pub merged-on : Under w (λ pre ds. passes ≡ type_verdict pre ds w.env.scope.rows.now (get_or services k 0)) → IsSome w.ends → MergedLeft w services (k + 1)
       merged-on u = merged-opens u
 
   -- ---- none, and an actor as written
-  pub no-actor : (ds : List Definition) → i.actor ≡ Absent → passes ≡ actor_verdict ds (interface_tree w.scope.rows.now i)
+  pub no-actor : (ds : List Definition) → i.actor ≡ Absent → passes ≡ actor_verdict ds (interface_tree w.env.scope.rows.now i)
   unfolding actor_verdict no_trees actor_tree
   no-actor ds m = rw m refl
 
   module _ {root : ℕ} (m : i.actor ≡ Written root) {ds : List Definition} (a : ActorOf w i ds) where
-    tree-some : interface_tree w.scope.rows.now i ≡ tree_at w.scope.rows.now root
+    tree-some : interface_tree w.env.scope.rows.now i ≡ tree_at w.env.scope.rows.now root
     unfolding actor_tree
     tree-some = rw m refl
 
-    pub root-inside : root < w.scope.nodes
+    pub root-inside : root < w.env.scope.nodes
     unfolding main_of
     root-inside = rw m at a.nodes.main
 
-    tree-is : no_trees (tree_at w.scope.rows.now root) ≡ false
+    tree-is : no_trees (tree_at w.env.scope.rows.now root) ≡ false
     unfolding no_trees
     tree-is = rw (tree-opens (whole w root-inside))
 
     module _ (q : IsSome w.ends) (e : WalkEnv w ds) where
-      written : {v : Verdict} → Under w (λ pre ds. v ≡ check_forest pre false ds (below_top (tree_at w.scope.rows.now root))) → (b : Bool) → b ≡ as_service ds (below_class (tree_at w.scope.rows.now root)) →
-          and_then v (unless b NoService) ≡ actor_verdict ds (interface_tree w.scope.rows.now i)
+      written : {v : Verdict} → Under w (λ pre ds. v ≡ check_forest pre false ds (below_top (tree_at w.env.scope.rows.now root))) → (b : Bool) → b ≡ as_service ds (below_class (tree_at w.env.scope.rows.now root)) →
+          and_then v (unless b NoService) ≡ actor_verdict ds (interface_tree w.env.scope.rows.now i)
       unfolding actor_verdict below_top
       written u b s = rw (tree-some, tree-is, s, rw (some-not-none w.ends q) at (u ds e)) refl
 
       -- 10 is a look at the number of services
-      served : length i.services ≡ cond (as_service ds (below_class (tree_at w.scope.rows.now root))) 1 0
+      served : length i.services ≡ cond (as_service ds (below_class (tree_at w.env.scope.rows.now root))) 1 0
       served = a.served root m ∙ ap (λ (u : Forest Node). cond (as_service ds (below_class u)) 1 0) tree-some
 
-      pub written-stop : {x : Refusal} → Under w (λ pre ds. Err x ≡ check_forest pre false ds (below_top (tree_at w.scope.rows.now root))) → Err x ≡ actor_verdict ds (interface_tree w.scope.rows.now i)
+      pub written-stop : {x : Refusal} → Under w (λ pre ds. Err x ≡ check_forest pre false ds (below_top (tree_at w.env.scope.rows.now root))) → Err x ≡ actor_verdict ds (interface_tree w.env.scope.rows.now i)
       written-stop u = written u _ refl
 
-      module _ (u : Under w (λ pre ds. passes ≡ check_forest pre false ds (below_top (tree_at w.scope.rows.now root)))) where
-        pub no-service : length i.services ≡ 0 → Err NoService ≡ actor_verdict ds (interface_tree w.scope.rows.now i)
-        no-service z = written u false (sym (go (as_service ds (below_class (tree_at w.scope.rows.now root))) served))
+      module _ (u : Under w (λ pre ds. passes ≡ check_forest pre false ds (below_top (tree_at w.env.scope.rows.now root)))) where
+        pub no-service : length i.services ≡ 0 → Err NoService ≡ actor_verdict ds (interface_tree w.env.scope.rows.now i)
+        no-service z = written u false (sym (go (as_service ds (below_class (tree_at w.env.scope.rows.now root))) served))
           where
             go : (b : Bool) → length i.services ≡ cond b 1 0 → b ≡ false
             go true e = absurd (let f : ⊥ = omega (arith, e, z) in f)
             go false e = refl
 
-        pub some-service : (length i.services ≡ 0 → ⊥) → passes ≡ actor_verdict ds (interface_tree w.scope.rows.now i)
-        some-service z = written u true (sym (go (as_service ds (below_class (tree_at w.scope.rows.now root))) served))
+        pub some-service : (length i.services ≡ 0 → ⊥) → passes ≡ actor_verdict ds (interface_tree w.env.scope.rows.now i)
+        some-service z = written u true (sym (go (as_service ds (below_class (tree_at w.env.scope.rows.now root))) served))
           where
             go : (b : Bool) → length i.services ≡ cond b 1 0 → b ≡ true
             go true e = refl

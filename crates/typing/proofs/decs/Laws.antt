@@ -107,7 +107,7 @@ module _ (d : Decs) where
       env-pre = rw (r.rows-are, r.roots-are, r.ends-are) (record { binds = binds; func = λ e. absurd (true≢false e) })
 
       module _ {k : ℕ} (b : d.from ≤ k) (h : k < d.to) {e : Entry} (is : e ≡ entry_at es k) (left : bodies_verdict ds (definitions_in ns es k d.to) ≡ bodies_verdict ds ds)
-          {v : Verdict} (u : Under w (λ pre ds. v ≡ type_verdict pre ds w.scope.rows.now e.root)) where
+          {v : Verdict} (u : Under w (λ pre ds. v ≡ type_verdict pre ds w.env.scope.rows.now e.root)) where
         body-says : v ≡ check_forest true false ds (tree_at ns (entry_at es k).root)
         body-says =
             (rw (r.rows-are, r.ends-are) at (u ds env-pre)) ∙ tree-verdict true ds (body-in b h is).whole
@@ -118,10 +118,10 @@ module _ (d : Decs) where
         bodies-here = rw body-says (sym (ap (bodies_verdict ds) (definitions-cons ns es h))) ∙ left
 
       module _ {k : ℕ} (b : d.from ≤ k) (h : k < d.to) {e : Entry} (is : e ≡ entry_at es k) (left : bodies_verdict ds (definitions_in ns es k d.to) ≡ bodies_verdict ds ds) where
-        pub bodies-stop : {x : Refusal} → Under w (λ pre ds. Err x ≡ type_verdict pre ds w.scope.rows.now e.root) → Err x ≡ bodies_verdict ds ds
+        pub bodies-stop : {x : Refusal} → Under w (λ pre ds. Err x ≡ type_verdict pre ds w.env.scope.rows.now e.root) → Err x ≡ bodies_verdict ds ds
         bodies-stop u = bodies-here b h is left u
 
-        pub bodies-on : Under w (λ pre ds. passes ≡ type_verdict pre ds w.scope.rows.now e.root) → bodies_verdict ds (definitions_in ns es (k + 1) d.to) ≡ bodies_verdict ds ds
+        pub bodies-on : Under w (λ pre ds. passes ≡ type_verdict pre ds w.env.scope.rows.now e.root) → bodies_verdict ds (definitions_in ns es (k + 1) d.to) ≡ bodies_verdict ds ds
         bodies-on u = bodies-here b h is left u
 
     pub bodies-end : {k : ℕ} → d.to ≤ k → bodies_verdict ds (definitions_in ns es k d.to) ≡ bodies_verdict ds ds → passes ≡ bodies_verdict ds ds
@@ -143,7 +143,7 @@ module _ (d : Decs) where
         env-ends = rw (r.rows-are, r.roots-are, r.ends-are, same) checked.env
 
         abbrev pub Says : Bool → ℕ → Type 0
-        Says b k = IsSome w.ends → Under w (λ pre ds. b ≡ methods_fit ds false (siblings w.scope.rows.now (entry_at es k).root ((entry_at es k).root + (row_at w.scope.rows.now (entry_at es k).root).size)))
+        Says b k = IsSome w.ends → Under w (λ pre ds. b ≡ methods_fit ds false (siblings w.env.scope.rows.now (entry_at es k).root ((entry_at es k).root + (row_at w.env.scope.rows.now (entry_at es k).root).size)))
 
         abbrev fit-at : ℕ → Bool
         fit-at k = methods_fit ds false (tree_at ns (entry_at es k).root)

@@ -160,7 +160,7 @@ module _ {bs : List ℕ} {c : Contents} (a : Admitted bs c) where
         pub actor-of : ActorOf w i ds
         actor-of = rw (q.rows-are, q.nodes-are) (subst (λ (t : Forest Node). ActorAs (nodes_part bs) c.nodes ds t i) (sym actor-as.tree) actor-as)
 
-        module _ {v : Verdict} (said : IsSome w.ends → Under w (λ pre ds. ActorOf w i ds → v ≡ actor_verdict ds (interface_tree w.scope.rows.now i))) where
+        module _ {v : Verdict} (said : IsSome w.ends → Under w (λ pre ds. ActorOf w i ds → v ≡ actor_verdict ds (interface_tree w.env.scope.rows.now i))) where
           walked-is : v ≡ actor_verdict ds (resolve_actor a.book)
           walked-is = (rw q.rows-are at (said (rw q.ends-are refl) ds walk-env actor-of)) ∙ ap (actor_verdict ds) actor-as.tree
 
@@ -168,10 +168,10 @@ module _ {bs : List ℕ} {c : Contents} (a : Admitted bs c) where
           unfolding resolve_actor
           check-is = walked-is ∙ sym (past-decs ∙ rw (← y.verdict) refl)
 
-        pub actor-refused : {y' : Refusal} → (IsSome w.ends → Under w (λ pre ds. ActorOf w i ds → Err y' ≡ actor_verdict ds (interface_tree w.scope.rows.now i))) → ActorFoundAs a roots ends' (Err y')
+        pub actor-refused : {y' : Refusal} → (IsSome w.ends → Under w (λ pre ds. ActorOf w i ds → Err y' ≡ actor_verdict ds (interface_tree w.env.scope.rows.now i))) → ActorFoundAs a roots ends' (Err y')
         actor-refused said = record { verdict = check-is said; passed = tt }
 
-        pub prog-passed : (IsSome w.ends → Under w (λ pre ds. ActorOf w i ds → passes ≡ actor_verdict ds (interface_tree w.scope.rows.now i))) →
+        pub prog-passed : (IsSome w.ends → Under w (λ pre ds. ActorOf w i ds → passes ≡ actor_verdict ds (interface_tree w.env.scope.rows.now i))) →
             ActorFoundAs a roots ends' (Ok (record { main = main; interface = i }))
         prog-passed said =
             record {

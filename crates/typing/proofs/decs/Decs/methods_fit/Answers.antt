@@ -37,7 +37,7 @@ returns c =
     let d = c.args.self in
     let w = c.new-walk.result in
     let es = c.definitions-entries.result.now in
-    let rows = w.scope.rows.now in
+    let rows = w.env.scope.rows.now in
     fits-all d c.requires.0 c.requires.1 refl c.new-walk.ensures c.all.result
     (rw c.definitions-entries.ensures at
     (cases_from_all _ _ c.all.result

@@ -23,7 +23,7 @@ check_type-returns-then-t-3 t c = λ ds e. at-class _ ds _ _ _ c.at-t.ensures c.
 pub check_type-check_types-requires : goal.check_type-check_types-requires
 check_type-check_types-requires t c =
     let s = ap (λ (q : Row). q.size) c.at-t.ensures in
-    (omega (arith, s, (c.args.self.now.trees.nodes.tree _ c.requires).whole.one), rw s (kids-in c.requires _ (λ m. sym (ap (λ (q : Row). q.kind) c.at-t.ensures) ∙ eqb→eq _ _ (rw m tt))))
+    (omega (arith, s, (c.args.self.now.env.trees.nodes.tree _ c.requires).whole.one), rw s (kids-in c.requires _ (λ m. sym (ap (λ (q : Row). q.kind) c.at-t.ensures) ∙ eqb→eq _ _ (rw m tt))))
 
 pub check_type-returns-in_err-kids : goal.check_type-returns-in_err-kids
 check_type-returns-in_err-kids t c =
