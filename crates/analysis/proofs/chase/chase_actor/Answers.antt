@@ -1,10 +1,9 @@
 -- `chase_actor` meets its contract: the services that are left lead where all of them do. Assumes nothing.
-use mathlib.Core.Path.{refl, ap}
+use mathlib.Core.Path.{refl}
 use Rattle.std.proofs.Common.{◌≡◌, Err, rules}
-use Rattle.format.specs.Encode.{Row}
 use Rattle.syntax.specs.Interfaces.{main_of}
-use Rattle.analysis.proofs.BookNodes.{rooted, here-whole, kids-readable}
-use Rattle.analysis.proofs.chase.Actor.{MergedAs, actor-absent, actor-written, service-in, arguments-stop, services-started, services-on, services-stop, services-over}
+use Rattle.analysis.proofs.BookNodes.{rooted, here-whole}
+use Rattle.analysis.proofs.chase.Actor.{MergedAs, actor-absent, actor-written, service-in, arguments-stop, services-on, services-stop, services-over}
 use Rattle.analysis.proofs.chase.chase_actor.Goals as goal
 
 pub returns-in-Absent : goal.returns-in-Absent
@@ -25,12 +24,6 @@ returns-in_err-walk c =
     let m : MergedAs c.args.interface c.args.interface.services = record { merged = (_, c.in-Merged.is); are = refl } in
     let e : c.from_residual.result ≡ Err c.in_err-walk.field-0.0 = search rules in
     rw e (arguments-stop c.requires.1 m (c.requires.0.arguments m.merged).are _ c.in_err-walk.ensures)
-
-pub chase-requires : goal.chase-requires
-chase-requires c =
-    let l = c.loop-s.invariant in
-    let r = kids-readable (rooted c.args.book) (service-in c.requires.1 l c.loop-s-test.true c.requires.0) (ap (λ (q : Row). q.size) c.at-t.ensures) in
-    (r.whole, r.inside, services-started c.requires.1 l)
 
 pub returns-in_err-walk-2 : goal.returns-in_err-walk-2
 returns-in_err-walk-2 c =

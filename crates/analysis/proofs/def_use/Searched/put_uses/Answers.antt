@@ -1,17 +1,9 @@
 -- `Searched::put_uses` meets its contract. Assumes nothing.
 use mathlib.Core.Path.{◌∙◌}
-use native.Mathlib.Omega.{arith}
 use Rattle.std.proofs.Common.{rules}
 use Rattle.analysis.specs.Entries.{Offered}
-use Rattle.analysis.proofs.def_use.Methods.{offered-ended, services-on, uses-end}
+use Rattle.analysis.proofs.def_use.Methods.{services-on, uses-end}
 use Rattle.analysis.proofs.def_use.Searched.put_uses.Goals as goal
-
-pub put_methods-m-requires : goal.put_methods-m-requires
-put_methods-m-requires c =
-    let a = c.args in
-    let o : Offered a.self.now.rows.now a.self.now.ends.now a.self.now.near.now a.offer.now.from a.offer.now.until c.as_slice-s-items.result.now = rw c.as_slice-s-items.ensures.all c.requires in
-    let l = c.loop-s.invariant.left in
-    (offered-ended o c.loop-s-test.true, omega (arith, l.position, o.few, c.loop-s-test.true), omega (arith, l.few, o.few, c.loop-s-test.true, c.put_trees.ensures.most.few, o.arguments.within.held, o.arguments.within.few))
 
 pub loop-s-preserved : goal.loop-s-preserved
 loop-s-preserved c =
