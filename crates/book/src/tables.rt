@@ -12,7 +12,7 @@ use format::Limits;
 // A number for each of the 1,024 names: where it begins, or a link, one more than a place, 0 for none.
 pub type ByName = [u16; Limits::NAMES];
 
-// A flag for each of the 1,024 names: 1 where it is set. A byte, since inhabitants keeps its marks so, and hands them over as flags.
+// A flag for each of the 1,024 names: 1 where it is set. A byte and no `bool`, which would ask more of who calls `analysis::names_of`: it takes any.
 pub type Flags = [u8; Limits::NAMES];
 
 // A label number for each of the 1,024 names.
