@@ -2,7 +2,6 @@
 use Prim.Native.Nat.{◌<◌}
 use mathlib.Core.Path.{◌∙◌}
 use native.Mathlib.Omega.{arith}
-use Rattle.environment.proofs.ChainEnds.{served-until}
 use Rattle.book.proofs.Walking.{here, last, over-next}
 use Rattle.analysis.proofs.def_use.Methods.{methods-few, end-whole-at, methods-on, methods-counted, methods-puts}
 use Rattle.analysis.proofs.def_use.Searched.put_methods.Goals as goal
@@ -12,7 +11,7 @@ put_end-requires c =
     let p = c.requires in
     let l = c.loop-i.invariant in
     let x = c.in-Some.ensures.steps in
-    let inside : c.in-Some.i < p.0.count = omega (arith, served-until p.0, here l.over x, x.place) in
+    let inside : c.in-Some.i < p.0.count = omega (arith, (p.0.nodes.tree _ p.0.inside).ends, here l.over x, x.place) in
     (end-whole-at p.0 inside c.end_of-end.ensures.node-is, omega (arith, p.2, l.left.few, methods-few l.left, here l.over x))
 
 pub loop-i-preserved : goal.loop-i-preserved
@@ -32,4 +31,4 @@ pub returns-clause-adds : goal.returns-clause-adds
 returns-clause-adds c =
     let l = c.loop-i.invariant in
     let end = last l.over c.in-None.ensures.steps in
-    λ x. methods-puts l.left (omega arith) x (served-until x.ended)
+    λ x. methods-puts l.left (omega arith) x (x.ended.nodes.tree _ x.ended.inside).ends
