@@ -1,8 +1,7 @@
 // The names that become empty: `is_empty` and `replace_empty` of type_env.rs. The marks of a walk are lent to it.
 // What an admitted book gives is in a scope.
-ghost use Rattle.std.specs.Prelude.{◌≡◌, suc, ◌+◌, ◌<◌, ◌≤◌, length};
-ghost use Rattle.format.specs.Layout.{row_at, siblings};
-ghost use Rattle.format.specs.Whole.{Within};
+ghost use Rattle.std.specs.Prelude.{◌≡◌, suc, ◌<◌};
+ghost use Rattle.format.specs.Layout.{siblings};
 ghost use Rattle.book.specs.Reading.{as_row};
 ghost use Rattle.listing.specs.Empty.{visit_fields, is_empty};
 ghost use Rattle.inhabitants.specs.Empty.{TypesOf, open_row, MarkEach, NextAs, Stacked, all_empty, InScope, new_marks, VisitedOf, is_settled, EmptiedAs};

@@ -80,8 +80,8 @@ fn print_passed(book: &CheckedBook, text: &mut Text) -> Verdict
     Ok(())
 }
 
-// The same of any bytes, which are admitted and checked once for both questions. The `?` is written out: Rattle has no rule yet for one whose value
-// holds a reference beside a list with a model (c).
+// The same of any bytes, which are admitted and checked once for both questions. The `?` is written out: the borrow checker has no rule yet for one
+// on a `CheckedBook`, which holds references, facts and a list with a model.
 fn print_answers(book: &[u8], text: &mut Text) -> Verdict
     ensures { Prints book.now text.old text.new result }
 {
