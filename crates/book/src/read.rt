@@ -26,7 +26,7 @@ pub(crate) fn word(bytes: &[u8], at: usize) -> u32
     u32::from_le_bytes([bytes[at], bytes[at + 1], bytes[at + 2], bytes[at + 3]])
 }
 
-// A stored node. Kind and label kind are the bytes that are stored, no Kind and LabelKind: the layout reads nodes of which it has yet to find out
+// A stored node. Kind and label kind are the bytes that are stored, not a Kind and a LabelKind: the layout reads nodes of which it has yet to find out
 // whether those bytes are any. Code compares them with `Kind::Var as u8` and its like.
 #[derive(Clone, Copy, PartialEq, Eq, Debug)]
 pub struct Node {

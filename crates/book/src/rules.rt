@@ -162,7 +162,8 @@ pub(crate) fn names_fine(bytes: &[u8], count: usize) -> bool
     seen == count
 }
 
-// Whether a file may have this role: main first, init arguments last. `main` and `last` say where the file stands; each file takes the same steps.
+// Whether a file may have this role: main first, init arguments last. `main` and `last` say where the file stands; each file takes the same
+// steps. They are two, as in `good_role`: one file may be first and last.
 #[tactic(auto, unfolding(format::specs::Rules::good_role))]
 fn role_fine(main: bool, last: bool, role: u16) -> bool
     ensures { result ≡ good_role main last role }

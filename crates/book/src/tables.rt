@@ -25,7 +25,8 @@ pub fn name_hashes(book: AdmittedBook) -> HashByName
     hashes_of(book.names(), book.contents.names)
 }
 
-// The label number of each of the `count` names that bytes are, in one pass over them. The bytes may be of no book.
+// The label number of each of the `count` names that bytes are, in one pass over them. The bytes may be of no book; `count` is a number of the
+// contract.
 pub fn hashes_of(names: &[u8], count: usize) -> HashByName
     requires { NamesIn names.now count }
     ensures { HashesOf result (names_of (length names.now) names.now) }

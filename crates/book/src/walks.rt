@@ -1,4 +1,4 @@
-// What stands side by side in a book, one after another: trees, entries, names.
+// What stands side by side in a book, one after another: trees, entries, names; and what waits while a walk is in the definition of a name.
 ghost use Rattle.format.specs.Whole.{Whole};
 ghost use Rattle.book.specs.Reading.{EntryWithin};
 ghost use Rattle.book.specs.Props.{Whole-prop, EntryWithin-prop};

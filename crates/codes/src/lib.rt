@@ -8,7 +8,7 @@ ghost use Rattle.codes.specs.Coded.{coded, low_of, coded_by, coded_answer, coded
 
 use refusals::{AliasAnswer, Answer, Refusal, Verdict};
 
-// A refusal's number stands above what it tells: a name's number, or the entries needed. The C interface asks for one number, so no enum comes here.
+// A refusal's number stands above what it tells: a name's number, or the entries needed. The C interface asks for one number, so this is no enum.
 const BELOW: u64 = 65536;
 
 // There may be more uses.
@@ -38,7 +38,8 @@ fn low(why: Refusal) -> u32
     }
 }
 
-// An answer as one number, where entries that are given or needed are below UNIT, and a refusal's number stands above.
+// An answer as one number, where entries that are given or needed are below UNIT, and a refusal's number stands above. That they are is asked here and
+// by the two of this that C has: a type of such answers would ask more of who has an Answer.
 #[tactic(auto, unfolding(crate::specs::Coded::coded_by))]
 fn by_unit<const UNIT: u64>(a: Answer) -> u64
     requires names { 65536 ≤ UNIT }

@@ -69,7 +69,7 @@ fn by_tree<const N: usize>(keys: &[u32]) -> Option<usize>
     ensures { MatchOption result (Distinct keys.now) (λ r. FirstDuplicate keys.now r) }
 {
     let mut links = [0; N];
-    // No find: its closure would change the links, and so have to have what meet asks and says written at it once more.
+    // No `find`: its closure would change the links, and what `meet` asks and says would have to be written at it once more.
     for n in 1..keys.len() {
         if meet(keys, &mut links, n) {
             return Some(n);

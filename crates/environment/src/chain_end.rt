@@ -1,7 +1,7 @@
 // What a table of alias ends has for a name, in one number: CROSSED for each name crossed, and how far the node at which the chain ends is below
 // 65,535; or NONE or OPEN. So a table that has nothing is 0 throughout, which is made fastest.
-// No enum: none, open, or a node and a count take 6 bytes for these 4, in a table 2 KiB more. No newtype: sums and differences by CROSSED (`follow`,
-// `note`), `fill`, and the definitions (`end_in`, `crossed_in`) would each take it off.
+// No enum: none, open, or a node and a count take 6 bytes for these 4, in a table 2 KiB more. No newtype: tables are lent as numbers, and a narrower
+// type would ask more of who has them; sums and differences by CROSSED (`follow`, `note`) would take it off besides.
 ghost use Rattle.std.specs.Prelude.{◌≡◌, ◌+◌, ◌-◌, ◌/◌, ◌<◌};
 ghost use Rattle.environment.specs.Tables.{end_of};
 

@@ -138,7 +138,8 @@ fn look_up(rows: &[u8], ends: &[u32], node: usize, kind: u8) -> Lookup
     if found { Ok(reached) } else { Err(reached) }
 }
 
-// Whether the chain from a node ends at a function: `as_func`, by the table of alias ends. It and `as_service`, which differ by the kind, are names of type_env.rs.
+// Whether the chain from a node ends at a function: `as_func`, by the table of alias ends. It and `as_service`, which differ by the kind, are names of
+// type_env.rs.
 pub fn as_func(rows: &[u8], ends: &[u32], node: usize) -> Lookup
     requires { Ended rows.now ends.now node }
     ensures { LookupAs 23 rows.now ends.now node result }

@@ -53,7 +53,8 @@ impl<'a> Comparison<'a> {
         }
     }
 
-    // Whether two nodes at a place are the same but for what is below them. A derived comparison would compare their sizes too.
+    // Whether two nodes at a place are the same but for what is below them. A derived comparison would tell the name of a field from the number that it
+    // stands for.
     fn same_node(self, place: Place, a: Node, b: Node) -> bool
         requires { RowFits 1024 (as_row a) × RowFits 1024 (as_row b) }
         ensures { ByNames self.entry.hashes.now (λ names. result ≡ same_node names place (node_of (as_row a)) (node_of (as_row b))) }

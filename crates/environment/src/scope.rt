@@ -12,7 +12,7 @@ use book::read::Node;
 use refusals::{Refusal, Verdict};
 
 // The nodes of an admitted book, and for each of its names the root of the definition, where it has one. Two lifetimes: tables are lent for less
-// long than the book.
+// time than the book.
 #[derive(Clone, Copy)]
 pub struct Scope<'b, 't> {
     pub rows: &'b [u8],
@@ -93,7 +93,7 @@ impl<'b, 't> Scope<'b, 't> {
             result.crossed ≡ length (chain_from left ds (tree_at self.entry.rows.now node)).crossed }
         ensures few { result.crossed ≤ left }
     {
-        // Counted by hand: the name that would be one too many has to have a definition before it ends the chain.
+        // Counted by hand: after a `for` over `left` names one more would have to be looked at, which makes a circle only if it has a definition.
         let mut at = node;
         let mut next = self.var_at(node);
         let mut crossed = 0;

@@ -20,7 +20,8 @@ pub struct Names<'a> {
 }
 
 impl Names<'_> {
-    // The label number of name n, hashed when it is first asked for.
+    // The label number of name n, hashed when it is first asked for. That the book stays is said of each change, here and in Search: a field can't say
+    // what a change leaves.
     fn hash(&mut self, n: usize) -> u32
         requires { n < 1024 }
         ensures same_book { self.new.index.book.bytes.now ≡ self.old.index.book.bytes.now }
