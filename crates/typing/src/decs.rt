@@ -4,7 +4,8 @@ ghost use Rattle.std.specs.Prelude.{◌≤◌};
 use crate::tables::Tables;
 use crate::types::Walk;
 use book::admitted::AdmittedBook;
-use book::read::{Entry, Node};
+use book::read::Node;
+use book::walks::Entries;
 use environment::scope::Scope;
 use refusals::{Refusal, Verdict};
 
@@ -21,7 +22,9 @@ pub(crate) struct Decs<'a> {
 impl<'a> Decs<'a> {
     ghost use Rattle.std.specs.Prelude.{◌≡◌};
     ghost use Rattle.judgement.specs.Check.{bodies_verdict, bodies_fit};
+    ghost use Rattle.format.specs.Layout.{definitions_part};
     ghost use Rattle.book.specs.Tables.{zero_table};
+    ghost use Rattle.book.specs.Walks.{OverEntries};
     ghost use Rattle.typing.specs.Tables.{IsBlank};
     ghost use Rattle.typing.specs.Decs.{definitions_of, Defined, EndsFound, EnteredOf, DecsOf};
 
@@ -35,15 +38,21 @@ impl<'a> Decs<'a> {
         Decs { book, from, to }
     }
 
+    fn entries(self) -> Entries<'a>
+        ensures over { OverEntries (definitions_part self.entry.book.bytes.now) self.entry.to result }
+        ensures at { result.at ≡ self.entry.from }
+    {
+        Entries::new(self.book.definitions(), self.from, self.to)
+    }
+
     // 3 to 6: the bodies, in order, of definitions that are in the table.
     fn check_bodies(self, roots: &[u16]) -> Verdict
         requires { Defined self roots.now }
         ensures { result ≡ bodies_verdict (definitions_of self.entry) (definitions_of self.entry) }
     {
         let walk = Walk::new(self.book, roots, None);
-        let entries = self.book.definitions();
-        for d in self.from..self.to {
-            walk.check_type(Entry::at(entries, d).root as usize)?;
+        for e in self.entries() {
+            walk.check_type(e.root as usize)?;
         }
         Ok(())
     }
@@ -54,9 +63,8 @@ impl<'a> Decs<'a> {
         ensures { result ≡ bodies_fit (definitions_of self.entry) (definitions_of self.entry) }
     {
         let walk = Walk::new(self.book, &tables.roots, Some(&tables.ends));
-        let entries = self.book.definitions();
-        (self.from..self.to).all(|d| {
-            let root = Entry::at(entries, d).root as usize;
+        self.entries().all(|e| {
+            let root = e.root as usize;
             let size = Node::at(walk.env.scope.rows, root).size;
             walk.services_fit(false, root, root + size)
         })

@@ -14,6 +14,7 @@ use crate::tables::Tables;
 use crate::types::Walk;
 use book::admitted::AdmittedBook;
 use book::read::{Entry, Node};
+use book::walks::Entries;
 use environment::chain_end;
 use environment::scope::Scope;
 use format::Limits;
@@ -55,8 +56,8 @@ fn merged_count(entries: &[u8], init: &[u16], count: usize, main: usize) -> usiz
     ensures { (ns : List ℕ) → result ≡ count + length (lacked init.now (definitions_in ns entries.now 0 main)) }
 {
     count
-        + (0..main)
-            .filter(|d| environment::root_of(init, Entry::at(entries, *d).name as usize).is_none())
+        + Entries::new(entries, 0, main)
+            .filter(|e| environment::root_of(init, e.name as usize).is_none())
             .count()
 }
 

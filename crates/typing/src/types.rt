@@ -126,6 +126,8 @@ impl<'b, 't> Walk<'b, 't> {
 
     // Whether each method of each service in the trees from node `from` up to node `until`, which may be `methods`, is a function:
     // one function as in the definition, `methods_fit`.
+    // From and until, as in `check_types`: that the trees are the book's own is asked besides. A loop, since the closure of an `all` would call this
+    // function again, and so would need clauses of its own in the source, which are longer than the loop.
     pub(crate) fn services_fit(&self, methods: bool, from: usize, until: usize) -> bool
         requires { TreesIn self.now false from until }
         ensures { IsSome self.now.ends → Under self.now (λ pre ds. result ≡ methods_fit ds methods (siblings self.now.env.scope.rows.now from until)) }

@@ -3,18 +3,16 @@
 --     bodies-stop, bodies-on, ..       the loop over their bodies
 --     fits-stop, fits-on, ..           the loop over their methods
 --     decs-body, decs-circle, ..       the verdict
-use mathlib.Core.Path.{◌≡◌, refl, sym, ap, subst, ◌∙◌}
+use mathlib.Core.Path.{◌≡◌, refl, sym, ap, ap₂, ◌∙◌}
 use mathlib.Core.Bool.{Bool, true, false, true≢false, false≢true, ◌&&◌, and-false}
 use mathlib.Core.List.{List, [], ◌∷◌, map}
 use Prim.Native.Nat.{ℕ, zero, suc, ◌+◌, ◌-◌, ◌≤◌, ◌<◌}
 use native.Mathlib.Omega.{arith}
-use native.Mathlib.Decide.{ℕ_discrete}
-use lib.ListN.{length}
+use lib.ListN.{length, get_or}
 use Rattle.std.specs.Prelude.{None, Some, IsSome, Ok, Err}
 use Rattle.std.specs.Bool.{MatchBool}
-use Rattle.std.specs.List.{range_with_len, AllWithin, HoldsAt}
+use Rattle.std.specs.List.{AllWithin, HoldsAt}
 use Rattle.std.specs.Result.{is_err}
-use Rattle.std.proofs.lemmas.List.FromFn.{length-range_with_len, get_or-range_with_len}
 use denote.Bor.{Bor}
 use Rattle.format.specs.Book.{Definition}
 use Rattle.format.specs.Encode.{Entry}
@@ -66,6 +64,9 @@ module _ (d : Decs) where
   pub entries : Entries es d.book.contents.names d.book.contents.nodes d.from d.to
   entries = entries-of admitted d.ordered d.within
 
+  pub entries-within : EntryWithin es d.to
+  entries-within = record { held = omega (arith, (entries-held admitted).held, d.within); few = (entries-held admitted).few }
+
   pub nodes : Nodes ns d.book.contents.names d.book.contents.nodes
   nodes = (all-trees admitted).nodes
 
@@ -77,9 +78,6 @@ module _ (d : Decs) where
 
   -- entry k, and the tree of its body
   module _ {k : ℕ} (b : d.from ≤ k) (h : k < d.to) where
-    pub entry-within : EntryWithin es (k + 1)
-    entry-within = record { held = omega (arith, (entries-held admitted).held, d.within); few = (entries-held admitted).few }
-
     module _ {e : Entry} (is : e ≡ entry_at es k) where
       pub body-inside : e.root < d.book.contents.nodes
       body-inside = rw is (entries.root k b h)
@@ -142,44 +140,31 @@ module _ (d : Decs) where
         env-ends : WalkEnv w ds
         env-ends = rw (r.rows-are, r.roots-are, r.ends-are, same) checked.env
 
-        abbrev pub Says : Bool → ℕ → Type 0
-        Says b k = IsSome w.ends → Under w (λ pre ds. b ≡ methods_fit ds false (siblings w.env.scope.rows.now (entry_at es k).root ((entry_at es k).root + (row_at w.env.scope.rows.now (entry_at es k).root).size)))
+        -- what is said of the body of an entry
+        abbrev pub Says : Bool → Entry → Type 0
+        Says b e = IsSome w.ends → Under w (λ pre ds. b ≡ methods_fit ds false (siblings w.env.scope.rows.now e.root (e.root + (row_at w.env.scope.rows.now e.root).size)))
 
-        abbrev fit-at : ℕ → Bool
-        fit-at k = methods_fit ds false (tree_at ns (entry_at es k).root)
+        abbrev pub fit-at : Entry → Bool
+        fit-at e = methods_fit ds false (tree_at ns e.root)
 
-        says-fit : (b : Bool) (k : ℕ) → Says b k → b ≡ fit-at k
-        says-fit b k u = rw r.rows-are at (u (rw r.ends-are refl) ds env-ends)
+        says-fit : (b : Bool) (e : Entry) → Says b e → b ≡ fit-at e
+        says-fit b e u = rw r.rows-are at (u (rw r.ends-are refl) ds env-ends)
 
-        all-fit : (k n : ℕ) → ((i : ℕ) → k ≤ i → i < k + n → true ≡ fit-at i) → true ≡ bodies_fit ds (map (definition_at ns) (run (entry_at es) k n))
+        all-fit : (xs : List Entry) → AllWithin (λ e. true ≡ fit-at e) xs 0 (length xs) → true ≡ bodies_fit ds (map (definition_at ns) xs)
         unfolding bodies_fit
-        all-fit k zero h = rw (run-none (entry_at es) k) refl
-        all-fit k (suc n) h = rw (run-cons (entry_at es) k n, ← h k (omega arith) (omega arith)) (all-fit (k + 1) n (λ i a l. h i (omega arith) (omega arith)))
+        all-fit [] h = refl
+        all-fit (x ∷ xs) h = ap₂ ◌&&◌ (h 0 x (omega arith) (omega arith)) (all-fit xs (λ k e a l. h (suc k) e (omega arith) (omega arith)))
 
-        one-not : (k n i : ℕ) → k ≤ i → i < k + n → false ≡ fit-at i → false ≡ bodies_fit ds (map (definition_at ns) (run (entry_at es) k n))
+        one-not : (xs : List Entry) (k : ℕ) → k < length xs → HoldsAt (λ e. false ≡ fit-at e) xs k → false ≡ bodies_fit ds (map (definition_at ns) xs)
         unfolding bodies_fit
-        one-not k zero i a l f = absurd (omega arith)
-        one-not k (suc n) i a l f = rw (run-cons (entry_at es) k n) (go (ℕ_discrete i k) (λ e. one-not (k + 1) n i (omega (arith, a, e)) (omega arith) f))
-          where
-            rest : Bool
-            rest = bodies_fit ds (map (definition_at ns) (run (entry_at es) (k + 1) n))
+        one-not [] k l f = absurd (omega arith)
+        one-not (x ∷ xs) zero l f = ap (λ b. b && bodies_fit ds (map (definition_at ns) xs)) (f x)
+        one-not (x ∷ xs) (suc k) l f = sym (and-false (fit-at x)) ∙ ap (λ b. fit-at x && b) (one-not xs k (omega arith) f)
 
-            go : Dec (i ≡ k) → ((i ≡ k → ⊥) → false ≡ rest) → false ≡ fit-at k && rest
-            go (yes e) h = ap (λ b. b && rest) (f ∙ ap fit-at e)
-            go (no e) h = sym (and-false (fit-at k)) ∙ ap (λ b. fit-at k && b) (h e)
-
-        pub fits-all : (fit : Bool) → MatchBool fit (AllWithin (Says true) (range_with_len d.from (d.to - d.from)) 0 (length (range_with_len d.from (d.to - d.from))))
-            ((k : ℕ) × (k < length (range_with_len d.from (d.to - d.from))) × HoldsAt (Says false) (range_with_len d.from (d.to - d.from)) k) → fit ≡ bodies_fit ds ds
-        fits-all true z =
-            all-fit d.from (d.to - d.from)
-            (λ i a l.
-            says-fit true i
-            (subst (Says true) (get_or-range_with_len d.from (d.to - d.from) (i - d.from) 0 (omega arith) ∙ omega arith)
-            (z (i - d.from) 0 (omega arith) (omega (arith, length-range_with_len d.from (d.to - d.from))))))
-        fits-all false z =
-            let l : z.0 < d.to - d.from = omega (arith, z.1, length-range_with_len d.from (d.to - d.from)) in
-            one-not d.from (d.to - d.from) (d.from + z.0) (omega arith) (omega (arith, l))
-            (says-fit false (d.from + z.0) (subst (Says false) (get_or-range_with_len d.from (d.to - d.from) z.0 0 l) (z.2 0)))
+        pub fits-all : (fit : Bool) → MatchBool fit (AllWithin (Says true) (run (entry_at es) d.from (d.to - d.from)) 0 (length (run (entry_at es) d.from (d.to - d.from))))
+            ((k : ℕ) × (k < length (run (entry_at es) d.from (d.to - d.from))) × HoldsAt (Says false) (run (entry_at es) d.from (d.to - d.from)) k) → fit ≡ bodies_fit ds ds
+        fits-all true z = all-fit _ (λ k e a l. says-fit true (get_or (run (entry_at es) d.from (d.to - d.from)) k e) (z k e a l))
+        fits-all false z = one-not _ z.0 z.1 (λ e. says-fit false (get_or (run (entry_at es) d.from (d.to - d.from)) z.0 e) (z.2 e))
 
     -- ---- the verdict
     refuse : {x : Refusal} → Err x ≡ decs_verdict d.book.contents.names ds → {ends' : List ℕ} → EnteredOf d (Err x) roots ends'

@@ -2,7 +2,7 @@
 use mathlib.Core.Path.{◌≡◌, refl, sym, ap, ap₂, subst, ◌∙◌}
 use mathlib.Core.Bool.{Bool, true, false, cond, false≢true}
 use mathlib.Core.List.{List, [], ◌∷◌, map}
-use Prim.Native.Nat.{ℕ, zero, suc, ◌+◌, ◌-◌, ◌≤◌, ◌<◌}
+use Prim.Native.Nat.{ℕ, suc, ◌+◌, ◌-◌, ◌≤◌, ◌<◌}
 use native.Mathlib.Nat.{sub-zero}
 use native.Mathlib.Omega.{arith}
 use native.Mathlib.Decide.{dec_lt, ℕ_discrete}
@@ -15,7 +15,7 @@ use Rattle.format.specs.Book.{Definition, Book, trees}
 use Rattle.format.specs.Encode.{Row, Entry}
 use Rattle.format.specs.Layout.{run, row_at, entry_at, nodes_part, definitions_part, files_part, siblings, read}
 use Rattle.format.specs.Whole.{tree_at, definition_at}
-use Rattle.format.proofs.Lists.{all-of, run-none, run-cons}
+use Rattle.format.proofs.Lists.{all-of}
 use Rattle.format.proofs.Rows.{nothing, siblings-none, kids-whole}
 use Rattle.format.proofs.Stored.{actor-some}
 use Rattle.format.proofs.Admitted.{definition-stored}
@@ -24,7 +24,6 @@ use Rattle.book.specs.declared.kinds.Contents.{Contents}
 use denote.Bor.{Bor}
 use Rattle.std.specs.Prelude.{Option, Some, None, IfSome, IfNone, filter, Result, Ok, Err, IfOk}
 use Rattle.std.specs.Option.{is_none}
-use Rattle.std.specs.List.{range_with_len}
 use Rattle.std.specs.Result.{is_err}
 use Rattle.refusals.specs.declared.Refusal.{Refusal}
 use Rattle.book.specs.Reading.{EntryWithin, Admitted}
@@ -62,18 +61,18 @@ use Rattle.book.proofs.Opened.{names-count, nodes-count, definitions-count, file
 use Rattle.typing.proofs.prog.Laws.{definitions-passed}
 
 -- ---- The definitions of main that init lacks, counted
-abbrev pub is-lacked : List ℕ → List ℕ → ℕ → Bool
-is-lacked init es d = eqb (get_or init (entry_at es d).name 65535) 65535
+abbrev pub is-lacked : List ℕ → Entry → Bool
+is-lacked init e = eqb (get_or init e.name 65535) 65535
 
-pub lacked-counted : (init es ns : List ℕ) (main : ℕ) → length (filter (is-lacked init es) (range_with_len 0 main)) ≡ length (lacked init (definitions_in ns es 0 main))
+pub lacked-counted : (init es ns : List ℕ) (main : ℕ) → length (filter (is-lacked init) (run (entry_at es) 0 main)) ≡ length (lacked init (definitions_in ns es 0 main))
 unfolding lacked keep
-lacked-counted init es ns main = rw (sub-zero main) (go 0 main)
+lacked-counted init es ns main = rw (sub-zero main) (go (run (entry_at es) 0 main))
   where
-    go : (k n : ℕ) → length (filter (is-lacked init es) (range_with_len k n)) ≡ length (lacked init (map (definition_at ns) (run (entry_at es) k n)))
-    go k zero = rw (run-none (entry_at es) k) refl
-    go k (suc n) = rw (run-cons (entry_at es) k n) (one (is-lacked init es k) _ _ _ (go (k + 1) n))
+    go : (xs : List Entry) → length (filter (is-lacked init) xs) ≡ length (lacked init (map (definition_at ns) xs))
+    go [] = refl
+    go (x ∷ xs) = one (is-lacked init x) _ _ _ (go xs)
       where
-        one : (b : Bool) (xs : List ℕ) (d : Definition) (ds : List Definition) → length xs ≡ length ds → length (cond b (k ∷ xs) xs) ≡ length (cond b (d ∷ ds) ds)
+        one : (b : Bool) (xs : List Entry) (d : Definition) (ds : List Definition) → length xs ≡ length ds → length (cond b (x ∷ xs) xs) ≡ length (cond b (d ∷ ds) ds)
         one true xs d ds e = ap suc e
         one false xs d ds e = e
 

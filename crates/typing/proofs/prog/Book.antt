@@ -1,14 +1,12 @@
 -- What an admitted book gives that passed the check, for callers. Assumes nothing.
 --     fits, few, tabled          what the book gives by its bytes, and the tables of it
 --     no-actor, some-actor        17
-use mathlib.Core.Path.{◌≡◌, sym, ap, ◌∙◌}
+use mathlib.Core.Path.{◌≡◌, sym, ◌∙◌}
 use mathlib.Core.Bool.{Bool, true, false}
 use mathlib.Core.List.{List}
 use Prim.Native.Nat.{ℕ, ◌≤◌}
 use native.Mathlib.Omega.{arith}
-use lib.ListN.{length}
-use Rattle.format.specs.Forest.{end, count}
-use Rattle.format.specs.Book.{trees}
+use Rattle.format.specs.Forest.{end}
 use Rattle.format.specs.Fits.{Fits}
 use Rattle.format.specs.Layout.{nodes_part}
 use Rattle.format.proofs.Theorems.{found}

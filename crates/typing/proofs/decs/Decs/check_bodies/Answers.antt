@@ -1,22 +1,38 @@
 -- `check_bodies` meets its contract: the bodies that are left give the verdict. Assumes nothing.
+use mathlib.Core.Path.{refl}
+use native.Mathlib.Omega.{arith}
+use Rattle.book.proofs.Walking.{entry-left, entry-is, entry-next, entry-last}
 use Rattle.refusals.proofs.Handing.{handed-on}
-use Rattle.typing.proofs.decs.Laws.{entry-within, body-inside, bodies-stop, bodies-on, bodies-end}
+use Rattle.typing.proofs.decs.Laws.{body-inside, bodies-stop, bodies-on, bodies-end}
 use Rattle.typing.proofs.decs.Decs.check_bodies.Goals as goal
 
-pub at-requires : goal.at-requires
-at-requires c = rw c.definitions-entries.ensures (entry-within c.args.self c.loop-d.auto.d c.loop-d-test.true)
+pub loop-e-init : goal.loop-e-init
+loop-e-init c =
+    let n = c.entries-e-items.ensures in
+    rw c.into_iter-e-iterator.ensures.into_iter_gives (record { walk = n.over; from = omega (arith, n.at); left = rw n.at refl })
 
 pub check_type-requires : goal.check_type-requires
-check_type-requires c = rw c.new-walk.ensures.nodes-are (body-inside c.args.self c.loop-d.auto.d c.loop-d-test.true (rw c.definitions-entries.ensures at c.at.ensures))
+check_type-requires c =
+    let l = c.loop-e.invariant in
+    let x = c.in-Some.ensures.steps in
+    rw c.new-walk.ensures.nodes-are (body-inside c.args.self l.from (entry-left l.walk x) (entry-is l.walk x))
 
 pub returns-in_err-check_type : goal.returns-in_err-check_type
 returns-in_err-check_type c =
+    let l = c.loop-e.invariant in
+    let x = c.in-Some.ensures.steps in
     rw (handed-on c.from_residual.result c.from_residual.ensures)
-    (bodies-stop c.args.self c.requires c.new-walk.ensures c.loop-d.auto.d c.loop-d-test.true (rw c.definitions-entries.ensures at c.at.ensures) c.loop-d.invariant c.in_err-check_type.ensures)
+    (bodies-stop c.args.self c.requires c.new-walk.ensures l.from (entry-left l.walk x) (entry-is l.walk x) l.left c.in_err-check_type.ensures)
 
-pub loop-d-preserved : goal.loop-d-preserved
-loop-d-preserved c =
-    bodies-on c.args.self c.requires c.new-walk.ensures c.loop-d.auto.d c.loop-d-test.true (rw c.definitions-entries.ensures at c.at.ensures) c.loop-d.invariant c.in_ok-check_type.ensures
+pub loop-e-preserved : goal.loop-e-preserved
+loop-e-preserved c =
+    let l = c.loop-e.invariant in
+    let x = c.in-Some.ensures.steps in
+    record {
+      walk = entry-next l.walk x;
+      from = omega (arith, l.from, x.at);
+      left = rw x.at (bodies-on c.args.self c.requires c.new-walk.ensures l.from (entry-left l.walk x) (entry-is l.walk x) l.left c.in_ok-check_type.ensures);
+    }
 
 pub returns : goal.returns
-returns c = bodies-end c.args.self c.requires c.loop-d-test.false c.loop-d.invariant
+returns c = let l = c.loop-e.invariant in bodies-end c.args.self c.requires (entry-last l.walk c.in-None.ensures.steps) l.left
