@@ -10,12 +10,9 @@ use Rattle.refusals.proofs.Handing.{handed-on}
 use Rattle.typing.proofs.init.Laws.{arguments-stop, arguments-end}
 use Rattle.typing.proofs.init.check_arguments.Goals as goal
 
-pub find_ends-requires : goal.find_ends-requires
+pub find_ends-requires-clause-ends : goal.find_ends-requires-clause-ends
 unfolding zero_table
-find_ends-requires c =
-    let s = c.requires.seen.1 in
-    let o = c.of-scope.ensures in
-    record { ends = refl; defined = rw (o.rows, o.roots) (_, (s.binds, s.counted)); few = omega (arith, s.few) }
+find_ends-requires-clause-ends c = refl
 
 pub at-requires : goal.at-requires
 at-requires c = rw c.of-scope.ensures.rows (node-within ((all-trees (book-of _ _ c.args.book.laid)).nodes.tree _ c.requires.inside).whole)

@@ -14,9 +14,6 @@ pub returns-then-init-book : goal.returns-then-init-book
 returns-then-init-book c = λ y. let x = y.book in init-none x.admitted (sym c.init_file-init.ensures ∙ c.if-init-book.true) x.passed c.new-own.ensures.roots c.merged.ensures
 
 -- With one: its own definitions, the merge and the arguments.
-pub check_own-requires : goal.check_own-requires
-check_own-requires c = record { within = c.requires.0.book.passed.split.within; empty = c.new-own.ensures }
-
 pub returns-in_err-check_own : goal.returns-in_err-check_own
 returns-in_err-check_own c =
     rw (handed-on c.from_residual.result c.from_residual.ensures)

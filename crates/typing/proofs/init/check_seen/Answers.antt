@@ -2,9 +2,6 @@
 use Rattle.typing.proofs.init.Laws.{main-entries, few-own, init-held, root-inside, both-table, init-seen, arguments-seen}
 use Rattle.typing.proofs.init.check_seen.Goals as goal
 
-pub overflow_sub-own_count : goal.overflow_sub-own_count
-overflow_sub-own_count c = c.requires.2.split.within
-
 pub merged_count-count-requires : goal.merged_count-count-requires
 merged_count-count-requires c =
     let p = c.requires in let x = p.1.book in let o = p.2 in let m = main-entries x.admitted o.file o.split in

@@ -1,15 +1,9 @@
 -- `check_bodies` meets its contract: the bodies that are left give the verdict. Assumes nothing.
-use mathlib.Core.Path.{refl}
 use native.Mathlib.Omega.{arith}
 use Rattle.book.proofs.Walking.{entry-left, entry-is, entry-next, entry-last}
 use Rattle.refusals.proofs.Handing.{handed-on}
 use Rattle.typing.proofs.decs.Laws.{body-inside, bodies-stop, bodies-on, bodies-end}
 use Rattle.typing.proofs.decs.Decs.check_bodies.Goals as goal
-
-pub loop-e-init : goal.loop-e-init
-loop-e-init c =
-    let n = c.entries-e-items.ensures in
-    rw c.into_iter-e-iterator.ensures.into_iter_gives (record { walk = n.over; from = omega (arith, n.at); left = rw n.at refl })
 
 pub check_type-requires : goal.check_type-requires
 check_type-requires c =

@@ -21,11 +21,6 @@ returns-in_err-find_ends c =
     rw (handed-on c.from_residual-in_err-find_ends.result c.from_residual-in_err-find_ends.ensures)
     (decs-circle c.args.self c.requires.defined c.in_ok-check_bodies.ensures (rw (o.rows, o.roots, o.names, o.nodes) at c.in_err-find_ends.ensures))
 
-pub methods_fit-requires : goal.methods_fit-requires
-methods_fit-requires c =
-    let o = c.of-scope.ensures in
-    (c.requires.defined, rw (o.rows, o.roots, o.names, o.nodes) at c.in_ok-find_ends.ensures)
-
 pub returns-then-methods_fit : goal.returns-then-methods_fit
 returns-then-methods_fit c =
     let o = c.of-scope.ensures in

@@ -1,14 +1,10 @@
 -- `Walk::check_merged` meets its contract: the services that are left give the verdict. Assumes nothing.
-use mathlib.Core.Path.{refl}
 use Rattle.refusals.proofs.Handing.{handed-on}
 use Rattle.typing.proofs.actor.Laws.{arguments-stop, merged-stop, merged-on, merged-end}
 use Rattle.typing.proofs.types.Walk.check_merged.Goals as goal
 
 pub returns-in_err-check_types : goal.returns-in_err-check_types
 returns-in_err-check_types c = rw (handed-on c.from_residual.result c.from_residual.ensures) (arguments-stop c.args.self.now c.args.interface.now c.in_err-check_types.ensures)
-
-pub loop-service-init : goal.loop-service-init
-loop-service-init c = λ q ds e. refl
 
 pub returns-in_err-check_type : goal.returns-in_err-check_type
 returns-in_err-check_type c =
