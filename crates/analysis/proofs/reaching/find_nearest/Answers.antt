@@ -8,6 +8,3 @@ find_nearest_in-requires c = (
   c.requires.1,
   c.requires.2,
 )
-
-pub returns : goal.returns
-returns c = rw (c.nodes.ensures, c.definitions.ensures) at c.find_nearest_in.ensures

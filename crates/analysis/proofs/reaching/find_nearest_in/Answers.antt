@@ -17,21 +17,6 @@ pub link-requires : goal.link-requires
 unfolding zero_table
 link-requires c = refl
 
-pub reaching-flags-requires : goal.reaching-flags-requires
-reaching-flags-requires c = (
-  record {
-    rows = _;
-    entries = _;
-    names = _;
-    nodes = _;
-    definitions = _;
-    book = c.requires.0.1;
-    owned = c.owners.ensures;
-    links = c.link.ensures.0;
-  },
-  c.requires.1,
-)
-
 pub returns : goal.returns
 returns c =
     let p = c.requires in
