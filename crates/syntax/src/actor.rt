@@ -105,8 +105,7 @@ impl Resolver<'_, '_> {
     {
         let table = self.book.files();
         let mut services = main;
-        let numbers = imports.as_slice();
-        for f in numbers {
+        for f in imports.as_slice() {
             let e = Entry::at(table, *f as usize);
             let other = Refusal::ImportNoService(e.name);
             let service = self.chase_service(e.root as usize, other).found?;

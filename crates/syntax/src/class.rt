@@ -16,16 +16,12 @@ pub struct Top {
     pub below: usize,
 }
 
-// The last of these trees, of which there is one at least: `Iterator::last` would say so again, by an Option.
+// The last of these trees, of which there is one at least.
 fn last_child(trees: Siblings) -> usize
     requires { trees.at < trees.until }
     ensures { LastAs trees.entry.rows.now trees.entry.at trees.entry.until result }
 {
-    let mut last = trees.at;
-    for (n, _) in trees {
-        last = n;
-    }
-    last
+    trees.last().map_or(trees.at, |(n, _)| n)
 }
 
 // The top of an actor whose root is this node.

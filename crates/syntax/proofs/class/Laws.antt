@@ -2,12 +2,15 @@
 --     LastLeft                                     the loop of `last_child`
 --     kids-some, ends-before                       what `top_of` asks
 --     top-other, top-class                         what it finds
-use mathlib.Core.Path.{◌≡◌, refl, sym, ap, ◌∙◌}
+use mathlib.Core.Path.{◌≡◌, refl, sym, ap, subst, ◌∙◌}
 use mathlib.Core.Bool.{true, false}
-use mathlib.Core.List.{List}
+use mathlib.Core.List.{List, [], ◌∷◌}
 use Prim.Native.Nat.{ℕ, ◌+◌, ◌≤◌, ◌<◌}
 use native.Mathlib.Omega.{arith}
 use borrow.Author.Tests.{eq-eqb, ne_eqb}
+use Rattle.std.specs.Prelude.{Option, Some, None}
+use Rattle.std.specs.List.{last_or}
+use Rattle.std.specs.Iterator.{Yields, Drains}
 use Rattle.format.specs.Forest.{Forest, end, tree, beside, breadth}
 use Rattle.format.specs.Node.{Node}
 use Rattle.format.specs.Encode.{Row}
@@ -15,6 +18,10 @@ use Rattle.format.specs.Layout.{row_at, node_of, siblings}
 use Rattle.format.specs.Whole.{Whole, WholeAt, tree_at}
 use Rattle.format.proofs.Rows.{opens, nothing, siblings-none}
 use Rattle.format.proofs.Stored.{tree-whole, tree-opens}
+use Rattle.book.specs.declared.read.Node as stored
+use Rattle.book.specs.declared.walks.Siblings.{Siblings}
+use Rattle.book.specs.Walks.{Over, Walks}
+use Rattle.book.proofs.Walking.{last, at, over-next, here as here-left}
 use Rattle.judgement.specs.Environment.{head_kind, kids_of}
 use Rattle.judgement.specs.Actor.{is_class, last_tree, all_but_last, class_arguments, below_class}
 use Rattle.judgement.proofs.Classes.{last-beside, others-beside}
@@ -60,6 +67,24 @@ module _ {ns : List ℕ} {from until last at : ℕ} (l : LastLeft ns from until 
 
   pub last-on : LastLeft ns from until at after
   last-on = record { before = whole-join l.before (tree-whole here); rest = (opens l.rest h).rest; last = λ k. one-more }
+
+-- the place of what a walk gave last, or `d`
+abbrev pub place_or : ℕ → Option (ℕ × stored.Node) → ℕ
+place_or d None = d
+place_or d (Some x) = x.0
+
+module _ {ns : List ℕ} {from until : ℕ} where
+  last-yielded : (d : ℕ) {s t : Siblings} (o : Option (ℕ × stored.Node)) (xs : List (ℕ × stored.Node)) → Yields Walks s xs t → Over ns until s →
+      LastLeft ns from until (place_or d o) s.at → (Over ns until t) × LastLeft ns from until (place_or d (last_or o xs)) t.at
+  last-yielded d o [] y v l = subst (λ (u : Siblings). Over ns until u × LastLeft ns from until (place_or d o) u.at) y (v, l)
+  last-yielded d o (x ∷ xs) (j, n, y) v l = last-yielded d (Some x) xs y (over-next v n) (rw (n.place, at v n) (last-on l (here-left v n)))
+
+  pub last-drained : (d : ℕ) {s : Siblings} (xs : List (ℕ × stored.Node)) → Drains Walks s xs → Over ns until s → LastLeft ns from until d s.at → from < until →
+      LastAs ns from until (place_or d (last_or None xs))
+  last-drained d xs (u, (t, y, x)) v l h =
+      let w = last-yielded d None xs y v l in
+      let e : t.at ≡ until = last w.0 x in
+      rw e at (w.1.last (omega (arith, e)))
 
 -- ---- what stands below a class's top
 module _ {ns : List ℕ} {n : ℕ} (t : Top ns n) (r : Row) (is : r ≡ row_at ns n) where

@@ -9,4 +9,4 @@ invariant-loop-f l =
     let s = l.self in
     let ns = nodes_part s.book.bytes.now in
     (root : Option ℕ) → MainService ns s.roots.now s.book.contents.nodes s.main root l.fn.main →
-    ServicesLeft ns s.roots.now (files_part s.book.bytes.now) l.numbers s.book.contents.nodes s.main root l.services l.f-index
+    ServicesLeft ns s.roots.now (files_part s.book.bytes.now) l.f-items s.book.contents.nodes s.main root l.services l.f-index
