@@ -1,3 +1,4 @@
 -- Laws of the hashes of methods.
 pub mod Gathering
 pub mod Verdict
+pub mod Put

@@ -4,7 +4,7 @@
 --     MethodsLeft                      the loop over methods
 --     ServiceLeft                      the same inside a service
 use mathlib.Core.Path.{◌≡◌, refl, sym, ap, subst, ◌∙◌}
-use mathlib.Core.List.{List, [], ◌∷◌, ◌++◌, map, map-append, append_assoc}
+use mathlib.Core.List.{List, [], ◌∷◌, ◌++◌, append_assoc}
 use mathlib.Core.Logic.{inl}
 use Prim.Native.Nat.{ℕ, suc, ◌+◌, ◌≤◌, ◌<◌}
 use native.Mathlib.Omega.{arith}
@@ -23,7 +23,6 @@ use Rattle.judgement.specs.Environment.{kids_of}
 use Rattle.book.specs.Tables.{blank_table, zero_table}
 use Rattle.environment.specs.Trees.{Methods as Listed, AllTrees}
 use Rattle.environment.proofs.Trees.{opened, method-label, kids-methods, rest-methods, blank-nodes, no-ends, node-trees, node-some}
-use Rattle.syntax.specs.declared.hashes.Methods.{Methods}
 use Rattle.syntax.specs.Interfaces.{IsService, methods_in}
 use Rattle.syntax.specs.Hashed.{ServicesIn, labels_of}
 use Rattle.syntax.specs.Gathering.{GathersAs}
@@ -50,36 +49,33 @@ pub services-in : {ns services : List ℕ} {names nodes : ℕ} → AllTrees ns n
 services-in {names = names} {nodes = nodes} t s = record { names = names; nodes = nodes; all = t; service = s }
 
 -- ---- The loop over methods: those before `left` are gathered
-pub record MethodsLeft (hs : List ℕ) (all left : Forest Node) (names hashes : List ℕ) : Type 0 where
+pub record MethodsLeft (all left : Forest Node) (names : List ℕ) : Type 0 where
   pub parts : names ++ labels_of left ≡ labels_of all
   pub small : All (λ v. v < 1024) names
-  pub same : hashes ≡ map (λ v. get_or hs v 0) names
 
-module _ {hs : List ℕ} {all left : Forest Node} {names hashes : List ℕ} (l : MethodsLeft hs all left names hashes) where
-  pub methods-end : left ≡ end → {m : Methods} → m.names.items ≡ names → m.hashes.items ≡ hashes → GathersAs hs (labels_of all) m
+module _ {all left : Forest Node} {names : List ℕ} (l : MethodsLeft all left names) where
+  pub methods-end : left ≡ end → GathersAs (labels_of all) names
   unfolding labels_of
-  methods-end z e g =
-      record { rest = []; parts = rw e (ap (λ (q : Forest Node). names ++ labels_of q) (sym z) ∙ l.parts); most = inl refl; small = rw e l.small; hashes = rw (e, g) l.same }
+  methods-end z = record { rest = []; parts = ap (λ (q : Forest Node). names ++ labels_of q) (sym z) ∙ l.parts; most = inl refl; small = l.small }
 
   module _ (n : Node) (kids next : Forest Node) (is : left ≡ tree n kids next) (v : ℕ) (named : label_value n.label ≡ v) (small : v < 1024) where
-    pub method-on : MethodsLeft hs all next (names ++ v ∷ []) (hashes ++ get_or hs v 0 ∷ [])
+    pub method-on : MethodsLeft all next (names ++ v ∷ [])
     unfolding labels_of
     method-on =
         record {
           parts = append_assoc names (v ∷ []) (labels_of next) ∙ ap (λ (w : ℕ). names ++ w ∷ labels_of next) (sym named) ∙ ap (λ (q : Forest Node). names ++ labels_of q) (sym is) ∙ l.parts;
           small = All-push (λ v. v < 1024) names v l.small small;
-          same = ap (λ (k : List ℕ). k ++ get_or hs v 0 ∷ []) l.same ∙ sym (map-append (λ (w : ℕ). get_or hs w 0) names (v ∷ []));
         }
 
 -- ---- The methods of a service, from node i on, and then other methods
-pub record ServiceLeft (ns hs : List ℕ) (all next : Forest Node) (names hashes : List ℕ) (i until : ℕ) : Type 0 where
+pub record ServiceLeft (ns : List ℕ) (all next : Forest Node) (names : List ℕ) (i until : ℕ) : Type 0 where
   pub methods : Listed ns blank_table zero_table i until
-  pub left : MethodsLeft hs all (beside (siblings ns i until) next) names hashes
+  pub left : MethodsLeft all (beside (siblings ns i until) next) names
 
 -- ---- The loop over services
-module _ {ns services : List ℕ} (x : ServicesIn ns services) {hs : List ℕ} {all : Forest Node} {names hashes : List ℕ} {s : ℕ}
-    (l : MethodsLeft hs all (methods_in ns (drop s services)) names hashes) where
-  pub services-end : length services ≤ s → {m : Methods} → m.names.items ≡ names → m.hashes.items ≡ hashes → GathersAs hs (labels_of all) m
+module _ {ns services : List ℕ} (x : ServicesIn ns services) {all : Forest Node} {names : List ℕ} {s : ℕ}
+    (l : MethodsLeft all (methods_in ns (drop s services)) names) where
+  pub services-end : length services ≤ s → GathersAs (labels_of all) names
   unfolding methods_in
   services-end h = methods-end l (ap (methods_in ns) (drop_of_length-le services {i = s} h))
 
@@ -87,7 +83,7 @@ module _ {ns services : List ℕ} (x : ServicesIn ns services) {hs : List ℕ} {
     abbrev node : ℕ
     node = get_or services s d
 
-    pub service-start : ServiceLeft ns hs all (methods_in ns (drop (s + 1) services)) names hashes (node + 1) (node + r.size)
+    pub service-start : ServiceLeft ns all (methods_in ns (drop (s + 1) services)) names (node + 1) (node + r.size)
     unfolding methods_in
     service-start =
         let one : suc s ≡ s + 1 = omega arith in
@@ -95,15 +91,15 @@ module _ {ns services : List ℕ} (x : ServicesIn ns services) {hs : List ℕ} {
         record {
           methods = service-methods x.all node (x.service s d h);
           left =
-              subst (λ (q : Forest Node). MethodsLeft hs all q names hashes)
+              subst (λ (q : Forest Node). MethodsLeft all q names)
               (ap (methods_in ns) (drop-cons services s d h ∙ ap (λ (j : ℕ). node ∷ drop j services) one)
               ∙ ap (λ (q : Forest Node). beside q (methods_in ns (drop (s + 1) services))) (service-kids x.all node (x.service s d h))) l;
         }
 
-module _ {ns hs : List ℕ} {all next : Forest Node} {names hashes : List ℕ} {i until : ℕ} (l : ServiceLeft ns hs all next names hashes i until) where
-  pub service-end : until ≤ i → MethodsLeft hs all next names hashes
+module _ {ns : List ℕ} {all next : Forest Node} {names : List ℕ} {i until : ℕ} (l : ServiceLeft ns all next names i until) where
+  pub service-end : until ≤ i → MethodsLeft all next names
   unfolding beside
-  service-end h = subst (λ (q : Forest Node). MethodsLeft hs all (beside q next) names hashes) (siblings-none ns i until h) l.left
+  service-end h = subst (λ (q : Forest Node). MethodsLeft all (beside q next) names) (siblings-none ns i until h) l.left
 
   module _ (h : i < until) (r : Row) (is : r ≡ row_at ns i) where
     pub name-small : r.label < 1024
@@ -116,5 +112,5 @@ module _ {ns hs : List ℕ} {all next : Forest Node} {names hashes : List ℕ} {
     named-as : label_value (node_of (row_at ns i)).label ≡ r.label
     named-as = (method-label l.methods.trees h l.methods.methods).1 ∙ ap (λ (q : Row). q.label) (sym is)
 
-    pub service-on : ServiceLeft ns hs all next (names ++ r.label ∷ []) (hashes ++ get_or hs r.label 0 ∷ []) (i + (row_at ns i).size) until
+    pub service-on : ServiceLeft ns all next (names ++ r.label ∷ []) (i + (row_at ns i).size) until
     service-on = record { methods = rest-methods l.methods h; left = method-on l.left _ _ _ opened-as r.label named-as name-small }

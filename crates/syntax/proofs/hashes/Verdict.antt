@@ -22,7 +22,6 @@ use Rattle.judgement.specs.Check.{member, hashes_verdict}
 use Rattle.judgement.proofs.Lookup.{member-says}
 use Rattle.book.specs.Tables.{HashesAgree}
 use Rattle.duplicates.specs.Duplicate.{FirstDuplicate}
-use Rattle.syntax.specs.declared.hashes.Methods.{Methods}
 use Rattle.syntax.specs.Hashed.{labels_of}
 use Rattle.syntax.specs.Gathering.{GathersAs}
 
@@ -81,32 +80,32 @@ listed-at (x ∷ l) zero d h = Memᴰ.head refl
 listed-at (x ∷ l) (suc n) d h = Memᴰ.tail (listed-at l n d (omega arith))
 
 -- ---- The verdict on what is gathered
-module _ {hs : List ℕ} (size : length hs ≡ 1024) where
+module _ (hs : List ℕ) (size : length hs ≡ 1024) where
   in-table : (vs : List ℕ) → All (λ v. v < 1024) vs → (x : ℕ) → Memᴰ x (map (hash hs) vs) → Memᴰ x hs
   in-table [] s x m = absurd (Memᴰ.not-nil m)
   in-table (v ∷ vs) s x m =
       ⊎_elim (λ (e : x ≡ hash hs v). Memᴰ.cast e (listed-at hs v 0 (let z = s 0 0 (omega arith) in omega (arith, size, z))))
       (in-table vs (λ i d h. s (suc i) d (omega arith)) x) (Memᴰ.cases_cons m)
 
-  module _ (names : List (List ℕ)) (a : HashesAgree hs names) (f : Forest Node) {m : Methods} (g : GathersAs hs (labels_of f) m) where
-    pub no-duplicate : Distinct m.hashes.items → passes ≡ hashes_verdict names [] f
+  module _ (names : List (List ℕ)) (a : HashesAgree hs names) (f : Forest Node) {ms : List ℕ} (g : GathersAs (labels_of f) ms) {made : List ℕ} (is : made ≡ map (hash hs) ms) where
+    pub no-duplicate : Distinct made → passes ≡ hashes_verdict names [] f
     no-duplicate d =
         sym
         (by-labels hs names a [] f ∙ ap (by_labels hs []) whole
-        ∙ none-twice hs [] m.names.items once (λ x m k. absurd (Memᴰ.not-nil k)))
+        ∙ none-twice hs [] ms once (λ x m k. absurd (Memᴰ.not-nil k)))
       where
-        once : Distinct (map (hash hs) m.names.items)
-        once = subst Distinct g.hashes d
+        once : Distinct (map (hash hs) ms)
+        once = subst Distinct is d
 
         -- 1,025 hashes of 1,024 names are not distinct
-        whole : labels_of f ≡ m.names.items
+        whole : labels_of f ≡ ms
         whole =
-            ⊎_elim (λ (e : g.rest ≡ []). sym g.parts ∙ ap (λ (l : List ℕ). m.names.items ++ l) e ∙ append-nil m.names.items)
-            (λ (e : length m.names.items ≡ 1025). absurd (omega (arith, pigeonhole once hs (in-table m.names.items g.small), length-map m.names.items (hash hs), size, e))) g.most
+            ⊎_elim (λ (e : g.rest ≡ []). sym g.parts ∙ ap (λ (l : List ℕ). ms ++ l) e ∙ append-nil ms)
+            (λ (e : length ms ≡ 1025). absurd (omega (arith, pigeonhole once hs (in-table ms g.small), length-map ms (hash hs), size, e))) g.most
 
-    pub duplicate : {r : ℕ} → FirstDuplicate m.hashes.items r → Err (refusal.Refusal.SameHash (get_or m.names.items r 0)) ≡ hashes_verdict names [] f
+    pub duplicate : {r : ℕ} → FirstDuplicate made r → Err (refusal.Refusal.SameHash (get_or ms r 0)) ≡ hashes_verdict names [] f
     duplicate {r} d =
-        let e = rw g.hashes at d in
+        let e = rw is at d in
         sym
         (by-labels hs names a [] f ∙ ap (by_labels hs []) (sym g.parts)
-        ∙ first-twice hs [] m.names.items g.rest r (omega (arith, e.inside, length-map m.names.items (hash hs))) e.distinct (λ x m k. absurd (Memᴰ.not-nil k)) (inr e.again))
+        ∙ first-twice hs [] ms g.rest r (omega (arith, e.inside, length-map ms (hash hs))) e.distinct (λ x m k. absurd (Memᴰ.not-nil k)) (inr e.again))
