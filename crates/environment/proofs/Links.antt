@@ -6,13 +6,11 @@
 --     row-within, name-inside           a node, and the name that it is
 --     LinkSays, Bound, link-says        what a link says of a name's definition
 --     ChainLeft, chain-step, ..        the loop of `alias_end`
---     in-table                          a place within a table
 use mathlib.Core.Path.{◌≡◌, refl, sym, ap, ◌∙◌}
 use mathlib.Core.List.{List, []}
 use mathlib.Core.Bool.{true, false, false≢true}
 use Rattle.std.specs.Prelude.{Option, Some, None, IfSome, IfNone}
 use Rattle.std.specs.Option.{is_some}
-use Rattle.std.proofs.lemmas.List.{get_or_default}
 use Prim.Native.Nat.{ℕ, zero, suc, ◌+◌, ◌-◌, ◌≤◌, ◌<◌}
 use native.Mathlib.Decide.{ℕ_discrete}
 use native.Mathlib.Omega.{arith}
@@ -254,7 +252,3 @@ module _ {ns roots : List ℕ} {names nodes left node at crossed : ℕ} {next : 
               let one_less : left - crossed - 1 ≡ left - (crossed + 1) = omega arith in
               chain-on ds (tree_at ns at) n here _ (left - crossed) (i.is ds b) (omega (arith, l.few))
               ∙ ap (λ (k : ℕ). cross n (chain_from k ds (tree_at ns s.root))) one_less
-
--- ---- a place within a table has one number, whatever stands for places beyond
-pub in-table : {roots : List ℕ} {nodes n : ℕ} → Roots roots nodes → n < 1024 → get_or roots n 0 ≡ get_or roots n 65535
-in-table {roots} {nodes} {n} y h = get_or_default roots n 0 65535 (omega (arith, y.long))
