@@ -59,8 +59,8 @@ pub fn layout(book: &[u8]) -> Option<Contents>
     let rows = &book[c.nodes_at..c.definitions_at];
     let _ = rules::trees(rows, c.names, Place::Root, 0, c.nodes)?;
     let trees = Siblings::new(rows, 0, c.nodes);
-    let left = rules::definitions(c, &book[c.definitions_at..c.files_at], trees)?;
-    if !rules::files(c, &book[c.files_at..], left) {
+    let left = c.all_definitions(&book[c.definitions_at..c.files_at], trees)?;
+    if !c.all_files(&book[c.files_at..], left) {
         return None;
     }
     Some(c)
@@ -73,11 +73,7 @@ pub fn name(book: &[u8], number: u16) -> &[u8]
 {
     match layout(book) {
         Some(c) if (number as usize) < c.names => {
-            let admitted = AdmittedBook {
-                bytes: book,
-                contents: c,
-            };
-            read::name_at(admitted.names(), number as usize)
+            read::name_at(AdmittedBook::new(book, c).names(), number as usize)
         }
         _ => &book[0..0],
     }

@@ -59,10 +59,7 @@ fn kind_fine(names: usize, kind: u8, value: u32, kids: usize) -> bool
 fn place_fine(place: Place, kind: u8) -> bool
     ensures { result ≡ good_place place kind }
 {
-    match place {
-        Place::Root => true,
-        _ => kind != Kind::Init as u8,
-    }
+    place == Place::Root || kind != Kind::Init as u8
 }
 
 // Whether a node at this place may have this label.
@@ -242,38 +239,38 @@ impl Contents {
         }
         Some(after)
     }
-}
 
-// The definitions' entries, whose trees are the first of these: the trees that are left after them.
-pub(crate) fn definitions<'a>(
-    c: Contents,
-    entries: &[u8],
-    trees: Siblings<'a>,
-) -> Option<Siblings<'a>>
-    requires { EntryWithin entries.now c.definitions × (trees.at ≡ 0) }
-    ensures goes { IfSome result (Over trees.entry.rows.now trees.entry.until) }
-    ensures finds { DefinitionsAs c.names c.files entries.now c.definitions trees.entry.rows.now trees.entry.until (place_of result) }
-{
-    let mut file = 0;
-    let mut left = trees;
-    for e in Entries::new(entries, 0, c.definitions) {
-        left = c.definition(file, e, left)?;
-        file = e.owner;
+    // The definitions' entries, whose trees are the first of these: the trees that are left after them.
+    pub(crate) fn all_definitions<'a>(
+        self,
+        entries: &[u8],
+        trees: Siblings<'a>,
+    ) -> Option<Siblings<'a>>
+        requires { EntryWithin entries.now self.definitions × (trees.at ≡ 0) }
+        ensures goes { IfSome result (Over trees.entry.rows.now trees.entry.until) }
+        ensures finds { DefinitionsAs self.names self.files entries.now self.definitions trees.entry.rows.now trees.entry.until (place_of result) }
+    {
+        let mut file = 0;
+        let mut left = trees;
+        for e in Entries::new(entries, 0, self.definitions) {
+            left = self.definition(file, e, left)?;
+            file = e.owner;
+        }
+        Some(left)
     }
-    Some(left)
-}
 
-// Whether the files' entries are good, and their trees are all of these.
-pub(crate) fn files(c: Contents, entries: &[u8], trees: Siblings) -> bool
-    requires { EntryWithin entries.now c.files }
-    ensures { result ≡ good_files c.names true trees.entry.at (run (entry_at entries.now) 0 c.files) (row_trees trees.entry.rows.now trees.entry.at trees.entry.until) }
-{
-    let mut left = trees;
-    for (f, e) in Entries::new(entries, 0, c.files).enumerate() {
-        let Some(after) = c.file(f == 0, f + 1 == c.files, e, left) else {
-            return false;
-        };
-        left = after;
+    // Whether the files' entries are good, and their trees are all of these.
+    pub(crate) fn all_files(self, entries: &[u8], trees: Siblings) -> bool
+        requires { EntryWithin entries.now self.files }
+        ensures { result ≡ good_files self.names true trees.entry.at (run (entry_at entries.now) 0 self.files) (row_trees trees.entry.rows.now trees.entry.at trees.entry.until) }
+    {
+        let mut left = trees;
+        for (f, e) in Entries::new(entries, 0, self.files).enumerate() {
+            let Some(after) = self.file(f == 0, f + 1 == self.files, e, left) else {
+                return false;
+            };
+            left = after;
+        }
+        left.at == left.until
     }
-    left.at == left.until
 }

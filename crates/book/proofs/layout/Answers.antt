@@ -51,16 +51,16 @@ returns-in_err-left c =
     ∙ reading-broken _ (λ r.
     found c.args.book.now k c.new-trees.ensures.over None c.in_err-left.ensures.finds (run (entry_at (files_in c.args.book.now k)) 0 k.files) (entries-good c.in_ok-c.ensures.1 r))
 
-pub returns-then-not-files : goal.returns-then-not-files
+pub returns-then-not-all_files : goal.returns-then-not-all_files
 unfolding part
-returns-then-not-files c =
-    let j = judged c.args.book.now c.in_ok-c.c c.new-trees.ensures.over c.in_ok-left.ensures.finds c.in_ok-left.ensures.goes c.files.ensures in
-    reading-broken _ (λ r. subst T (j ∙ c.if-not-files.true) (entries-good c.in_ok-c.ensures.1 r))
+returns-then-not-all_files c =
+    let j = judged c.args.book.now c.in_ok-c.c c.new-trees.ensures.over c.in_ok-left.ensures.finds c.in_ok-left.ensures.goes c.all_files.ensures in
+    reading-broken _ (λ r. subst T (j ∙ c.if-not-all_files.true) (entries-good c.in_ok-c.ensures.1 r))
 
 pub returns : goal.returns
 unfolding part
 returns c =
     let t = c.in_ok-c.ensures in
-    let j = judged c.args.book.now c.in_ok-c.c c.new-trees.ensures.over c.in_ok-left.ensures.finds c.in_ok-left.ensures.goes c.files.ensures in
+    let j = judged c.args.book.now c.in_ok-c.c c.new-trees.ensures.over c.in_ok-left.ensures.finds c.in_ok-left.ensures.goes c.all_files.ensures in
     reading-whole (λ i. omega (arith, c.type_inv.book i))
-    (all-good t.1 t.0 (c.names_fine.ensures.holds (c.if-not-names_fine.false)) c.in_ok-trees.ensures.0 (of-true _ (j ∙ c.if-not-files.false))) t.1
+    (all-good t.1 t.0 (c.names_fine.ensures.holds (c.if-not-names_fine.false)) c.in_ok-trees.ensures.0 (of-true _ (j ∙ c.if-not-all_files.false))) t.1

@@ -9,11 +9,14 @@ use Rattle.book.proofs.Opened.{names-here}
 use Rattle.book.proofs.name.Goals.{in_default-via-in-Some+else-number-c, in_default-via-in_default}
 use Rattle.book.proofs.name.Goals as goal
 
+pub new-requires : goal.new-requires
+new-requires c = book-of _ _ c.in-Some.ensures
+
 pub returns-in-Some : goal.returns-in-Some
 returns-in-Some c =
     let o = book-of _ _ c.in-Some.ensures in
     c.name_at.ensures
-    ∙ ap (λ (bs : List ℕ). get_or (names_of (length bs) bs) c.args.number []) (c.names.ensures ∙ sym (names-here o))
+    ∙ ap (λ (bs : List ℕ). get_or (names_of (length bs) bs) c.args.number []) ((rw c.new.ensures.bytes at c.names.ensures) ∙ sym (names-here o))
     ∙ name-there o c.args.number
 
 pub returns-in_default : goal.returns-in_default

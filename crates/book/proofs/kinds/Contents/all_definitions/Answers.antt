@@ -1,14 +1,14 @@
--- `rules::definitions` meets its contract: the entries that are left are judged as all of them. Assumes nothing.
+-- `Contents::all_definitions` meets its contract: the entries that are left are judged as all of them. Assumes nothing.
 use Rattle.book.specs.Reading.{as_entry}
 use Rattle.book.specs.Steps.{DefinitionAs}
 use Rattle.std.proofs.Common.{None, Some}
 use Rattle.book.proofs.Walking.{there, over-over, entry-left, entry-is, entry-next, entry-last}
 use Rattle.book.proofs.Entries.{definitions-stop, definitions-on, definitions-end}
-use Rattle.book.proofs.rules.definitions.Goals as goal
+use Rattle.book.proofs.kinds.Contents.all_definitions.Goals as goal
 
 pub returns-in_err-left-clause-finds : goal.returns-in_err-left-clause-finds
 returns-in_err-left-clause-finds c =
-    let a = c.args.c in
+    let a = c.args.self in
     let l = c.loop-e in
     let w = l.invariant.walk in
     let x = c.in-Some.ensures.steps in
@@ -17,7 +17,7 @@ returns-in_err-left-clause-finds c =
 
 pub loop-e-preserved : goal.loop-e-preserved
 loop-e-preserved c =
-    let a = c.args.c in
+    let a = c.args.self in
     let l = c.loop-e in
     let o = l.invariant.over in
     let w = l.invariant.walk in

@@ -1,4 +1,4 @@
--- `rules::files` meets its contract: the entries that are left are judged as all of them. Assumes nothing.
+-- `Contents::all_files` meets its contract: the entries that are left are judged as all of them. Assumes nothing.
 use Prim.Native.Nat.{◌+◌}
 use native.Mathlib.Omega.{arith}
 use lib.Dec.{eqb}
@@ -7,11 +7,11 @@ use Rattle.book.specs.Steps.{FileAs}
 use Rattle.std.proofs.Common.{None, Some}
 use Rattle.book.proofs.Walking.{there, over-over, entry-left, entry-is, entry-next, entry-last}
 use Rattle.book.proofs.Entries.{files-stop, files-on, files-end}
-use Rattle.book.proofs.rules.files.Goals as goal
+use Rattle.book.proofs.kinds.Contents.all_files.Goals as goal
 
 pub returns-in_default : goal.returns-in_default
 returns-in_default c =
-    let a = c.args.c in
+    let a = c.args.self in
     let l = c.loop-f in
     let i = l.invariant in
     let z = c.in-Some.ensures.steps in
@@ -20,7 +20,7 @@ returns-in_default c =
 
 pub loop-f-preserved : goal.loop-f-preserved
 loop-f-preserved c =
-    let a = c.args.c in
+    let a = c.args.self in
     let l = c.loop-f in
     let i = l.invariant in
     let z = c.in-Some.ensures.steps in
