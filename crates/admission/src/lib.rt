@@ -25,11 +25,7 @@ pub fn admit<'a>(book: &'a [u8], limits: Limits) -> Result<AdmittedBook<'a>, Ref
     if !size.within(limits) {
         return Err(Refusal::OverLimit);
     }
-    let admitted = AdmittedBook {
-        bytes: book,
-        contents,
-    };
-    let checked = repeats::check_labels(admitted);
-    checked?;
+    let admitted = AdmittedBook::new(book, contents);
+    repeats::check_labels(admitted)?;
     Ok(admitted)
 }

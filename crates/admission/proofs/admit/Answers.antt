@@ -40,11 +40,15 @@ overflow_cast-size-3 c = let f = few (laid c.layout.ensures c.ok_or.ensures.ok_p
 pub returns-then-not-within-clause-answer : goal.returns-then-not-within-clause-answer
 returns-then-not-within-clause-answer c = over (laid c.layout.ensures c.ok_or.ensures.ok_part c.in_ok-contents.was) _ (sym (c.if-not-within.true) ∙ c.within.ensures)
 
-pub returns-in_err-checked-clause-answer : goal.returns-in_err-checked-clause-answer
-returns-in_err-checked-clause-answer c =
-    rw (handed-on c.from_residual-in_err-checked.result c.from_residual-in_err-checked.ensures)
-    (labelled (laid c.layout.ensures c.ok_or.ensures.ok_part c.in_ok-contents.was) _ (sym (c.if-not-within.false) ∙ c.within.ensures) (rw c.in_err-checked.was at c.check_labels-checked.ensures))
+pub new-admitted-requires : goal.new-admitted-requires
+new-admitted-requires c = laid c.layout.ensures c.ok_or.ensures.ok_part c.in_ok-contents.was
+
+pub returns-in_err-check_labels-clause-answer : goal.returns-in_err-check_labels-clause-answer
+returns-in_err-check_labels-clause-answer c =
+    rw (handed-on c.from_residual-in_err-check_labels.result c.from_residual-in_err-check_labels.ensures)
+    (labelled (laid c.layout.ensures c.ok_or.ensures.ok_part c.in_ok-contents.was) _ (sym (c.if-not-within.false) ∙ c.within.ensures) (rw (c.in_err-check_labels.was, c.new-admitted.ensures.bytes) at c.check_labels.ensures))
 
 pub returns-clause-answer : goal.returns-clause-answer
 returns-clause-answer c =
-    labelled (laid c.layout.ensures c.ok_or.ensures.ok_part c.in_ok-contents.was) _ (sym (c.if-not-within.false) ∙ c.within.ensures) (rw c.in_ok-checked.was at c.check_labels-checked.ensures)
+    rw c.new-admitted.ensures.contents
+    (labelled (laid c.layout.ensures c.ok_or.ensures.ok_part c.in_ok-contents.was) _ (sym (c.if-not-within.false) ∙ c.within.ensures) (rw (c.in_ok-check_labels.was, c.new-admitted.ensures.bytes) at c.check_labels.ensures))
