@@ -32,7 +32,8 @@ pub fn enter(book: AdmittedBook, from: usize, to: usize, roots: &mut [u16]) -> V
 }
 
 // Enters the definitions of entries `from` up to `to` in a table that has nothing: 2 with the first name defined twice. Then the table has
-// nothing, as it was lent. What is asked is said of the entries alone, which may be of no book; names and nodes are numbers of the contract.
+// nothing, as it was lent. What is asked is said of the entries alone, which may be of no book; names and nodes are numbers
+// of the contract alone, parameters still so that callers stay as they are.
 pub fn enter_entries(
     entries: &[u8],
     names: usize,
