@@ -102,8 +102,8 @@ fn project_methods(rows: &[u8], services: &[u16], left: &mut Counts, out: &mut [
 }
 
 // The positions of the methods of the services that take the asked names. 15: the lowest name left over; 16: the lent list is too short. A
-// refusal leaves the lent list as it is: positions are counted, with no list, before they are written. There may be 65,536 of them, of 16
-// services with 4,096 methods each, for which fixed memory has no room.
+// refusal leaves the lent list as it is: positions are counted, with no list, before they are written. A list of its own would take
+// 128 KiB: a book has at most 4,096 methods, but what is asked here allows each of 16 services as many.
 pub fn project(rows: &[u8], services: &[u16], list: &[u16], out: &mut [u16]) -> Answer
     requires { Services rows.now services.now }
     ensures { HandedAs (projected (project_from 0 (methods_in rows.now services.now) list.now)) out.old out.new result }
