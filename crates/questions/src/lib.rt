@@ -1,6 +1,7 @@
 // The questions of documents 01 and 02 on a book of bytes, under the limits of a terminal model. An entry point is admission, the check (for init
 // arguments the init check) and the question on the book that passed, which has a module of its own; an accepted question gives the number of
 // its entries, which stand at the front of the lent list, and a refusal leaves the list as it was. An alias chain is no list, and is given as it is.
+// Book and limits are two parameters, as C and the programs have them: a struct of both would be put together for one call.
 #![tactic(auto)]
 
 ghost use Rattle.std.specs.Prelude.{◌≡◌};
@@ -20,7 +21,8 @@ use format::Limits;
 use passed::CheckedBook;
 use refusals::{AliasAnswer, Answer, Verdict};
 
-// `CheckedBook::pass(book, limits)?`, written out: Rattle has no rule yet for a `?` whose value holds a reference beside a list with a model (c).
+// `CheckedBook::pass(book, limits)?`, written out: the borrow checker has no rule yet for a `?` on a `CheckedBook`, which holds references, facts and
+// a list with a model.
 macro_rules! pass {
     ($book:expr, $limits:expr) => {
         match CheckedBook::pass($book, $limits) {

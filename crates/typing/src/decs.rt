@@ -45,7 +45,7 @@ impl<'a> Decs<'a> {
         Entries::new(self.book.definitions(), self.from, self.to)
     }
 
-    // 3 to 6: the bodies, in order, of definitions that are in the table.
+    // 3 to 6: the bodies, in order, of definitions that are in the table. That they are (`Defined`) is no field: the steps fill tables of their own.
     fn check_bodies(self, roots: &[u16]) -> Verdict
         requires { Defined self roots.now }
         ensures { result ≡ bodies_verdict (definitions_of self.entry) (definitions_of self.entry) }

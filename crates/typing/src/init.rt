@@ -20,14 +20,16 @@ use environment::scope::Scope;
 use format::Limits;
 use refusals::{Refusal, Verdict};
 
-// What the init list needs beside the table of the definitions that the arguments see: how many those are, and the range of the arguments'
-// nodes. Without an init file the definitions are main's, and the range is empty.
+// What is found of init arguments beside the table of the definitions that they see: how many those are, which no code reads, and the range of the
+// arguments' nodes, which the init list goes through. Without an init file the definitions are main's, and the range is empty.
 #[derive(Clone, Copy, PartialEq, Eq, Debug)]
 pub struct InitArgs {
     pub count: usize,
     pub from: usize,
     pub until: usize,
 }
+
+// Each of the steps below has the book beside the tables that it reads, `own`, main's or both: no two read the same.
 
 // The init file's own definitions, which are those of the entries from `main` on: they do not see main's. Their tables go into `own`, which
 // have nothing before, and nothing where they are refused.

@@ -5,6 +5,7 @@ use book::read::Entry;
 use environment::chain_end;
 use format::Limits;
 
+// Lent to the check and no part of its answer: by value all the way, a check of the smallest book took four times as long (docs/DECISIONS.md).
 #[derive(Drop)]
 pub struct Tables {
     pub roots: [u16; Limits::NAMES],

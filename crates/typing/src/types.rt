@@ -106,7 +106,7 @@ impl<'b, 't> Walk<'b, 't> {
 
     // The types from node `from` up to node `until`: how many there are. They may be a service's `methods`, each of which is tested right after its
     // own type, so that the first refusal is told: one function as in the definition, `check_forest`.
-    // From and until: methods have to fit besides (`TreesIn`), of which a `Siblings` would hold one part in three.
+    // `from` and `until` are no Siblings, which would hold one of the three facts of `TreesIn`: methods have to fit besides.
     #[cycle(types)]
     pub(crate) fn check_types(&self, methods: bool, from: usize, until: usize) -> Answer
         requires { TreesIn self.now methods from until }
@@ -126,8 +126,8 @@ impl<'b, 't> Walk<'b, 't> {
 
     // Whether each method of each service in the trees from node `from` up to node `until`, which may be `methods`, is a function:
     // one function as in the definition, `methods_fit`.
-    // From and until, as in `check_types`: that the trees are the book's own is asked besides. A loop, since the closure of an `all` would call this
-    // function again, and so would need clauses of its own in the source, which are longer than the loop.
+    // `from` and `until` are no Siblings here either: that the trees are the book's own is asked besides. A loop, since the closure of an `all` would
+    // call this function again, and so would need clauses of its own in the source, which are longer than the loop.
     pub(crate) fn services_fit(&self, methods: bool, from: usize, until: usize) -> bool
         requires { TreesIn self.now false from until }
         ensures { IsSome self.now.ends → Under self.now (λ pre ds. result ≡ methods_fit ds methods (siblings self.now.env.scope.rows.now from until)) }

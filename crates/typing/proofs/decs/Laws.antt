@@ -1,7 +1,7 @@
 -- The verdict of definitions, test by test as code makes them. Assumes nothing.
 --     admitted, entries, nodes         what the definitions of a book give
 --     bodies-stop, bodies-on, ..       the loop over their bodies
---     fits-stop, fits-on, ..           the loop over their methods
+--     fits-all                         whether all their methods fit
 --     decs-body, decs-circle, ..       the verdict
 use mathlib.Core.Path.{◌≡◌, refl, sym, ap, ap₂, ◌∙◌}
 use mathlib.Core.Bool.{Bool, true, false, true≢false, false≢true, ◌&&◌, and-false}
