@@ -1,6 +1,6 @@
 -- What the header reads in a code, and that codes that are read alike are of the same verdict or answer. Assumes, where a code is read, that
 -- the name and the entries are below the unit of the row: the functions know it of names by their types, and ask it of entries.
---     refusal-read                           a refusal is read
+--     refusal-read, crossed-read             a refusal, and an alias chain, is read
 --     answer-settled, uses-settled, ..       answers that are read alike are the same
 --     verdict-settled                        and verdicts, where one is not refused with row 16
 use mathlib.Core.Path.{◌≡◌, refl, sym, ap, ◌∙◌}
@@ -10,6 +10,7 @@ use Prim.Native.Nat.{ℕ, ◌+◌, ◌*◌, ◌/◌, ◌%◌, ◌≤◌, ◌<◌
 use native.Mathlib.Nat.{add-zero, div-eq_of_lt, mod-eq_of_lt, mul-add-div_right, mul-add-mod_self_right}
 use native.Mathlib.Decide.{ℕ_discrete}
 use native.Mathlib.Omega.{arith}
+use Rattle.refusals.specs.declared.Crossed.{Crossed}
 use Rattle.refusals.specs.declared.Refusal.{Refusal}
 use Rattle.refusals.specs.declared.Refusal.TheVariants.{Short}
 use Rattle.refusals.specs.Verdict.{Verdict}
@@ -38,6 +39,12 @@ refusal-read unit {why = why} {number = number} {low = low} e f g h =
       name = λ n. l ∙ low-name why (λ s. n (r ∙ s));
       needed = λ s. l ∙ low-needed why (sym r ∙ s);
     })
+
+-- ---- Alias chains
+pub crossed-read : {a : AliasAnswer} {c : Crossed} → a ≡ Ok c → c.names < 65536 → c.last < 65536 → ReadAlias a (c.names * 65536 + c.last)
+crossed-read {c = c} e h k =
+    let few : c.names * 65536 + c.last < 4294967296 = omega arith in
+    rw e (div-eq_of_lt few, ap (λ (x : ℕ). x / 65536) (mod-eq_of_lt few) ∙ high 65536 c.names c.last k, lower 65536 c.names c.last k)
 
 -- ---- What is read alike is the same
 not-read : {A : Type 0} {n : ℕ} → n ≡ 0 → 1 ≤ n → A

@@ -1,6 +1,7 @@
 -- Laws that the proofs of the functions cite.
 mod Tables
 mod Keys
+mod Child
 mod Gathered
 mod Labelled
 mod Repeated
