@@ -123,9 +123,9 @@ pub(crate) fn trees(
 fn before(a: &[u8], b: &[u8]) -> bool
     ensures { result ≡ before a.now b.now }
 {
-    for i in 0..a.len().min(b.len()) {
-        if a[i] != b[i] {
-            return a[i] < b[i];
+    for (x, y) in a.iter().zip(b) {
+        if x != y {
+            return x < y;
         }
     }
     a.len() < b.len()
