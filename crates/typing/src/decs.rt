@@ -45,7 +45,8 @@ impl<'a> Decs<'a> {
         Entries::new(self.book.definitions(), self.from, self.to)
     }
 
-    // 3 to 6: the bodies, in order, of definitions that are in the table. That they are (`Defined`) is no field: the steps fill tables of their own.
+    // 3 to 6: the bodies, in order, of definitions that are in the table. That they are (`Defined`) is no field:
+    // it holds of tables that are lent, once the definitions are entered.
     fn check_bodies(self, roots: &[u16]) -> Verdict
         requires { Defined self roots.now }
         ensures { result ≡ bodies_verdict (definitions_of self.entry) (definitions_of self.entry) }
