@@ -21,7 +21,7 @@ use syntax::interface::Interface;
 use typing::tables::Tables;
 
 // A book that passed, with what its check found: how many definitions are not the init file's, what its actor offers, and the tables of its names.
-// The first two are typing's `Passed` apart, since each question reads one of them.
+// The first two are typing's `Passed` apart: no question hands both on together.
 #[derive(Drop)]
 pub struct CheckedBook<'b> {
     pub book: AdmittedBook<'b>,
