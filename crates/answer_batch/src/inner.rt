@@ -76,8 +76,7 @@ fn say_lookups(lines: Lines, passed: &CheckedBook) {
         let service = environment::as_service(rows, &passed.tables.ends, node);
         print_found(lines, function, service);
     }
-    if let Some(n) = passed.interface.main() {
-        let top = syntax::class::top_of(rows, n);
+    if let Some(top) = syntax::class::top_of(rows, passed.interface.main()) {
         print_actor(
             lines,
             environment::as_service(rows, &passed.tables.ends, top.below),

@@ -1,5 +1,5 @@
 -- A class as the code cuts it. Definitions; assumes nothing.
-use Rattle.std.specs.Prelude.{◌≡◌, List, Option, Some, None, ℕ, ◌+◌, ◌≤◌, ◌<◌}
+use Rattle.std.specs.Prelude.{◌≡◌, List, Option, Some, None, ℕ, ◌+◌, ◌≤◌, ◌<◌, MatchOption, IsSomeAnd}
 use Rattle.format.specs.Forest.{Forest, end}
 use Rattle.format.specs.Node.{Node}
 use Rattle.format.specs.Layout.{row_at, siblings}
@@ -38,3 +38,7 @@ pub record ArgumentsAs (ns : List ℕ) (count : ℕ) (t : Forest Node) (from unt
 pub record TopAs (ns : List ℕ) (count root : ℕ) (r : Top) : Type 0 where
   pub arguments : ArgumentsAs ns count (tree_at ns root) r.from r.until
   pub below : BelowAs ns root r.below
+
+-- That of an actor of this root; none where there is no root.
+abbrev pub TopFound : List ℕ → ℕ → Option ℕ → Option Top → Type 0
+TopFound ns count root r = MatchOption root (r ≡ None) (λ n. IsSomeAnd r (TopAs ns count n))

@@ -15,6 +15,7 @@ ghost use Rattle.syntax.specs.Interfaces.{IsService, methods_in, ActorAs};
 ghost use Rattle.syntax.specs.Resolving.{service_at, MergedActorAs, ResolvedAs};
 
 use crate::by_file::ByFile;
+use crate::class::top_of;
 use crate::files::Files;
 use crate::interface::{Actor, Interface};
 use book::admitted::AdmittedBook;
@@ -26,8 +27,8 @@ use refusals::{Refusal, Verdict};
 
 // ---- Services
 
-// What is found at the end of a chain: a service, or why there is none. In each case how many names were crossed, which nobody reads yet: each
-// lookup of a service hands it on with what it finds, as the customer asked (docs/requests/03.md).
+// What is found at the end of a chain: a service, or why there is none. In each case it has how many names were crossed: no code reads that yet,
+// but each lookup of a service hands it on with what it finds, as the customer asked (docs/requests/03.md).
 #[derive(Clone, Copy)]
 struct Service {
     found: Result<u16, Refusal>,
@@ -82,16 +83,15 @@ impl Resolver<'_, '_> {
         requires { IfSome root (λ n. n < self.now.book.contents.nodes) }
         ensures { MainFrom self.now root result }
     {
-        let Some(n) = root else {
+        let Some(top) = top_of(self.book.nodes(), root) else {
             return Ok(Interface {
                 actor: Actor::Merged(None),
                 ..Interface::none()
             });
         };
-        let top = crate::class::top_of(self.book.nodes(), n);
         let service = self.chase_service(top.below, Refusal::NoService).found?;
         Ok(Interface {
-            actor: Actor::Merged(Some(n)),
+            actor: Actor::Merged(root),
             from: top.from,
             until: top.until,
             services: ByFile::from(Some(service)),
@@ -134,10 +134,9 @@ fn written(rows: &[u8], ends: &[u32], root: Option<usize>) -> Interface
     ensures { (names nodes : ℕ) (ds : List Definition) → AllTrees rows.now names nodes → EndNodes ends.now nodes → IfSome root (λ n. n < nodes) →
         Chains rows.now ends.now names ds → ActorAs rows.now nodes ds (tree_of rows.now root) result }
 {
-    let Some(n) = root else {
+    let (Some(n), Some(top)) = (root, top_of(rows, root)) else {
         return Interface::none();
     };
-    let top = crate::class::top_of(rows, n);
     let service = environment::as_service(rows, ends, top.below);
     Interface {
         actor: Actor::Written(n),
@@ -157,8 +156,8 @@ fn check_hashes(book: AdmittedBook, services: &[u16]) -> Verdict
     crate::hashes::hashes(book.nodes(), &table, services)
 }
 
-// The actor of a book whose `main` definitions passed, with their tables. Ends are read without imports alone, roots and `main` with them alone, so
-// that one struct of all would say less than they do.
+// The actor of a book whose `main` definitions passed, with their tables. No struct of roots, ends and `main`: without imports ends alone are read,
+// with them the other two, and each function here asks of those that it reads.
 pub fn resolve_actor(
     book: AdmittedBook,
     files: Files,

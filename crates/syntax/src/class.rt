@@ -1,7 +1,7 @@
 // A class's arguments and what stands below its top, cut here alone.
-ghost use Rattle.std.specs.Prelude.{ℕ, ◌+◌, ◌<◌};
+ghost use Rattle.std.specs.Prelude.{ℕ, ◌+◌, ◌<◌, IfSome};
 ghost use Rattle.environment.specs.Trees.{AllTrees};
-ghost use Rattle.syntax.specs.Classes.{LastAs, TopAs};
+ghost use Rattle.syntax.specs.Classes.{LastAs, TopFound};
 
 use book::kinds::Kind;
 use book::read::Node;
@@ -24,23 +24,24 @@ fn last_child(trees: Siblings) -> usize
     trees.last().map_or(trees.at, |(n, _)| n)
 }
 
-// The top of an actor whose root is this node.
-pub fn top_of(rows: &[u8], root: usize) -> Top
-    requires { (names nodes : ℕ) × AllTrees rows.now names nodes × (root < nodes) }
-    ensures { (names nodes : ℕ) → AllTrees rows.now names nodes → root < nodes → TopAs rows.now nodes root result }
+// The top of an actor of this root; none where there is no root.
+pub fn top_of(rows: &[u8], root: Option<usize>) -> Option<Top>
+    requires { (names nodes : ℕ) × AllTrees rows.now names nodes × IfSome root (λ n. n < nodes) }
+    ensures { (names nodes : ℕ) → AllTrees rows.now names nodes → IfSome root (λ n. n < nodes) → TopFound rows.now nodes root result }
 {
-    let t = Node::at(rows, root);
+    let n = root?;
+    let t = Node::at(rows, n);
     if t.kind != Kind::Class as u8 {
-        return Top {
+        return Some(Top {
             from: 0,
             until: 0,
-            below: root,
-        };
+            below: n,
+        });
     }
-    let last = last_child(Siblings::new(rows, root + 1, root + t.size));
-    Top {
-        from: root + 1,
+    let last = last_child(Siblings::new(rows, n + 1, n + t.size));
+    Some(Top {
+        from: n + 1,
         until: last,
         below: last,
-    }
+    })
 }

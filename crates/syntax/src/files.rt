@@ -13,6 +13,7 @@ use refusals::Refusal;
 
 // What is found of the files: the root of main's actor, where it has one; the numbers of the service imports in order; and how many
 // files come before the init file, which is the last: all where there is none, so that what comes before it needs no case.
+// No book in it, with what passed as a fact: the three functions that ask for that have the book anyway, and Files would take its lifetime.
 #[derive(Clone, Copy)]
 pub struct Files {
     pub root: Option<usize>,

@@ -13,6 +13,7 @@ pub enum Actor {
 
 // The actor, and what it offers: the arguments of main's class are the trees from `from` up to `until`, the methods those of the services. An actor
 // as written that is no service has none.
+// `from` and `until` are no Range, which is no Copy, and no Siblings, which would lend the nodes.
 #[derive(Clone, Copy)]
 pub struct Interface {
     pub actor: Actor,

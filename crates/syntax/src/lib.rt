@@ -1,5 +1,5 @@
-// What syntax/mod.rs makes of the files of a book: its imports, and the actor that it means. Functions ask of their caller what an admitted
-// book gives.
+// What syntax/mod.rs makes of the files of a book: its imports, and the actor that it means. What an admitted book gives is in an AdmittedBook;
+// functions without one ask it of their caller.
 #![tactic(auto)]
 
 pub mod actor;

@@ -2,13 +2,15 @@
 --     LastLeft                                     the loop of `last_child`
 --     kids-some, ends-before                       what `top_of` asks
 --     top-other, top-class                         what it finds
+--     top-none, top-some                           what a caller learns of the root
 use mathlib.Core.Path.{◌≡◌, refl, sym, ap, subst, ◌∙◌}
 use mathlib.Core.Bool.{true, false}
 use mathlib.Core.List.{List, [], ◌∷◌}
 use Prim.Native.Nat.{ℕ, ◌+◌, ◌≤◌, ◌<◌}
 use native.Mathlib.Omega.{arith}
 use borrow.Author.Tests.{eq-eqb, ne_eqb}
-use Rattle.std.specs.Prelude.{Option, Some, None}
+use Rattle.std.specs.Prelude.{Option, Some, None, MatchOption}
+use Rattle.std.proofs.lemmas.Option.{none-some}
 use Rattle.std.specs.List.{last_or}
 use Rattle.std.specs.Iterator.{Yields, Drains}
 use Rattle.format.specs.Forest.{Forest, end, tree, beside, breadth}
@@ -28,7 +30,8 @@ use Rattle.judgement.proofs.Classes.{last-beside, others-beside}
 use Rattle.environment.specs.Trees.{AllTrees, Top}
 use Rattle.environment.proofs.Trees.{top}
 use Rattle.syntax.proofs.Stored.{tree-class, tree-kids, whole-join, siblings-join}
-use Rattle.syntax.specs.Classes.{LastAs, BelowAs, ArgumentsAs, TopAs}
+use Rattle.syntax.specs.declared.class.Top as found
+use Rattle.syntax.specs.Classes.{LastAs, BelowAs, ArgumentsAs, TopAs, TopFound}
 
 -- ---- the loop of `last_child`: the trees before node `at`, and the last of them
 pub record LastLeft (ns : List ℕ) (from until found at : ℕ) : Type 0 where
@@ -151,3 +154,11 @@ module _ {ns : List ℕ} {names count : ℕ} (a : AllTrees ns names count) {root
 
   pub top-class : r.kind ≡ 25 → {last : ℕ} → LastAs ns (root + 1) (root + r.size) last → TopAs ns count root (record { from = root + 1; until = last; below = last })
   top-class k l = record { arguments = class-arguments a h r is k l; below = below-last (top a h) r is k l }
+
+pub top-none : (root : Option ℕ) → MatchOption root (◌≡◌ {A = Option found.Top} None None) (λ n. ⊥) → root ≡ None
+top-none None t = refl
+top-none (Some n) t = absurd t
+
+pub top-some : {ns : List ℕ} {count : ℕ} (root : Option ℕ) (r : found.Top) → TopFound ns count root (Some r) → (n : ℕ) × (root ≡ Some n) × TopAs ns count n r
+top-some None r t = absurd (none-some r (sym t))
+top-some (Some n) r t = (n, refl, t)
