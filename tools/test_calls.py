@@ -484,7 +484,7 @@ class Planted(InFolder):
     def test_merge(self):
         """The comparison of trees may recurse, with a proof."""
         self.copy("environment")
-        self.plant("environment/src/merge.rt", "same_roots", "self.same_roots(a, b)")
+        self.plant("environment/src/merge.rt", "same_roots", "let _ = self.same_roots(init, main, n)")
         self.is_wrong("no folder + has a proof of the circle of calls environment::merge::Comparison::same_roots")
 
     def test_renamed(self):
@@ -523,7 +523,7 @@ class Planted(InFolder):
     def test_other_function(self):
         """What need not be a loop may recurse with a proof; the chase is as before."""
         self.copy("syntax")
-        self.plant("syntax/src/actor.rt", "written", "written(rows, ends, root, top)")
+        self.plant("syntax/src/actor.rt", "written", "let _ = written(rows, ends, root)")
         self.is_wrong("no folder + has a proof of the circle of calls syntax::actor::written")
 
     def test_last_crossed(self):
