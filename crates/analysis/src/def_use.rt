@@ -29,7 +29,7 @@ enum Side {
 }
 
 impl Side {
-    // The number that an entry has for it, as the C interface wants it.
+    // The number that an entry has for it, as the C interface wants it. A function, since no contract reads `as u16` of an enum.
     fn number(self) -> u16
         ensures { result ≡ side_number self }
     {
@@ -42,14 +42,11 @@ fn skip(trees: Siblings<'_>, count: usize) -> usize
     ensures { SkipsTo trees.entry.rows.now trees.entry.at trees.entry.until count result }
 {
     let mut rest = trees;
-    match rest.nth(count) {
-        Some((n, _)) => n,
-        None => trees.until,
-    }
+    rest.nth(count).map_or(trees.until, |(n, _)| n)
 }
 
 // Where uses are looked for: a book's rows, where the chains of its aliases end, and the numbers that tell a use. No fact is asked by all methods:
-// a function is to be whole, a service's methods to have ends. Fields for both would need the numbers of names and nodes, which nothing here reads.
+// a function is to be whole, a service's methods to have ends. Fields for both would need the number of nodes, which nothing here reads.
 #[derive(Clone, Copy)]
 pub struct Searched<'a> {
     pub rows: &'a [u8],
@@ -108,8 +105,8 @@ impl Searched<'_> {
         }
     }
 
-    // The entries of the methods of a service, whose first one has position `first`. Gives the position after them, so that it is counted: a walk
-    // that is numbered keeps its count to itself.
+    // The entries of the methods of a service, whose first one has position `first`. Gives the position after them, and so counts by hand: of
+    // `enumerate` the count would have to be taken from a second walk.
     fn put_methods(&self, service: usize, first: usize, uses: &mut Places<'_>) -> usize
         requires { Ended self.now.rows.now self.now.ends.now service × (first ≤ 61440) × (uses.old.count + 16777216 ≤ 4294967295) }
         ensures position { result ≡ first + breadth (siblings self.now.rows.now (service + 1) (service + (row_at self.now.rows.now service).size)) }

@@ -8,7 +8,7 @@ use native.Mathlib.Numerals.{add-one}
 use native.Mathlib.Omega.{arith}
 use borrow.Author.Tests.{lt-ltb, le-ltb}
 use lib.ListN.{length, get_or}
-use Rattle.std.specs.Prelude.{Some, None}
+use Rattle.std.specs.Prelude.{Option, Some, None}
 use Rattle.std.specs.Iterator.{Yields, SkipsThenYields}
 use Rattle.format.specs.Forest.{Forest, breadth}
 use Rattle.format.specs.Node.{Node}
@@ -19,6 +19,7 @@ use Rattle.format.proofs.Trees.{breadth-beside}
 use Rattle.format.proofs.Rows.{Opened, opens, nothing, siblings-none, siblings-opens}
 use Rattle.format.proofs.Stored.{tree-whole, tree-opens}
 use Rattle.syntax.proofs.Stored.{whole-join, siblings-join}
+use Rattle.syntax.proofs.class.Laws.{place_or}
 use Rattle.refusals.specs.Handed.{Use}
 use Rattle.listing.specs.Offers.{site, indexed}
 use Rattle.book.specs.declared.walks.Siblings.{Siblings}
@@ -169,15 +170,19 @@ module _ {ns : List ℕ} {from until : ℕ} (w : Whole ns from until) {s : Sibli
   begun = subst (λ (n : ℕ). SkipLeft ns from until n 0) (sym start) (skip-start w)
 
   -- the tree after so many
-  pub skip-some : {count n : ℕ} {node : read.Node} {u : Siblings} → SkipsThenYields Walks s count (Some (n, node)) u → SkipsTo ns from until count n
+  skip-some : {count n : ℕ} {node : read.Node} {u : Siblings} → SkipsThenYields Walks s count (Some (n, node)) u → SkipsTo ns from until count n
   skip-some {count} {n} (xs, (t, e, x), long) =
       let q = passes xs e o begun in
       subst (SkipsTo ns from until count) (sym x.place)
       record { before = q.1.before; after = q.1.after; least = omega (arith, q.1.counted, long); enough = λ h. omega (arith, q.1.counted, long) }
 
   -- the end, where there are no more
-  pub skip-none : {count : ℕ} {u : Siblings} → SkipsThenYields Walks s count None u → SkipsTo ns from until count until
+  skip-none : {count : ℕ} {u : Siblings} → SkipsThenYields Walks s count None u → SkipsTo ns from until count until
   skip-none (xs, (t, e, x), long) =
       let q = passes xs e o begun in
       let l = subst (λ (n : ℕ). SkipLeft ns from until n (0 + length xs)) (walks.last q.0 x) q.1 in
       record { before = l.before; after = l.after; least = omega (arith, l.counted, long); enough = λ h. absurd (omega arith) }
+
+  pub skips : {count : ℕ} (u : Siblings) (o : Option (ℕ × read.Node)) → SkipsThenYields Walks s count o u → SkipsTo ns from until count (place_or until o)
+  skips u None x = skip-none {u = u} x
+  skips u (Some y) x = skip-some {u = u} x
