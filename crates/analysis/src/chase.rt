@@ -104,7 +104,8 @@ pub fn chase_types(book: BookScope, from: usize, until: usize) -> Result<Walk, R
     chase(book, from, until, Walk::new())
 }
 
-// An actor as written. A second caller would keep the compiler from inlining this function, and the list pay a copy of the walk.
+// An actor as written. A second caller, as the draft list would be, would keep the compiler from inlining this function, and the list pay a copy of
+// the walk.
 fn chase_written(book: BookScope, root: usize) -> Result<Walk, Refusal>
     requires { (root < book.scope.nodes) × Counted book.scope.rows.now book.scope.roots.now }
     ensures { WalkedAs book.entry.scope.rows.now book.entry.scope.roots.now (tree_at book.entry.scope.rows.now root) result }

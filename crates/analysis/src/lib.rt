@@ -1,5 +1,5 @@
-// What a form builder asks of a book: bindings/analysis.rs. Functions ask of their caller what an admitted book that passed gives (specs/); the
-// questions over bytes are the crate `questions`.
+// What a form builder asks of a book: bindings/analysis.rs. Functions take a book or a BookScope, or ask of their caller what one gives (specs/);
+// the questions over bytes are the crate `questions`.
 #![tactic(auto)]
 
 pub mod chase;

@@ -10,7 +10,7 @@ pub(crate) struct Places<'a> {
 }
 
 impl Places<'_> {
-    // One entry more.
+    // One entry more. Its place is tested and sliced, since of `get_mut` std says nothing of what the list ends as.
     pub(crate) fn put(&mut self, entry: &[u16])
         requires room { length entry.now * self.old.count + length entry.now < 2 ^ 64 }
         requires few { self.old.count + 1 < 2 ^ 64 }

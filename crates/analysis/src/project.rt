@@ -48,8 +48,8 @@ fn first_left(left: &Counts) -> Option<u16>
     left.iter().position(|often| *often != 0).map(|n| n as u16)
 }
 
-// A projection on its way: the next position, and the names left over. The positions taken are lent beside it: with both in one struct no proof was found of
-// what the lent list has when the walk is over.
+// A projection on its way: the next position, and the names left over. The positions taken are lent beside it: with both in one struct no proof was
+// found of what the lent list has when the walk is over.
 #[derive(Drop)]
 struct Taking<'a> {
     at: usize,

@@ -1,7 +1,7 @@
 // Which names reach a name by references, and which rows tell one that does. The rows that are a name are linked once, each to the one
 // before it, so that the definitions that refer to a name are found without going through all rows again.
-// Functions ask of their caller what an admitted book gives (specs/Reaching.antt); the private ones take its parts, which are read once. Tables of rows
-// are lent, since a copy of one costs more than all else does on a small book.
+// find_nearest takes an admitted book; the others take its parts, read once, and ask what it gives (specs/Reaching.antt). Tables of rows are
+// lent, since a copy of one costs more than all else does on a small book.
 ghost use Rattle.std.specs.Prelude.{◌≡◌, ◌↔◌, ◌+◌, ◌≤◌, ◌<◌, ℕ, IsTrue};
 ghost use Rattle.format.specs.Layout.{nodes_part, definitions_part};
 ghost use Rattle.environment.specs.Tables.{Nodes, definitions_in};
@@ -20,7 +20,8 @@ use format::Limits;
 // For each row the first row from it on that tells; the number of rows where there is none, so that one comparison says whether trees tell.
 pub type Near = [u16; Limits::NODES + 1];
 
-// Links in the table that is lent for the first rows: for each row one more than the row before it that is the same name, or 0 for none, as in `ByRow`.
+// Links in the table that is lent for the first rows: for each row one more than the row before it that is the same name, or 0 for none, as in
+// `ByRow`.
 type Links = [u16; Limits::NODES + 1];
 
 // A number for each row, one more than a name, or 0 for none: an Option would take twice the memory, of which there is a fixed amount, and zeros are
@@ -124,8 +125,8 @@ pub fn find_nearest(book: AdmittedBook<'_>, main: usize, wanted: usize, near: &m
     find_nearest_in(book.definitions(), book.nodes(), nodes, main, wanted, near);
 }
 
-// The same of rows and entries, which may be of no book; `nodes` where there is none. The table is lent with nothing in it, and has the links of the
-// rows before.
+// The same of rows and entries, which may be of no book: `nodes` is written where no row tells. The table is lent with nothing in it, and has the links
+// of the rows before.
 pub fn find_nearest_in(
     entries: &[u8],
     rows: &[u8],
