@@ -10,7 +10,7 @@ use std::env::{Env, FillError};
 use std::io::{Error, ErrorKind, Print};
 use std::{fs, io, str};
 
-// The system's text of an error, without its number.
+// The system's text of an error, without its number, into a buffer of zeros.
 fn reason<'a>(why: &Error, text: &'a mut [u8]) -> &'a [u8] {
     let mut room = &mut text[..];
     let _ = io::Write::write_fmt(&mut room, why);
@@ -22,7 +22,7 @@ fn reason<'a>(why: &Error, text: &'a mut [u8]) -> &'a [u8] {
         .map_or(all, |(said, _)| said.as_bytes())
 }
 
-// Reads until the input ends or the buffer is full. std reads a whole input into a Vec alone, and `read_exact` refuses one that ends before.
+// Reads until the input ends or the buffer is full. std reads a whole input only into a Vec, and `read_exact` refuses one that ends before.
 fn fill<'b, S: io::Read>(source: &mut S, buf: &'b mut [u8]) -> io::Result<&'b [u8]>
     ensures { IfOk result (λ part. Filled (S.remaining source.old) (S.remaining source.new) (length buf.old) part.now) }
 {
