@@ -69,7 +69,8 @@ impl Question<'_> {
 }
 
 // A book that is asked under these limits, by its source's name, and where the answers go.
-// A word, the name that it is about and a question come apart: in one value they would be put together at each call to be taken apart at once.
+// A word, the name that it is about and a question are handed over apart: in one value they would be put together at each call to be taken apart at
+// once.
 #[derive(Drop)]
 pub(crate) struct Asking<'a> {
     pub(crate) lines: Lines<'a>,

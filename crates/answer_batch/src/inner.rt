@@ -7,7 +7,7 @@ use crate::tally::Given;
 use book::read::Entry;
 use book::walks::Entries;
 use environment::scope::Scope;
-use environment::{End, Lookup};
+use environment::{Alias, End, Lookup};
 use format::Limits;
 use passed::CheckedBook;
 use refusals::Answer;
@@ -20,7 +20,7 @@ impl Asking<'_> {
 
     fn ask_chains(&mut self) {
         self.begin_word(b"chains");
-        match say_chains(self.lines, self.book, self.limits) {
+        match self.say_chains() {
             Err(why) => self.refuse(why),
             Ok(definitions) => self.tally.give_entries(Given::Chains, definitions),
         }
@@ -36,31 +36,30 @@ impl Asking<'_> {
             }
         }
     }
-}
 
-// The chain from each definition's body, in order; 2 where a name is defined twice, be it in two files. Answers how many definitions there are.
-fn say_chains(lines: Lines, bytes: &[u8], limits: Limits) -> Answer {
-    let book = admission::admit(bytes, limits)?;
-    let c = book.contents;
-    let mut roots = [Entry::NO_ROOT; Limits::NAMES];
-    environment::enter(book, 0, c.definitions, &mut roots)?;
-    let scope = Scope::of(book, &roots);
-    lines.count(b"given ", c.definitions);
-    for e in Entries::new(book.definitions(), 0, c.definitions) {
-        let found = scope.alias_end(c.definitions, e.root as usize);
-        print_end(lines, bytes, found.end, found.crossed);
+    // The chain from each definition's body, in order; 2 where a name is defined twice, be it in two files. Answers how many definitions there are.
+    fn say_chains(&self) -> Answer {
+        let book = admission::admit(self.book, self.limits)?;
+        let c = book.contents;
+        let mut roots = [Entry::NO_ROOT; Limits::NAMES];
+        environment::enter(book, 0, c.definitions, &mut roots)?;
+        let scope = Scope::of(book, &roots);
+        self.lines.count(b"given ", c.definitions);
+        for e in Entries::new(book.definitions(), 0, c.definitions) {
+            self.print_end(scope.alias_end(c.definitions, e.root as usize));
+        }
+        self.lines.write(b"\n");
+        Ok(c.definitions)
     }
-    lines.write(b"\n");
-    Ok(c.definitions)
-}
 
-fn print_end(lines: Lines, book: &[u8], end: End, crossed: usize) {
-    match end {
-        End::Ends(_) => lines.count(b" ends.", crossed),
-        End::Circle => lines.count(b" circle.", crossed),
-        End::Unbound(name) => {
-            lines.count(b" unbound.", crossed);
-            lines.name(b" ", book::name(book, name), b"");
+    fn print_end(&self, found: Alias) {
+        match found.end {
+            End::Ends(_) => self.lines.count(b" ends.", found.crossed),
+            End::Circle => self.lines.count(b" circle.", found.crossed),
+            End::Unbound(name) => {
+                self.lines.count(b" unbound.", found.crossed);
+                self.lines.name(b" ", book::name(self.book, name), b"");
+            }
         }
     }
 }
@@ -94,8 +93,7 @@ fn print_actor(lines: Lines, service: Lookup) {
 
 fn names_crossed(lookup: Lookup) -> usize {
     match lookup {
-        Ok(end) => end.crossed as usize,
-        Err(end) => end.crossed as usize,
+        Ok(end) | Err(end) => end.crossed as usize,
     }
 }
 

@@ -1,6 +1,0 @@
-use Rattle.format.specs.Layout.{definitions_part}
-use Rattle.book.specs.Walks.{OverEntries}
-use Rattle.answer_batch.proofs.inner.say_chains.Given as goal
-
-abbrev pub invariant-loop-e : goal.invariant-loop-e
-invariant-loop-e l = OverEntries (definitions_part l.bytes) l.c.definitions l.e-iterator
