@@ -125,8 +125,8 @@ pub fn find_nearest(book: AdmittedBook<'_>, main: usize, wanted: usize, near: &m
     find_nearest_in(book.definitions(), book.nodes(), nodes, main, wanted, near);
 }
 
-// The same of rows and entries, which may be of no book: `nodes` is written where no row tells. The table is lent with nothing in it, and has the links
-// of the rows before.
+// The same of rows and entries, which may be of no book: `nodes` is written where no row tells. The table is lent with nothing in it, and has the
+// links of the rows before.
 pub fn find_nearest_in(
     entries: &[u8],
     rows: &[u8],
