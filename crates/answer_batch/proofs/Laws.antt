@@ -3,7 +3,7 @@
 --     main-held, body-ended     of a passed book: its entries and their bodies, with the table of alias ends
 use mathlib.Core.Path.{◌≡◌, ap}
 use mathlib.Core.List.{List}
-use Prim.Native.Nat.{ℕ, ◌+◌, ◌≤◌, ◌<◌}
+use Prim.Native.Nat.{ℕ, ◌≤◌, ◌<◌}
 use native.Mathlib.Omega.{arith}
 use Rattle.format.specs.Encode as stored
 use Rattle.format.specs.Layout.{entry_at, nodes_part, definitions_part}

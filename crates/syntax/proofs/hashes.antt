@@ -1,4 +1,3 @@
 -- Laws of the hashes of methods.
 pub mod Gathering
 pub mod Verdict
-pub mod Put

@@ -2,19 +2,19 @@
 --     flags-ascending          flags that tell a set give its names, ascending
 --     flagged-kept, -few       they are what is kept of a range, and no more than it has
 --     all-listed               what is put in a table that has room is listed to its end
-use mathlib.Core.Path.{◌≡◌, refl, sym, ap, subst, ◌∙◌}
+use mathlib.Core.Path.{◌≡◌, refl, sym, ap, ◌∙◌}
 use mathlib.Core.Bool.{Bool, true, false, cond}
 use mathlib.Core.List.{List, [], ◌∷◌, ◌++◌, map}
-use Prim.Native.Nat.{ℕ, zero, suc, ◌+◌, ◌≤◌, ◌<◌}
+use Prim.Native.Nat.{ℕ, zero, suc, ◌+◌, ◌≤◌}
 use native.Mathlib.Omega.{arith}
-use Rattle.std.proofs.Common.{length, length-append, Option, Some, Result, Ok, Err}
+use Rattle.std.proofs.Common.{length, Option, Some, Result}
 use Rattle.std.specs.Result.{OnErr, MatchResult}
 use Rattle.std.specs.Iterator.{Yields, YieldsThen, Drains}
 use Rattle.std.proofs.lemmas.Iterator.{YieldsList}
-use Rattle.std.proofs.lemmas.Iterator.Adapters.{at_most_from_yields_List, items_from_extend}
 use Rattle.std.specs.List.{filter, range_with_len}
 use Rattle.book.specs.Tables.{is_set, flagged}
 use Rattle.listing.specs.Recursive.{sorted}
+use Rattle.syntax.proofs.Put.{all-put}
 use Rattle.analysis.specs.Flags.{Agrees}
 
 pub flags-ascending : (flags l : List ℕ) → Agrees flags l → (n k : ℕ) → n + k ≤ 1024 → flagged flags n k ≡ sorted l n k
@@ -46,20 +46,6 @@ flagged-few flags n (suc k) = look (is_set flags n) (flagged-few flags (suc n) k
     look false h = omega (arith, h)
 
 -- ---- What is put in
-module _ {S A : Type 0} (steps : S → Option A → S → Type 0) where
-  one-more : (s t u : S) (xs : List A) (x : A) → Yields steps s xs t → steps t (Some x) u → Yields steps s (xs ++ (x ∷ [])) u
-  one-more s t u [] x e h = (u, subst (λ (q : S). steps q (Some x) u) (sym e) h, refl)
-  one-more s t u (y ∷ ys) x (j, g, e) h = (j, g, one-more j t u ys x e h)
-
-module _ {S A : Type 0} {steps : S → Option A → S → Type 0} where
-  -- what is given before an item is shorter than all that is given
-  not-full : {B : Type 0} {v : A → B} {s u : S} {all : List B} → YieldsList steps v s all → (xs : List A) (x : A) → YieldsThen steps s xs (Some x) u →
-      length xs < length all
-  not-full {B} {v} {s} {u} {all} road xs x (t, e, h) =
-      let m = at_most_from_yields_List {n = length all} road (omega arith) in
-      let l = m.runs (xs ++ (x ∷ [])) u (one-more steps s t u xs x e h) in
-      omega (arith, l, length-append xs (x ∷ []))
-
 module _ {S : Type 0} {steps : S → Option ℕ → S → Type 0} where
   -- the flagged names, put in a table that has nothing: what is put in ends before the table is full
   pub all-listed : {E : Type 0} {s : S} (r : Result (Unit {0}) E) (flags : List ℕ) (k : ℕ) {old new : List ℕ} → k ≤ 1024 → old ≡ [] →
@@ -68,11 +54,5 @@ module _ {S : Type 0} {steps : S → Option ℕ → S → Type 0} where
       OnErr r (length new ≡ 1024) →
       OnErr r ((it : S) × (xs : List ℕ) × (x : ℕ) × (u : S) × (it ≡ s) × YieldsThen steps it xs (Some x) u × (new ≡ old ++ xs)) →
       new ≡ flagged flags 0 k
-  all-listed {E} (Ok v) flags k {old} {new} few none road ran full more =
-      items_from_extend {E = E} {P = λ (xs : List ℕ). new ≡ old ++ xs} (Ok v) ran road
-      ∙ ap (λ (l : List ℕ). l ++ map (λ (m : ℕ). m) (filter (is_set flags) (range_with_len 0 k))) none ∙ sym (flagged-kept flags 0 k)
-  all-listed (Err e) flags k {old} {new} few none road ran full (it, xs, x, u, same, then, are) =
-      let l = not-full road xs x (subst (λ (q : S). YieldsThen steps q xs (Some x) u) same then) in
-      let n = ap length (are ∙ ap (λ (l : List ℕ). l ++ xs) none) in
-      let m = ap length (flagged-kept flags 0 k) in
-      absurd (omega (arith, l, n, m, full, few, flagged-few flags 0 k))
+  all-listed {E} r flags k few none road ran full more =
+      all-put {E = E} r (omega (arith, few, ap length (flagged-kept flags 0 k), flagged-few flags 0 k)) none road ran full more ∙ sym (flagged-kept flags 0 k)

@@ -5,7 +5,7 @@ use Rattle.std.proofs.Common.{ℕ, rules, tests}
 use Rattle.std.proofs.lemmas.Iterator.{YieldsList-from_slice, YieldsList-from_map}
 use Rattle.std.proofs.lemmas.Iterator.Consumers.{YieldsList-at}
 use Rattle.std.proofs.lemmas.List.{length-map}
-use Rattle.syntax.proofs.hashes.Put.{all-put}
+use Rattle.syntax.proofs.Put.{all-put}
 use Rattle.syntax.proofs.hashes.hashes_of.Goals as goal
 
 pub returns : goal.returns
