@@ -17,7 +17,7 @@ use refusals::Refusal;
 use syntax::interface::{Actor, Interface};
 
 // How far a walk has come: a mark for each name seen, and the names listed so far, of which there are no more than definitions.
-#[derive(Drop)]
+#[derive(Clone, Drop)]
 pub struct Walk {
     pub seen: Flags,
     pub listed: ArrayVec<u16, { Limits::DEFINITIONS }>,

@@ -1,4 +1,5 @@
-// The declaration book, read from bytes that nobody vouches for: `layout` decides whether they are a book, and `name` hands out a name. What a book is, is defined in the crate `format`.
+// The declaration book, read from bytes that nobody vouches for: `layout` decides whether they are a book, and `name` hands out a name.
+// What a book is, is defined in the crate `format`.
 #![tactic(auto)]
 
 ghost use Rattle.std.specs.Prelude.{◌≡◌};

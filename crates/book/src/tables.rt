@@ -9,7 +9,8 @@ use crate::read;
 use crate::walks::Names;
 use format::Limits;
 
-// A number for each of the 1,024 names: where it begins, or a link, one more than a place, 0 for none.
+// A number for each of the 1,024 names: where it begins, or a link, one more than a place, 0 for none: an Option would take twice the memory, of
+// which there is a fixed amount.
 pub type ByName = [u16; Limits::NAMES];
 
 // A flag for each of the 1,024 names: 1 where it is set. A byte and no `bool`, which would ask more of who calls `analysis::names_of`: it takes any.

@@ -61,7 +61,8 @@ fn meet(keys: &[u32], links: &mut [u16], n: usize) -> bool
 }
 
 // The first duplicate, each number looked for in the tree of those before it, over N links. A place is linked from another by its
-// number; 0 is none, since nothing leads to the root, place 0.
+// number; 0 is none, since nothing leads to the root, place 0: an Option would take twice the memory, of which there is a
+// fixed amount.
 fn by_tree<const N: usize>(keys: &[u32]) -> Option<usize>
     requires few { length keys.now ≤ 4096 }
     requires room { 2 * length keys.now ≤ N }

@@ -6,8 +6,9 @@
 --     row-within, name-inside           a node, and the name that it is
 --     LinkSays, Bound, link-says        what a link says of a name's definition
 --     ChainLeft, chain-step, ..        the loop of `alias_end`
+--     get_or-within                     a place within a table
 use mathlib.Core.Path.{◌≡◌, refl, sym, ap, ◌∙◌}
-use mathlib.Core.List.{List, []}
+use mathlib.Core.List.{List, [], ◌∷◌}
 use mathlib.Core.Bool.{true, false, false≢true}
 use Rattle.std.specs.Prelude.{Option, Some, None, IfSome, IfNone}
 use Rattle.std.specs.Option.{is_some}
@@ -252,3 +253,9 @@ module _ {ns roots : List ℕ} {names nodes left node at crossed : ℕ} {next : 
               let one_less : left - crossed - 1 ≡ left - (crossed + 1) = omega arith in
               chain-on ds (tree_at ns at) n here _ (left - crossed) (i.is ds b) (omega (arith, l.few))
               ∙ ap (λ (k : ℕ). cross n (chain_from k ds (tree_at ns s.root))) one_less
+
+-- ---- A place within a table has one number, whatever stands for places beyond
+pub get_or-within : (l : List ℕ) (n a b : ℕ) → n < length l → get_or l n a ≡ get_or l n b
+get_or-within [] n a b h = absurd (omega arith)
+get_or-within (x ∷ l) zero a b h = refl
+get_or-within (x ∷ l) (suc n) a b h = get_or-within l n a b (omega arith)

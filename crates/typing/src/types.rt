@@ -113,6 +113,7 @@ impl<'b, 't> Walk<'b, 't> {
         ensures { Under self.now (λ pre ds.
             result ≡ so_many (check_forest pre (not pre && methods) ds (siblings self.now.env.scope.rows.now from until)) (breadth (siblings self.now.env.scope.rows.now from until))) }
     {
+        // Counted beside the walk: the closure of a `try_fold` would call `check_type`, and so need clauses of its own, as in `services_fit`.
         let mut kids: usize = 0;
         for (n, t) in Siblings::new(self.env.scope.rows, from, until) {
             self.check_type(n)?;
