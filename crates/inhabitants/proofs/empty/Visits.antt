@@ -12,8 +12,8 @@ use native.Mathlib.Decide.{ℕ_discrete}
 use native.Mathlib.Omega.{arith}
 use borrow.Author.Tests.{ne_eqb}
 use lib.Dec.{eqb}
-use lib.ListN.{length, get_or, set, take, drop, replicate, length-replicate, get_or-map}
-use lib.Seq.{set-set, take-set-lt, set-get_or, get_or-take, drop-cons}
+use lib.ListN.{length, get_or, set, take, drop, replicate, length-replicate, length-set, get_or-map}
+use lib.Seq.{set-set, take-set-lt, set-get_or, get_or-take, drop-cons, get_or-set_same, get_or-set_other}
 use Rattle.format.specs.Forest.{Forest, end}
 use Rattle.format.specs.Node.{Kind, PrimT, VarT, OptT, VecT, RecordT, VariantT, FuncT, ServT, ClassT, InitT, Node}
 use Rattle.format.specs.Book.{Definition}
@@ -30,8 +30,6 @@ use Rattle.environment.specs.Tables.{Nodes, Roots, found_at, Binds}
 use Rattle.book.specs.Tables.{flagged}
 use Rattle.environment.specs.declared.scope.Scope.{Scope}
 use Rattle.environment.proofs.Definitions.{binds-some}
-use Rattle.std.specs.Array.{IsMapOf}
-use denote.Param.Members.{Mut, Called}
 use mir.Val.{bool_byte}
 use Rattle.inhabitants.specs.declared.empty.Mark.{Mark}
 use Rattle.inhabitants.specs.declared.empty.Mark.TheVariants.{Unvisited, Visiting, Answered}
@@ -331,26 +329,42 @@ flag-set Visiting = refl
 flag-set (Answered true) = refl
 flag-set (Answered false) = refl
 
-pub flag-at : {F : Type 0} {g : Mut F (Mark × Unit {0}) ℕ} {f : F} {marks : List Mark} {flags : List ℕ} {n : ℕ} → IsMapOf g f marks flags n →
-    ((m : Mark) (p q : F) (b : ℕ) → Called g p (m, tt) b q → b ≡ flag_of m) → (i : ℕ) → i < n → get_or flags i 0 ≡ flag_of (get_or marks i Unvisited)
-flag-at {marks = marks} {flags} each is i h = let m = each.at i Unvisited 0 h in is (get_or marks i Unvisited) m.0 m.1 (get_or flags i 0) m.2
+-- The flags of the first k marks, in a table.
+pub record FlagsLeft (marks : List Mark) (flags : List ℕ) (k : ℕ) : Type 0 where
+  pub long : length flags ≡ 1024
+  pub at : (i : ℕ) → i < k → get_or flags i 0 ≡ flag_of (get_or marks i Unvisited)
 
-module _ (marks : List Mark) (flags : List ℕ) (each : (i : ℕ) → i < length marks → get_or flags i 0 ≡ flag_of (get_or marks i Unvisited)) where
-  flags-from : (n k : ℕ) → n + k ≤ length marks → flagged flags n k ≡ empty_from n (map mark_of (take k (drop n marks)))
+pub flags-start : (marks : List Mark) → FlagsLeft marks (replicate 1024 0) 0
+flags-start marks = record { long = length-replicate {A = ℕ} 1024 0; at = λ i l. absurd (omega arith) }
+
+pub flags-on : {marks : List Mark} {flags : List ℕ} {k b : ℕ} → FlagsLeft marks flags k → k < 1024 → b ≡ flag_of (get_or marks k Unvisited) → FlagsLeft marks (set flags k b) (k + 1)
+flags-on {marks} {flags} {k} {b} f h e = record {
+  long = length-set flags k b ∙ f.long;
+  at = λ i l. go i l (ℕ_discrete i k);
+}
+  where
+    go : (i : ℕ) → i < k + 1 → Dec (i ≡ k) → get_or (set flags k b) i 0 ≡ flag_of (get_or marks i Unvisited)
+    go i l (yes q) = rw q (get_or-set_same flags k b 0 (omega (arith, f.long)) ∙ e)
+    go i l (no d) = get_or-set_other flags k i b 0 d ∙ f.at i (omega (arith, d))
+
+module _ (marks : List Mark) (flags : List ℕ) (top : ℕ) (inside : top ≤ length marks) (each : FlagsLeft marks flags top) where
+  flags-from : (n k : ℕ) → n + k ≤ top → flagged flags n k ≡ empty_from n (map mark_of (take k (drop n marks)))
   unfolding flagged empty_from
   flags-from n zero h = refl
   flags-from n (suc k) h =
-      rw (drop-cons marks n Unvisited (omega arith), each n (omega arith), flag-set (get_or marks n Unvisited))
+      rw (drop-cons marks n Unvisited (omega (arith, inside)), each.at n (omega arith), flag-set (get_or marks n Unvisited))
       (ap (λ (l : List ℕ). cond (eqb (flag_of (get_or marks n Unvisited)) 1) (n ∷ l) l) (flags-from (suc n) k (omega arith)))
 
-  pub keys-end : {ns roots : List ℕ} {names n : ℕ} → names ≤ 1024 → KeysLeft ns roots names marks n → names ≤ n → length flags ≡ 1024 → EmptiedAs ns roots names flags
-  unfolding replace_empty keys_from visit_all marks_of
-  keys-end {ns} {roots} {names} {n} few l h long =
-      let z : names - n ≡ 0 = omega arith in
-      record {
-        long = long;
-        is = λ ds b. flags-from 0 names (omega (arith, l.long)) ∙ ap (empty_from 0) (rw z at (l.rest ds b));
-      }
+pub keys-end : {ns roots : List ℕ} {names n k : ℕ} {marks : List Mark} {flags : List ℕ} → names ≤ 1024 → KeysLeft ns roots names marks n → names ≤ n → FlagsLeft marks flags k → names ≤ k →
+    EmptiedAs ns roots names flags
+unfolding replace_empty keys_from visit_all marks_of
+keys-end {ns} {roots} {names} {n} {k} {marks} {flags} few l h each g =
+    let z : names - n ≡ 0 = omega arith in
+    let some : FlagsLeft marks flags names = record { long = each.long; at = λ i q. each.at i (omega arith) } in
+    record {
+      long = each.long;
+      is = λ ds b. flags-from marks flags names (omega (arith, l.long)) some 0 names (omega arith) ∙ ap (empty_from 0) (rw z at (l.rest ds b));
+    }
 
 -- ---- What a scope gives
 abbrev pub env-of : (s : Scope) → Environment s.rows.now s.roots.now s.names

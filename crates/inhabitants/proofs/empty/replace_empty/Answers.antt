@@ -2,7 +2,7 @@
 use mathlib.Core.Path.{sym, ◌∙◌}
 use native.Mathlib.Omega.{arith}
 use Rattle.std.proofs.Common.{rules}
-use Rattle.inhabitants.proofs.empty.Visits.{keys-start, keys-on, flag-at, keys-end, key-settled, key-open, key-visited}
+use Rattle.inhabitants.proofs.empty.Visits.{keys-start, keys-on, keys-end, flags-start, flags-on, key-settled, key-open, key-visited}
 use Rattle.inhabitants.proofs.empty.replace_empty.Goals as goal
 use Rattle.inhabitants.proofs.empty.replace_empty.Goals.{then-not-is_settled, else-not-is_settled}
 
@@ -23,9 +23,11 @@ loop-n-preserved c =
           (key-settled c.args.scope.rows.now _ c.loop-n-test.true _ (sym c.is_settled.ensures ∙ w.if-not-is_settled.false)))
     ]
 
+pub loop-k-init : goal.loop-k-init
+loop-k-init c = flags-start c.loop-n.marks
+
+pub loop-k-preserved : goal.loop-k-preserved
+loop-k-preserved c = flags-on c.loop-k.invariant (omega (arith, c.loop-k-test.true, c.args.scope.whole.few_names)) (search rules)
+
 pub returns : goal.returns
-returns c =
-    let each = c.map.ensures.items in
-    let l = c.loop-n.invariant.long in
-    keys-end c.loop-n.marks c.map.result (λ i h. flag-at each (λ m p q b k. search rules) i (omega (arith, l)))
-    c.args.scope.whole.few_names c.loop-n.invariant c.loop-n-test.false each.long
+returns c = keys-end c.args.scope.whole.few_names c.loop-n.invariant c.loop-n-test.false c.loop-k.invariant c.loop-k-test.false
