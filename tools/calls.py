@@ -9,6 +9,8 @@ whoever handed it on, and nothing else of the crates.
     --stack    also the bytes of stack that one level takes, from the machine code of the library and of the programs, as tools/build.sh makes it
                (tools/stacks.py); no call may lie on a circle there that lies on none in the graph
     --docs     the table must be that of docs/FIGURES.md
+    --proofs   alone: only that the folders `+..` have the functions and the measures of that table, and none that has to be a loop, in a moment and
+               without the kit. The gate runs this; the kit refuses a recursion without such a folder, but for one down a boxed list or tree
 
 The exit status is 1 if a function that has to be a loop (`have_to_be_loops`) reaches a circle: the way is told. It is 1 too if the document has
 another table; 2 if one of LOOPS is gone, if circles and the proofs' folders are not one to one, or if anything is not as this tool knows it, so that
@@ -39,25 +41,29 @@ ALL_OF, BUT = ("environment::", "analysis::", "inhabitants::"), "environment::me
 
 
 # What the kit makes of a crate: for a function the module PATH/Code, with a line for each function that it names; for functions that reach
-# themselves one module PATH/+NAME/Code with the lines of all, and a module for each below it, which names those of the folder that it calls.
+# themselves one module PATH/+NAME/Code with the lines of all, and a module for each below it, which names those of the folder that it calls by their
+# keys, and in quotes those that it hands on, as a closure.
 
 LINE = re.compile(r"^pub calls-(\S+) :", re.MULTILINE)
 USE = re.compile(r"^use Rattle\.(\S+)", re.MULTILINE)
+HANDED = re.compile(r'"([^"\s]+)"')
 
 Function = collections.namedtuple("Function", "named")
 
 
-def members_of(crate, module, folder, codes):
-    """The functions of a folder `+..`, each with those of the folder that it calls."""
+def members_of(crate, module, folder, codes, outside):
+    """The functions of a folder `+..`, each with those of the folder that it names. `outside` has those that they name elsewhere."""
     found = {}
     for path, text in codes.items():
         if path.startswith(f"{folder}/Code/+"):
             name = "::".join([crate, *module, *path.removeprefix(f"{folder}/Code/+").split("-")])
             keys = [use.removeprefix(f"{crate}.specs.contracts.").removesuffix(".Key") for use in USE.findall(text) if use.endswith(".Key")]
-            found[name] = {"::".join([crate, *key.split(".")]) for key in keys}
+            handed = {one for one in HANDED.findall(text) if one.startswith(f"{crate}::")} - outside
+            found[name] = {"::".join([crate, *key.split(".")]) for key in keys} | handed
     expect(found, f"{crate}: {folder} has no functions")
     for name, named in found.items():
         expect(named <= set(found), f"{name} has calls that this tool does not know: {', '.join(sorted(named - set(found)))}")
+    expect(circles(found) == [sorted(found)], f"{crate}: {folder} is no circle by the calls that are read")
     return found
 
 
@@ -74,7 +80,7 @@ def functions_of(codes, crate, known, crates):
         expect(calls == len(named), f"{crate}: {folder} has {calls} calls, and {len(named)} are read")
         within = [use for use in USE.findall(text) if use.startswith(f"{crate}.proofs.") and "+" in use.split(".")[-2] and use.endswith(".Code")]
         if last.startswith("+"):
-            for name, others in members_of(crate, module, folder, codes).items():
+            for name, others in members_of(crate, module, folder, codes, named).items():
                 expect(name not in found, f"{name} is there twice")
                 found[name] = Function(named | frozenset(others))
         elif within and not named:
@@ -170,11 +176,16 @@ def check_whole(root, crate, functions):
         expect(sources[one] == there[one], f"{'::'.join(one)}: the sources have {sources[one]} and what the kit makes has {there[one]}")
 
 
+def has_to_be_loop(name):
+    """By its name alone: one of LOOPS, or of ALL_OF."""
+    return name in LOOPS or name.startswith(ALL_OF) and not name.startswith(BUT)
+
+
 def have_to_be_loops(graph):
-    """The functions that must reach no circle: LOOPS, ALL_OF, whoever calls one of STEPS, and a circle from which one is reached through others."""
+    """The functions that must reach no circle: by their names, whoever calls one of STEPS, and a circle from which one is reached through others."""
     again = {name for members in circles(graph) if not reached(graph, members).isdisjoint(STEPS) for name in members}
     callers = {name for name in graph if not graph[name].isdisjoint(STEPS)}
-    return again | callers | {name for name in graph if name in LOOPS or name.startswith(ALL_OF) and not name.startswith(BUT)}
+    return again | callers | set(filter(has_to_be_loop, graph))
 
 
 class Graph:
@@ -298,6 +309,20 @@ def stored(root):
     return [[cell.strip() for cell in line.strip("|").split("|")] for number, line in enumerate(lines) if number != 1]
 
 
+def tell_proofs(root):
+    """Whether the folders `+..` are those of the document's table, and none is of a function that has to be a loop, as the exit status."""
+    proofs = folders(root)
+    for name in filter(has_to_be_loop, (name for members in proofs for name in members)):
+        print(f"{name} has to be a loop, and has a proof of a function that reaches itself")
+        return 1
+    falls = [measures(members, proofs[members]) for members in sorted(proofs)]
+    lines = [[line[0], line[2]] for line in rows(Graph(), sorted(proofs), falls, [0] * len(proofs))]
+    if lines != [[line[0], line[2]] for line in stored(root)[1:]]:
+        print(table([[HEAD[0], HEAD[2]], *lines]), end=f"\n{DOCUMENT} has another table\n")
+        return 1
+    return 0
+
+
 def tell(root, options):
     """Prints what was found, and answers the exit status."""
     graph, path = read(root, generated)
@@ -323,11 +348,12 @@ def tell(root, options):
 def main(arguments):
     options = {argument for argument in arguments if argument.startswith("--")}
     roots = [argument for argument in arguments if argument not in options]
-    if options - {"--stack", "--docs"} or len(roots) > 1:
+    if options - {"--stack", "--docs"} and options != {"--proofs"} or len(roots) > 1:
         print(__doc__.strip(), file=sys.stderr)
         return 2
+    root = os.path.abspath(roots[0] if roots else ROOT)
     try:
-        return tell(os.path.abspath(roots[0] if roots else ROOT), options)
+        return tell_proofs(root) if "--proofs" in options else tell(root, options)
     except Wrong as wrong:
         print(f"calls: {wrong}", file=sys.stderr)
         return 2

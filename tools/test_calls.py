@@ -9,12 +9,14 @@ crates' own table has the stack.
 import contextlib
 import functools
 import io
+import multiprocessing
 import os
 import re
 import shutil
 import subprocess
 import sys
 import tempfile
+import time
 import unittest
 from unittest import mock
 
@@ -164,6 +166,34 @@ class SmallCrates(InFolder):
             #[cycle(both)] fn last(n: u64) -> u64 { Number { n: n }.third() }
         """, ["Number::half", "Number::other"], ["Number::third", "last"])
 
+    def test_handed_on(self):
+        """Through a closure, a function, a method of a bound or an iterator that is handed on, and a pointer."""
+        call = "planted::fn::%s+FnOnce::call_once"
+        self.no_loops()
+        crate(self.root, "planted", """
+            pub fn one(n: u64) -> bool { if n == 0 { return true; } Some(n / 2).is_some_and(|m| one(m)) }
+            pub fn two(n: u64) -> bool { if n == 0 { return true; } Some(n / 2).is_some_and(two) }
+            pub fn three(n: u64) -> u64 { if n == 0 { return 0; } let f: fn(u64) -> u64 = three; f(n / 2) }
+            fn each<F: FnOnce(u64) -> bool>(f: F, n: u64) -> bool { f(n) }
+            pub fn four(n: u64) -> bool { if n == 0 { return true; } Some(n / 2).is_some_and(|m| each(|k| four(k), m)) }
+            pub trait Half { fn half(self) -> u64; }
+            impl Half for u64 { #[cycle(five)] fn half(self) -> u64 { if self == 0 { return 0; } five(self / 2) } }
+            fn of<T: Half>(t: T) -> u64 { t.half() }
+            #[cycle(five)] pub fn five(n: u64) -> u64 { of(n) }
+            #[derive(Clone, Copy)] pub struct Down { pub n: u64 }
+            impl Iterator for Down {
+                type Item = u64;
+                #[cycle(six)] fn next(&mut self) -> Option<u64> { if self.n == 0 { return None; } self.n /= 2; Some(six(self.n)) }
+            }
+            #[cycle(six)] pub fn six(n: u64) -> u64 { let mut t = 0; for m in (Down { n }) { t = m; } t }
+        """)
+        self.assertEqual(self.circles(), [
+            ["planted::DownIterator::next", "planted::six"], ["planted::U64Half::half", "planted::five"],
+            ["planted::fn::four::fn::is_some_and::each", call % "four::fn::is_some_and::each", "planted::fn::four::is_some_and",
+             call % "four::is_some_and", "planted::four"],
+            ["planted::fn::one::is_some_and", call % "one::is_some_and", "planted::one"],
+            ["planted::planted++two+FnOnce::call_once", "planted::two"], ["planted::three"]])
+
     def test_other_crate(self):
         """A recursion is found from the crate above, and what falls is told."""
         self.no_loops()
@@ -226,7 +256,7 @@ class SmallCrates(InFolder):
         self.is_wrong("environment::scope::Scope::alias_end has to be a loop and is not there")
 
     def test_usage(self):
-        for arguments in (["--stacks"], [self.root, self.root]):
+        for arguments in (["--stacks"], ["--proofs", "--docs"], [self.root, self.root]):
             status, out, err = told(*arguments)
             self.assertEqual((status, out, err), (2, "", calls.__doc__.strip() + "\n"))
 
@@ -280,6 +310,16 @@ class Proofs(InFolder):
         self.assertEqual(calls.in_words("a::A::f", " 2 * (row_at l.self.now.rows.now l.n).size"), "2 * (row_at self.rows n).size")
         self.assertEqual(calls.in_words("a::A::f", " l.a_until - l.self.a.now"), "a_until - self.a")
 
+    def test_measure_of_two_of_one_name(self):
+        """A function's is not its method's."""
+        path = os.path.join(self.root, "Invariants.antt")
+        write(path, "decreases-f l = l.n\ndecreases-A::f l = l.m\n")
+        self.assertEqual(list(calls.measures(("a::A::f", "a::f"), path)), ["m", "n"])
+
+    def test_two_folders(self):
+        crate(self.root, "planted", DOWN, folders={"+down": DOWN_PROOF, "+again": DOWN_PROOF})
+        self.is_wrong("planted::down have two folders +", "--proofs")
+
     def test_no_parameter(self):
         self.measured("decreases-one l = depth l", "decreases-two l = l.n")
         self.is_wrong("planted::one: the measure has what is no parameter: depth l")
@@ -296,6 +336,21 @@ class Proofs(InFolder):
         self.measured("decreases-one l = l.from", "decreases-one l = l.until", "decreases-two l = l.n")
         self.is_wrong("decreases-one is stated twice")
 
+    def test_proofs_alone(self):
+        """Without the kit: folders that are the document's, and others; and of a function that has to be a loop."""
+        self.measured("decreases-one l = l.until - l.from", "decreases-two l = l.n")
+        rows = ["| `planted::one` | the library | `until - from` | 80 |", "| with `planted::two` | the library | `n` | |"]
+        for lines, status in (
+            (rows, 0), (rows[:1], 1), ([*rows, rows[1]], 1), (rows[::-1], 1), ([rows[0].replace("from", "until"), rows[1]], 1),
+            ([rows[0].replace("80", "88"), rows[1]], 0),
+        ):
+            write(os.path.join(self.root, calls.DOCUMENT), "\n".join([calls.MARK.strip(), "| head |", "|---|", *lines, calls.END]))
+            with self.subTest(lines), mock.patch.object(calls, "generated", None):
+                got, out, err = told("--proofs", self.root)
+                self.assertEqual((got, err, out == ""), (status, "", status == 0), out)
+        with mock.patch.object(calls, "LOOPS", ("planted::two",)):
+            self.assertEqual(told("--proofs", self.root), (1, "planted::two has to be a loop, and has a proof of a function that reaches itself\n", ""))
+
 
 def function(name, *callees):
     """A module as the kit makes it, with its path."""
@@ -307,9 +362,10 @@ def codes(*functions):
     return dict(functions)
 
 
-def member(folder, name, *keys):
-    """A module of a function in a folder `+..` of the crate a, which calls these of the folder."""
-    return f"{folder}/Code/+{name}", "".join(f"use Rattle.a.specs.contracts.{key}.Key as Key'\n" for key in keys)
+def member(folder, name, *keys, handed=()):
+    """A module of a function in a folder `+..` of the crate a, which calls these of the folder, and hands others on."""
+    used = "".join(f"use Rattle.a.specs.contracts.{key}.Key as Key'\n" for key in keys)
+    return f"{folder}/Code/+{name}", used + "".join(f'(List.◌∷◌ "{one}" List.[])\n' for one in handed)
 
 
 class Modules(unittest.TestCase):
@@ -329,8 +385,9 @@ class Modules(unittest.TestCase):
 
     def test_passed_on(self):
         """A member's own module says where the member is."""
-        own = ("h/Code", "use Rattle.a.proofs.+h.Code\n")
-        self.assertEqual(self.read(function("a::f", "a::h"), ("+h/Code", ""), member("+h", "h", "h"), own), {"a::f": {"a::h"}, "a::h": {"a::h"}})
+        own, (place, text) = ("h/Code", "use Rattle.a.proofs.+h.Code\n"), function("a::f", "a::h")
+        for caller in (text, own[1] + text):
+            self.assertEqual(self.read((place, caller), ("+h/Code", ""), member("+h", "h", "h"), own), {"a::f": {"a::h"}, "a::h": {"a::h"}})
         self.is_wrong("a::h is said to be in a.proofs.+h.Code, and is not", function("a::f"), own)
 
     def test_known(self):
@@ -342,8 +399,20 @@ class Modules(unittest.TestCase):
         self.is_wrong("a::h has calls that this tool does not know: a::g", ("+h/Code", ""), member("+h", "h", "g"))
         self.is_wrong("a::h has calls that this tool does not know: a::b::specs::contracts::g", ("+h/Code", ""), ("+h/Code/+h", "use Rattle.b.specs.contracts.g.Key\n"))
 
+    def test_handed_on(self):
+        """A function that hands one of its folder on, and one of no folder, and one of the kit's."""
+        lines = "\npub calls-a::g :\n\npub calls-core::any :\n"
+        found = self.read(("+h/Code", lines), member("+h", "h", handed=["a::k+Fn::call", "a::g", "core::next"]), member("+h", "k+Fn-call", "h"), function("a::g"))
+        outside = {"a::g", "core::any"}
+        self.assertEqual(found, {"a::h": {"a::k+Fn::call"} | outside, "a::k+Fn::call": {"a::h"} | outside, "a::g": set()})
+
+    def test_no_circle(self):
+        """The kit has a folder for functions that call one another; so have they by what is read."""
+        self.is_wrong("a: +h is no circle by the calls that are read", ("+h/Code", ""), member("+h", "h"))
+        self.is_wrong("a: +h is no circle by the calls that are read", ("+h/Code", ""), member("+h", "h", "h"), member("+h", "k", "h"))
+
     def test_twice(self):
-        self.is_wrong("a::h is there twice", ("+h/Code", ""), member("+h", "h"), ("+g/Code", ""), member("+g", "h"))
+        self.is_wrong("a::h is there twice", ("+h/Code", ""), member("+h", "h", "h"), ("+g/Code", ""), member("+g", "h", "h"))
 
     def test_nothing(self):
         self.is_wrong("a: +h has no functions", ("+h/Code", ""))
@@ -356,6 +425,14 @@ class Modules(unittest.TestCase):
         graph.add("b", {"b::i": calls.Function({"b::g"})})
         self.assertEqual((calls.circles(graph.calls()), graph.kit), ([["a::f", "b::g", "b::h"]], {"core::c"}))
         self.assertEqual(graphs.way_round(graph.calls(), {"b::i"}), ["b::i", "b::g", "b::h", "a::f", "b::g"])
+
+    def test_library(self):
+        """What exports reaches, and not the kit's."""
+        graph = calls.Graph()
+        graph.add("a", {"a::f": calls.Function({"core::c"}), "a::g": calls.Function(set())})
+        graph.add("exports", {"exports::e": calls.Function({"a::f"})})
+        graph.add("list", {"list::main": calls.Function({"a::g"})})
+        self.assertEqual(graph.library, {"a::f", "exports::e"})
 
     def test_who_calls_step(self):
         """It reaches no circle, on which it is or not; who calls it may."""
@@ -402,11 +479,10 @@ class Planted(InFolder):
         patch.start()
         self.addCleanup(patch.stop)
         with open(os.path.join(calls.ROOT, "crates.txt"), encoding="utf-8") as file:
-            lines = [line for line in file if line.startswith(f"{name}:")]
-        known = calls.crate_names(calls.ROOT)
-        needed = [one for one in [*lines[0].split(":")[1].split(), name] if one in known]  # the kit's libraries are not listed
-        with open(os.path.join(calls.ROOT, "crates.txt"), encoding="utf-8") as file:
-            write(os.path.join(self.root, "crates.txt"), "".join(line for line in file if line.split(":")[0] in needed))
+            lines = dict(line.split("#")[0].split(":") for line in file if ":" in line.split("#")[0])
+        below = {one: set(rest.split()) & set(lines) for one, rest in lines.items()}  # the kit's libraries are not listed
+        needed = graphs.reached(below, {name})
+        write(os.path.join(self.root, "crates.txt"), "".join(f"{one}:{rest}" for one, rest in lines.items() if one in needed))
         for one in needed:
             source = os.path.abspath(os.path.join(calls.ROOT, "crates", one))
             shutil.copytree(source, os.path.join(self.root, "crates", one), ignore=lambda path, _: ["incremental"] if path == f"{source}/out" else [])
@@ -471,7 +547,7 @@ class Planted(InFolder):
 
     def test_as_func(self):
         self.copy("environment")
-        self.plant("environment/src/lib.rt", "look_up", "as_func(rows, ends, node)")
+        self.plant("environment/src/lib.rt", "look_up", "let _ = as_func(rows, ends, node)")
         self.in_cycle("environment/src/lib.rt", "look_up", "as_func")
         self.goes("environment::as_func", "environment::look_up", "environment::as_func")
 
@@ -593,7 +669,7 @@ class MachineCode(unittest.TestCase):
     def test_longest_way(self):
         """Of f, g, f and of f, h, g, f; by the section's name or the symbol's."""
         self.assertEqual(self.levels(
-            code("f", "push   %rbx", "call   9 <f+0x9> @.text.g", "call   9 <f+0x9> @h", "pop    %rbx", "ret"),
+            code("f", "push   %rbx", "call   9 <f+0x9> @.text.g", "call   9 <f+0x9> @.text.unlikely.h", "pop    %rbx", "ret"),
             code("g", "sub    $0x10,%rsp", "call   9 <g+0x9> @f", "add    $0x10,%rsp", "ret"),
             code("h", "sub    $0x100,%rsp", "call   9 <h+0x9> @g", "add    $0x100,%rsp", "ret")), {("f", "g", "h"): 16 + 24 + 264})
 
@@ -713,5 +789,27 @@ class Crates(unittest.TestCase):
                     self.assertEqual(told("--docs", *options)[0], status)
 
 
+def outcome(name):
+    """Of a test, by its name: what there is to say if it fails."""
+    said = io.StringIO()
+    passed = unittest.TextTestRunner(stream=said).run(unittest.defaultTestLoader.loadTestsFromName(name, sys.modules[__name__])).wasSuccessful()
+    return "" if passed else said.getvalue()
+
+
+def side_by_side():
+    """Runs the tests in as many processes as there are processors, each with what was read of the crates. The exit status; the output as unittest's."""
+    begin = time.monotonic()
+    for name in calls.crate_names(calls.ROOT):
+        real(name)
+    names = [".".join(test.id().split(".")[1:]) for tests in unittest.defaultTestLoader.loadTestsFromModule(sys.modules[__name__]) for test in tests]
+    with multiprocessing.get_context("fork").Pool() as pool:
+        failed = 0
+        for name, said in zip(names, pool.imap(outcome, names)):
+            failed += said != ""
+            print(f"{said}{name} ... {'FAIL' if said else 'ok'}", file=sys.stderr, flush=True)
+    print(f"\nRan {len(names)} tests in {time.monotonic() - begin:.0f} s\n\n{f'FAILED (failures={failed})' if failed else 'OK'}", file=sys.stderr)
+    return 1 if failed else 0
+
+
 if __name__ == "__main__":
-    unittest.main()
+    sys.exit(unittest.main() if len(sys.argv) > 1 else side_by_side())
