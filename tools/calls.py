@@ -9,12 +9,13 @@ whoever handed it on, and nothing else of the crates.
     --stack    also the bytes of stack that one level takes, from the machine code of the library and of the programs, as tools/build.sh makes it
                (tools/stacks.py); no call may lie on a circle there that lies on none in the graph
     --docs     the table must be that of docs/FIGURES.md
-    --proofs   alone: only that the folders `+..` have the functions and the measures of that table, and none that has to be a loop, in a moment and
-               without the kit. The gate runs this; the kit refuses a recursion without such a folder, but for one down a boxed list or tree
+    --proofs   alone: only that the folders `+..` have the functions and the measures of that table, none of which has to be a loop by its name, in
+               a moment and without the kit. The gate runs this; the kit refuses a recursion without such a folder, but for one down a type that
+               holds itself or one that is proved by hand, of which it lets none pass
 
-The exit status is 1 if a function that has to be a loop (`have_to_be_loops`) reaches a circle: the way is told. It is 1 too if the document has
-another table; 2 if one of LOOPS is gone, if circles and the proofs' folders are not one to one, or if anything is not as this tool knows it, so that
-a call might be missed.
+The exit status is 1 if a function that has to be a loop (`have_to_be_loops`) reaches a circle: the way is told. It is 1 too if with --docs or
+--proofs the document has another table; 2 if one of LOOPS is gone, if circles and the proofs' folders are not one to one, or if anything is not as
+this tool knows it, so that a call might be missed.
 """
 
 import collections
@@ -33,22 +34,31 @@ MARK, END = "<!-- calls -->\n", "<!-- end -->"
 
 # What follows a name to the next: the one function that does.
 STEPS = ("environment::scope::Scope::step",)
-# What these reach must reach itself nowhere: that step, the alias end, the tables of ends, the lookups, and who looks a service up.
-LOOPS = (*STEPS, "environment::scope::Scope::alias_end", "environment::scope::Scope::find_ends", "environment::end_of",
-         "environment::names_crossed", "environment::as_func", "environment::as_service", "syntax::actor::Resolver::chase_service")
+# What these reach must reach itself nowhere: that step, the alias end, the tables of ends, the lookups, who looks a service up, and the last name.
+LOOPS = (*STEPS, "environment::scope::Scope::alias_end", "environment::scope::Scope::find_ends", "environment::end_of", "environment::names_crossed",
+         "environment::as_func", "environment::as_service", "syntax::actor::Resolver::chase_service", "passed::alias::last_crossed")
 # And whatever else goes from name to definition, but for the comparison of trees.
 ALL_OF, BUT = ("environment::", "analysis::", "inhabitants::"), "environment::merge::"
 
 
 # What the kit makes of a crate: for a function the module PATH/Code, with a line for each function that it names; for functions that reach
 # themselves one module PATH/+NAME/Code with the lines of all, and a module for each below it, which names those of the folder that it calls by their
-# keys, and in quotes those that it hands on, as a closure.
+# keys. What is handed on as a method of an impl, a closure's too, stands in quotes, in PATH/Code/Mir where that is there, and of the function's own
+# impl there alone.
 
 LINE = re.compile(r"^pub calls-(\S+) :", re.MULTILINE)
 USE = re.compile(r"^use Rattle\.(\S+)", re.MULTILINE)
 HANDED = re.compile(r'"([^"\s]+)"')
 
+# A trait's own body of a method, to which the method of an impl hands that impl, and which calls none of its methods.
+OWN_BODY = "core::iter::base::Iterator::size_hint"
+
 Function = collections.namedtuple("Function", "named")
+
+
+def handed_on(crate, text):
+    """The functions of the crate that a text has in quotes."""
+    return {one for one in HANDED.findall(text) if one.startswith(f"{crate}::")}
 
 
 def members_of(crate, module, folder, codes, outside):
@@ -58,8 +68,7 @@ def members_of(crate, module, folder, codes, outside):
         if path.startswith(f"{folder}/Code/+"):
             name = "::".join([crate, *module, *path.removeprefix(f"{folder}/Code/+").split("-")])
             keys = [use.removeprefix(f"{crate}.specs.contracts.").removesuffix(".Key") for use in USE.findall(text) if use.endswith(".Key")]
-            handed = {one for one in HANDED.findall(text) if one.startswith(f"{crate}::")} - outside
-            found[name] = {"::".join([crate, *key.split(".")]) for key in keys} | handed
+            found[name] = {"::".join([crate, *key.split(".")]) for key in keys} | handed_on(crate, text) - outside
     expect(found, f"{crate}: {folder} has no functions")
     for name, named in found.items():
         expect(named <= set(found), f"{name} has calls that this tool does not know: {', '.join(sorted(named - set(found)))}")
@@ -86,7 +95,10 @@ def functions_of(codes, crate, known, crates):
         elif within and not named:
             passed_on["::".join([crate, *module, last])] = within
         else:
-            found["::".join([crate, *module, last])] = Function(named)
+            name = "::".join([crate, *module, last])
+            expect(name not in found, f"{name} is there twice")
+            handed = handed_on(crate, text + codes.get(f"{path}/Mir", "")) if OWN_BODY not in named else set()
+            found[name] = Function(named | handed)
     expect(found or not codes, f"{crate} has modules and no functions")
     for name, folders in passed_on.items():
         expect(name in found, f"{name} is said to be in {', '.join(folders)}, and is not")
@@ -101,8 +113,10 @@ def functions_of(codes, crate, known, crates):
 
 def crate_names(root):
     with open(os.path.join(root, "crates.txt"), encoding="utf-8") as file:
-        lines = [line.split("#")[0].split() for line in file]
-    return [line[0].rstrip(":") for line in lines if line]
+        names = [line.split("#")[0].split(":")[0].split()[0] for line in file if line.split("#")[0].strip()]
+    for name in names:
+        expect(os.path.isdir(os.path.join(root, "crates", name)), f"crates/{name} is not there")
+    return names
 
 
 def generated(root, crate):
@@ -224,6 +238,8 @@ def read(root, codes_of):
 # What falls at each call: the measures in the proofs.
 
 DECREASES = re.compile(r"^decreases-(\w+(?:::\w+)*)(?: g)? l =((?: .*|\n +\S.*)+)$", re.MULTILINE)
+STATED = re.compile(r"^(?:\w+ )*decreases-(\w+(?:::\w+)*)(?![-\w:])", re.MULTILINE)
+COMMENT = re.compile(r"\{-.*?-\}", re.DOTALL)
 
 
 def folders(root):
@@ -231,7 +247,8 @@ def folders(root):
     found = {}
     for crate in crate_names(root):
         top = os.path.join(root, "crates", crate, "proofs")
-        for path, names, _ in os.walk(top):
+        for path, names, files in os.walk(top):
+            expect("Proof.antt" not in files, f"{path} has a proof by hand, which may be of a recursion")
             for name in names:
                 if name.startswith("+"):
                     file = os.path.join(path, name, "Invariants.antt")
@@ -247,11 +264,13 @@ def stated(path):
     """The measures of a file, by the functions' names. A loop's is named after the loop too, `decreases-FUNCTION-loop-i` or `decreases-loop-i`."""
     expect(os.path.exists(path), f"{path} is not there")
     with open(path, encoding="utf-8") as file:
-        text = file.read()
+        text = COMMENT.sub("", file.read())
     found = {}
     for name, body in DECREASES.findall(text):
         expect(name not in found, f"{path}: decreases-{name} is stated twice")
         found[name] = body
+    for name in STATED.findall(text):
+        expect(name in found, f"{path}: decreases-{name} is stated as this tool does not know")
     return found
 
 
@@ -354,8 +373,8 @@ def main(arguments):
     root = os.path.abspath(roots[0] if roots else ROOT)
     try:
         return tell_proofs(root) if "--proofs" in options else tell(root, options)
-    except Wrong as wrong:
-        print(f"calls: {wrong}", file=sys.stderr)
+    except Exception as wrong:  # whatever failed, nothing is shown
+        print(f"calls: {wrong if isinstance(wrong, Wrong) else repr(wrong)}", file=sys.stderr)
         return 2
 
 

@@ -194,6 +194,18 @@ class SmallCrates(InFolder):
             ["planted::fn::one::is_some_and", call % "one::is_some_and", "planted::one"],
             ["planted::planted++two+FnOnce::call_once", "planted::two"], ["planted::three"]])
 
+    def test_own_impl(self):
+        """A method that hands its own impl on, for which the kit has no folder."""
+        self.has("""
+            #[derive(Clone, Copy)] pub struct A { pub n: u64 }
+            impl From<A> for u64 { fn from(a: A) -> u64 { if a.n == 0 { return 0; } A { n: a.n / 2 }.into() } }
+            impl Default for A { fn default() -> A { None.unwrap_or_default() } }
+            impl Iterator for A {
+                type Item = u64;
+                fn next(&mut self) -> Option<u64> { if self.n == 0 { return None; } A { n: self.n / 2 }.last() }
+            }
+        """, ["ADefault::default"], ["AIterator::next"], ["U64FromA::from"])
+
     def test_other_crate(self):
         """A recursion is found from the crate above, and what falls is told."""
         self.no_loops()
@@ -255,6 +267,19 @@ class SmallCrates(InFolder):
         write(os.path.join(folder, "scope.rt"), "#[derive(Clone, Copy)]\npub struct Scope;\nimpl Scope {\n    pub fn step(self, n: u64) -> u64 { n }\n}\n")
         self.is_wrong("environment::scope::Scope::alias_end has to be a loop and is not there")
 
+    def test_crates(self):
+        write(os.path.join(self.root, "crates.txt"), "# one:\ntwo:one # with\n\none :\n")
+        for name in ("one", "two"):
+            os.makedirs(os.path.join(self.root, "crates", name))
+        self.assertEqual(calls.crate_names(self.root), ["two", "one"])
+        os.rmdir(os.path.join(self.root, "crates", "one"))
+        self.is_wrong("crates/one is not there")
+
+    def test_error(self):
+        """Whatever fails is no recursion."""
+        for option in ((), ("--proofs",)):
+            self.is_wrong("FileNotFoundError", *option)
+
     def test_usage(self):
         for arguments in (["--stacks"], ["--proofs", "--docs"], [self.root, self.root]):
             status, out, err = told(*arguments)
@@ -315,6 +340,23 @@ class Proofs(InFolder):
         path = os.path.join(self.root, "Invariants.antt")
         write(path, "decreases-f l = l.n\ndecreases-A::f l = l.m\n")
         self.assertEqual(list(calls.measures(("a::A::f", "a::f"), path)), ["m", "n"])
+
+    def test_measure_in_other_form(self):
+        for line in ("decreases-two x = x.n", "decreases-two = λ l. l.n", "abbrev pub decreases-two : goal.decreases-two"):
+            with self.subTest(line):
+                self.setUp()
+                self.measured("decreases-one l = l.until", line)
+                self.is_wrong("decreases-two is stated as this tool does not know", "--proofs")
+
+    def test_measure_in_comment(self):
+        path = os.path.join(self.root, "Invariants.antt")
+        write(path, "{-\ndecreases-f l = l.n\n-}\ndecreases-f l = l.m\n")
+        self.assertEqual(calls.stated(path), {"f": " l.m"})
+
+    def test_by_hand(self):
+        crate(self.root, "planted", DOWN)
+        write(os.path.join(self.root, "crates", "planted", "proofs", "down", "Proof.antt"), "")
+        self.is_wrong("proofs/down has a proof by hand, which may be of a recursion", "--proofs")
 
     def test_two_folders(self):
         crate(self.root, "planted", DOWN, folders={"+down": DOWN_PROOF, "+again": DOWN_PROOF})
@@ -406,13 +448,22 @@ class Modules(unittest.TestCase):
         outside = {"a::g", "core::any"}
         self.assertEqual(found, {"a::h": {"a::k+Fn::call"} | outside, "a::k+Fn::call": {"a::h"} | outside, "a::g": set()})
 
+    def test_own_impl(self):
+        """What is in quotes in a function's module or what it is made of; a trait's own body calls none of them."""
+        lines, own = ("f/Code", '"a::f" "b::g" "core::f"'), ("f/Code/Mir", '"a::g"')
+        self.assertEqual(self.read(lines, own, function("a::g")), {"a::f": {"a::f", "a::g"}, "a::g": set()})
+        body = function("a::f", calls.OWN_BODY)
+        self.assertEqual(self.read((body[0], body[1] + lines[1]), own), {"a::f": {calls.OWN_BODY}})
+
     def test_no_circle(self):
         """The kit has a folder for functions that call one another; so have they by what is read."""
         self.is_wrong("a: +h is no circle by the calls that are read", ("+h/Code", ""), member("+h", "h"))
         self.is_wrong("a: +h is no circle by the calls that are read", ("+h/Code", ""), member("+h", "h", "h"), member("+h", "k", "h"))
 
     def test_twice(self):
-        self.is_wrong("a::h is there twice", ("+h/Code", ""), member("+h", "h", "h"), ("+g/Code", ""), member("+g", "h", "h"))
+        one = ("+h/Code", ""), member("+h", "h", "h")
+        self.is_wrong("a::h is there twice", *one, ("+g/Code", ""), member("+g", "h", "h"))
+        self.is_wrong("a::h is there twice", *one, function("a::h", "core::c"))
 
     def test_nothing(self):
         self.is_wrong("a: +h has no functions", ("+h/Code", ""))
