@@ -50,7 +50,7 @@ LINE = re.compile(r"^pub calls-(\S+) :", re.MULTILINE)
 USE = re.compile(r"^use Rattle\.(\S+)", re.MULTILINE)
 HANDED = re.compile(r'"([^"\s]+)"')
 
-# A trait's own body of a method, to which the method of an impl hands that impl, and which calls none of its methods.
+# A trait's own body of a method, which calls none of the methods of the impl that it is handed: the method that the kit makes of it calls nothing else.
 OWN_BODY = "core::iter::base::Iterator::size_hint"
 
 Function = collections.namedtuple("Function", "named")
@@ -97,8 +97,8 @@ def functions_of(codes, crate, known, crates):
         else:
             name = "::".join([crate, *module, last])
             expect(name not in found, f"{name} is there twice")
-            handed = handed_on(crate, text + codes.get(f"{path}/Mir", "")) if OWN_BODY not in named else set()
-            found[name] = Function(named | handed)
+            made = named - {f"{crate}::Destruct++none::drop"} == {OWN_BODY}
+            found[name] = Function(named if made else named | handed_on(crate, text + codes.get(f"{path}/Mir", "")))
     expect(found or not codes, f"{crate} has modules and no functions")
     for name, folders in passed_on.items():
         expect(name in found, f"{name} is said to be in {', '.join(folders)}, and is not")
@@ -111,12 +111,14 @@ def functions_of(codes, crate, known, crates):
 
 # The crates.
 
-def crate_names(root):
+def crates_of(root):
+    """The crates of crates.txt in its order, each with the words that it has: what it stands on, the kit's libraries too."""
     with open(os.path.join(root, "crates.txt"), encoding="utf-8") as file:
-        names = [line.split("#")[0].split(":")[0].split()[0] for line in file if line.split("#")[0].strip()]
-    for name in names:
+        lines = [line.split("#")[0].partition(":") for line in file]
+    found = {head.split()[0]: below.split() for head, _, below in lines if head.strip()}
+    for name in found:
         expect(os.path.isdir(os.path.join(root, "crates", name)), f"crates/{name} is not there")
-    return names
+    return found
 
 
 def generated(root, crate):
@@ -221,7 +223,7 @@ class Graph:
 def read(root, codes_of):
     """The graph, and the way from a function that has to be a loop into a circle, if there is one. A crate calls what is below it alone, so each
     is judged before what stands on it is read, for which the kit would have it proved."""
-    graph, crates = Graph(), crate_names(root)
+    graph, crates = Graph(), crates_of(root)
     for crate in crates:
         found = functions_of(codes_of(root, crate), crate, graph.functions, set(crates))
         check_whole(root, crate, found)
@@ -245,7 +247,7 @@ COMMENT = re.compile(r"\{-.*?-\}", re.DOTALL)
 def folders(root):
     """Each folder of a proof of a circle, by the functions' names: those that a measure is stated for, but for those of loops."""
     found = {}
-    for crate in crate_names(root):
+    for crate in crates_of(root):
         top = os.path.join(root, "crates", crate, "proofs")
         for path, names, files in os.walk(top):
             expect("Proof.antt" not in files, f"{path} has a proof by hand, which may be of a recursion")
@@ -355,8 +357,8 @@ def tell(root, options):
     said = [f"{len(calls)} functions, {len(graph.kit)} of them the kit's; {len(found)} circles of calls, with {members} functions, each with its proof",
             f"{len(loops)} functions have to be loops, and reach {len(others)} others: none of them is on a circle"]
     if "--stack" in options:
-        paths, columns = stacks.objects(root, crate_names(root)), len(HEAD)
-        most, count = stacks.stacks(root, paths, set(crate_names(root)), found)
+        paths, columns = stacks.objects(root, crates_of(root)), len(HEAD)
+        most, count = stacks.stacks(root, paths, set(crates_of(root)), found)
         said.append(f"{count} functions in the machine code of {', '.join(map(os.path.basename, paths))}: no other circle")
     lines = [line[:columns] for line in [HEAD, *rows(graph, found, falls, most)]]
     differs = "--docs" in options and [line[:columns] for line in stored(root)] != lines

@@ -271,7 +271,7 @@ class SmallCrates(InFolder):
         write(os.path.join(self.root, "crates.txt"), "# one:\ntwo:one # with\n\none :\n")
         for name in ("one", "two"):
             os.makedirs(os.path.join(self.root, "crates", name))
-        self.assertEqual(calls.crate_names(self.root), ["two", "one"])
+        self.assertEqual(list(calls.crates_of(self.root).items()), [("two", ["one"]), ("one", [])])
         os.rmdir(os.path.join(self.root, "crates", "one"))
         self.is_wrong("crates/one is not there")
 
@@ -452,8 +452,11 @@ class Modules(unittest.TestCase):
         """What is in quotes in a function's module or what it is made of; a trait's own body calls none of them."""
         lines, own = ("f/Code", '"a::f" "b::g" "core::f"'), ("f/Code/Mir", '"a::g"')
         self.assertEqual(self.read(lines, own, function("a::g")), {"a::f": {"a::f", "a::g"}, "a::g": set()})
-        body = function("a::f", calls.OWN_BODY)
-        self.assertEqual(self.read((body[0], body[1] + lines[1]), own), {"a::f": {calls.OWN_BODY}})
+        drop = "a::Destruct++none::drop"
+        for callees, handed in (([], set()), ([drop], set()), (["core::last"], {"a::f", "a::g"})):
+            place, body = function("a::f", calls.OWN_BODY, *callees)
+            found = self.read((place, body + lines[1]), own, function("a::g"), function(drop))
+            self.assertEqual(found["a::f"], {calls.OWN_BODY, *callees} | handed)
 
     def test_no_circle(self):
         """The kit has a folder for functions that call one another; so have they by what is read."""
@@ -529,11 +532,9 @@ class Planted(InFolder):
         patch = mock.patch.object(calls, "generated", lambda root, one: GENERATED(root, one) if one == name else real(one))
         patch.start()
         self.addCleanup(patch.stop)
-        with open(os.path.join(calls.ROOT, "crates.txt"), encoding="utf-8") as file:
-            lines = dict(line.split("#")[0].split(":") for line in file if ":" in line.split("#")[0])
-        below = {one: set(rest.split()) & set(lines) for one, rest in lines.items()}  # the kit's libraries are not listed
-        needed = graphs.reached(below, {name})
-        write(os.path.join(self.root, "crates.txt"), "".join(f"{one}:{rest}" for one, rest in lines.items() if one in needed))
+        crates = calls.crates_of(calls.ROOT)
+        needed = graphs.reached({one: set(below) & set(crates) for one, below in crates.items()}, {name})
+        write(os.path.join(self.root, "crates.txt"), "".join(f"{one}: {' '.join(below)}\n" for one, below in crates.items() if one in needed))
         for one in needed:
             source = os.path.abspath(os.path.join(calls.ROOT, "crates", one))
             shutil.copytree(source, os.path.join(self.root, "crates", one), ignore=lambda path, _: ["incremental"] if path == f"{source}/out" else [])
@@ -850,7 +851,7 @@ def outcome(name):
 def side_by_side():
     """Runs the tests in as many processes as there are processors, each with what was read of the crates. The exit status; the output as unittest's."""
     begin = time.monotonic()
-    for name in calls.crate_names(calls.ROOT):
+    for name in calls.crates_of(calls.ROOT):
         real(name)
     names = [".".join(test.id().split(".")[1:]) for tests in unittest.defaultTestLoader.loadTestsFromModule(sys.modules[__name__]) for test in tests]
     with multiprocessing.get_context("fork").Pool() as pool:
