@@ -71,7 +71,8 @@ uint32_t ludzepin_init_list(const uint8_t *book, size_t bytes, uint32_t names, u
 uint32_t ludzepin_draft_list(const uint8_t *book, size_t bytes, uint32_t names, uint32_t nodes, uint32_t definitions, uint16_t *out, size_t places);
 
 /* The same of names, ascending: those to be marked where the `count` definitions of `list` are laid out in this order (a refusal of the check;
- * 3, a listed name has no definition; 16), and those that become empty (a refusal of the check, 16). */
+ * 3, a listed name has no definition; 16), and those that are empty, whose definition has no value of finite height (a refusal of the check,
+ * 16). */
 uint32_t ludzepin_marks(const uint8_t *book, size_t bytes, uint32_t names, uint32_t nodes, uint32_t definitions,
                         const uint16_t *list, size_t count, uint16_t *out, size_t places);
 uint32_t ludzepin_emptiness(const uint8_t *book, size_t bytes, uint32_t names, uint32_t nodes, uint32_t definitions, uint16_t *out, size_t places);

@@ -30,7 +30,7 @@ compare() {
 
 if [ "$1" = all ]; then
     shift
-    [ $# -gt 0 ] || set -- main import init sound type-import imports import-init
+    [ $# -gt 0 ] || set -- main import init sound values type-import imports import-init
     for part in "$@"; do
         echo "$part"
         "$oracle" generate-all "$part" >"$run/batch"

@@ -3,7 +3,7 @@ r"""Answers the questions on a book, by the papers alone:
 
     python3 tools/answers.py BOOK-OR-SOURCE.did [NAME METHOD PLACES [NAMES NODES DEFINITIONS]]
 
-This is a second reading of document 01, of the Rust functions that it names and of requests 1, 3 and 14 of document 02, for the tests;
+This is a second reading of document 01, of the Rust functions that it names and of requests 1, 3, 4 and 14 of document 02, for the tests;
 tools/layout.py reads the bytes. It prints, one line each, what the program answer_batch prints of the book after its name:
 
     layout OUTCOME          whether the layout is whole, with the counts of names, nodes, definitions and files
@@ -17,7 +17,7 @@ tools/layout.py reads the bytes. It prints, one line each, what the program answ
     marks-highest OUTCOME   over it and then the highest number
     init OUTCOME            the init list
     draft OUTCOME           the draft list
-    empty OUTCOME           the names that are empty
+    empty OUTCOME           the names of definitions that have no value of finite height
     chains OUTCOME          the alias chain from each definition's body, in order, all files' definitions taken as one environment
     lookups OUTCOME         what stands at the chain's end from the body of each definition but the init file's, and from main's actor
     uses "NAME" OUTCOME     for each name of the table: its uses, METHOD.KIND.INDEX,
@@ -64,6 +64,7 @@ import mkbook
 
 sys.setrecursionlimit(1 << 16)
 
+EMPTY = 16
 NAME, OPT, VEC, RECORD, VARIANT, FUNC, SERVICE, CLASS, ARGS = range(18, 27)
 MAIN, TYPE_IMPORT, SERVICE_IMPORT, INIT = range(4)
 ONEWAY = 1
@@ -447,18 +448,36 @@ def project(book, asked):
     return taken
 
 
+def has_value(body, valued):
+    """Whether a type has a value of finite height where of the names just those in `valued` have one. Its nodes come from the last to the first, so
+    that what is inside a node comes before it."""
+    has = {}
+    for node in body:
+        if node.kind == EMPTY:
+            found = False
+        elif node.kind == RECORD:
+            found = all(has[id(field)] for field in node.kids)
+        elif node.kind == VARIANT:
+            found = any(has[id(case)] for case in node.kids)
+        elif node.kind == NAME:
+            found = node.value in valued
+        else:
+            found = True
+        has[id(node)] = found
+    return found
+
+
 def emptiness(book):
-    """The names from which aliases and record fields that are names lead to a circle: those that remain when a name
-    that leads to none of the others is taken away again and again."""
+    """Request 4: the names whose definition is empty. Each sweep over the definitions finds those that have a value by what the names found before
+    have, until one finds no more; then no value of finite height is of what is left."""
     env, _ = check(book)
-    steps = {name: {node.value for node in [tree, *(tree.kids if tree.kind == RECORD else [])] if node.kind == NAME}
-             for name, tree in env.items()}
-    left = set(steps)
+    bodies = {name: nodes(tree)[::-1] for name, tree in env.items()}
+    valued = set()
     while True:
-        ending = {name for name in left if not steps[name] & left}
-        if not ending:
-            return sorted(left)
-        left -= ending
+        more = {name for name in env.keys() - valued if has_value(bodies[name], valued)}
+        if not more:
+            return sorted(env.keys() - valued)
+        valued |= more
 
 
 # What functions inside the crates answer

@@ -12,8 +12,9 @@ Nothing is judged here: whatever can be written down is encoded as it stands.
     names TEXT TEXT ..                 names that nothing else mentions
     names = TEXT TEXT ..               the whole name table as it stands here, neither sorted nor completed
     repeat N { .. }                    the tokens between the braces N times, at any place; a run of # in them is
-                                       the number of the round from 0, padded with 0 to the run's length; #*N%M is
-                                       that number times N, modulo M, not padded
+                                       the number of the round from 0, padded with 0 to the run's length, and a run
+                                       with +N after it that number plus N; #*N%M is that number times N, modulo M,
+                                       not padded
     nest N { A .. | B .. } { C .. }    A N times, C, then B N times: N things, each inside the one before. A run of # is
                                        as above, and in a B that of the A that it closes
 
@@ -95,7 +96,7 @@ class SourceError(Exception):
 
 # Tokens
 
-TOKEN = re.compile(r'(?P<skip>\s+|//[^\n]*|/\*.*?\*/)|"(?:[^"\\]|\\.)*"|->|[+-]=|\w*#\*\d+%\d+|[\w#]+|[{}()\[\]:;,.=*+|-]',
+TOKEN = re.compile(r'(?P<skip>\s+|//[^\n]*|/\*.*?\*/)|"(?:[^"\\]|\\.)*"|->|[+-]=|\w*#\*\d+%\d+|\w*#+\+\d+|[\w#]+|[{}()\[\]:;,.=*+|-]',
                    re.S | re.A)
 
 
@@ -150,8 +151,8 @@ def braced(stream):
 
 def numbered(body, turn):
     def written(run):
-        return str(turn * int(run[1]) % int(run[2])) if run[1] else str(turn).zfill(len(run[0]))
-    return [re.sub(r"#\*(\d+)%(\d+)|#+", written, word) for word in body]
+        return str(turn * int(run[1]) % int(run[2])) if run[1] else str(turn + int(run[4] or 0)).zfill(len(run[3]))
+    return [re.sub(r"#\*(\d+)%(\d+)|(#+)(?:\+(\d+))?", written, word) for word in body]
 
 
 def number(token):

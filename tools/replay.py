@@ -7,6 +7,7 @@
 """
 
 import collections
+import re
 import struct
 import sys
 
@@ -89,8 +90,11 @@ def joined(data, rust, told):
             line = next(left, None)
         for question, outcome in theirs.items():
             if outcome.startswith("unanswered "):
-                asked = {question: outcome for question in (question, short_of(question)) if question in ours}
+                why, *names = re.findall(r'"[^"]*"|[^" ]+', outcome)[1:]
+                asked = {question: f"unanswered {why}" for question in (question, short_of(question)) if question in ours}
                 found |= {question: ours[question] for question in asked}
+                if not set(names) <= set(re.findall(r'"[^"]*"', ours[question])):  # those that the Rust gives all the same
+                    told["tools/answers.py says something else"][f"{name} {question}"] += 1
             else:
                 found[question] = outcome
                 asked = {question: whose(question, theirs)}

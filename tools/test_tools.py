@@ -8,6 +8,7 @@ import subprocess
 import sys
 import tempfile
 import unittest
+from random import Random
 
 HERE = os.path.dirname(os.path.abspath(__file__))
 sys.path.append(os.path.join(HERE, "..", "bench"))
@@ -117,6 +118,7 @@ class Encoding(unittest.TestCase):
             "repeat 2 { append # }": whole + b"\x00\x01",
             "nest 2 { append 1# | append 2# } { append 3 }": whole + bytes([10, 11, 3, 21, 20]),
             "repeat 4 { append #*3%7 2#*100%7 }": whole + bytes([0, 20, 3, 22, 6, 24, 2, 26]),
+            "repeat 3 { append #+7 1##+9 }": whole + bytes([7, 109, 8, 110, 9, 111]),
         }.items():
             self.assertEqual(mkbook.book("type a = nat; " + damage), book, damage)
         for nonsense in ("type a = ;", "type a", "service : {", "patch nodes[1].size = 0", "patch nodes[0].age = 0",
@@ -397,26 +399,6 @@ class Answers(unittest.TestCase):
             with self.assertRaises(subprocess.CalledProcessError, msg=arguments):
                 printed(*arguments)
 
-    def test_empty(self):
-        """By `is_empty` of type_env.rs, arm by arm."""
-        for data in [*CHECK_BOOKS.values(), *LIST_BOOKS.values()]:
-            book = None if layout.faults(data) else answers.Book(data)
-            found = book and asked(answers.ROWS["empty"].function, book)
-            if not isinstance(found, list):
-                continue
-            env, judged = answers.check(book)[0], {}
-
-            def is_empty(name):
-                if name not in judged:
-                    judged[name], tree = None, env[name]
-                    fields = tree.kids if tree.kind == answers.RECORD else [tree]
-                    judged[name] = any(is_empty(field.value) for field in fields if field.kind == answers.NAME)
-                elif judged[name] is None:
-                    judged[name] = True
-                return judged[name]
-
-            self.assertEqual(found, [name for name in sorted(env) if is_empty(name)])
-
 
 def references(tree):
     return {node.value for node in answers.nodes(tree) if node.kind == answers.NAME}
@@ -431,6 +413,190 @@ def reached(refers, start):
             found.add(name)
             left += refers[name]
     return found
+
+
+class Emptiness(unittest.TestCase):
+    """Request 4 of document 02: a definition is empty exactly if no value of finite height is of it."""
+
+    def empties(self, source):
+        book = answers.Book(mkbook.book(source))
+        return " ".join(book.names[name].decode() for name in answers.emptiness(book))
+
+    def test_by_hand(self):
+        """Each rule alone and at its edges."""
+        for source, right in {
+            # empty has none, every other leaf has one
+            "type e = empty;": "e", 'type e = empty; type a = "text"; type "text" = "empty"; type "empty" = text;': "e",
+            " ".join(f"type a{kind} = {leaf};" for kind, leaf in enumerate(layout.LEAVES)): "a16",
+            # a record if some field has none
+            "type a = record {};": "", "type a = record { empty };": "a", "type a = record { empty; nat };": "a",
+            "type a = record { nat; empty };": "a", "type a = record { nat; empty; text };": "a", "type a = record { nat; text };": "",
+            "type a = record { empty; empty };": "a",
+            "type a = record { e; nat }; type e = empty;": "a e", "type a = record { nat; e }; type e = empty;": "a e",
+            "type a = record { record { record { empty } } };": "a", "type a = record { record {}; record { record {} } };": "",
+            # a variant if every case has none, also with no case
+            "type a = variant {};": "a", "type a = variant { x : empty };": "a", "type a = variant { x : empty; y : empty };": "a",
+            "type a = variant { x };": "", "type a = variant { x : empty; y };": "", "type a = variant { x; y : empty };": "",
+            "type a = variant { x : empty; y : nat; z : empty };": "", "type a = variant { x : e; y : e }; type e = variant {};": "a e",
+            "type a = variant { x : variant {}; y : variant { z : variant {} } };": "a",
+            "type a = variant { x : variant { y : variant { z } } };": "",
+            # one inside the other
+            "type a = record { variant {} };": "a", "type a = variant { x : record {} };": "", "type a = record { variant { x : empty; y } };": "",
+            "type a = variant { x : record { empty }; y : record { nat; empty } };": "a",
+            "type a = variant { x : record { empty }; y : record { nat } };": "",
+            "type a = record { x : variant { y : record { z : empty } }; nat };": "a",
+            "type a = record { x : variant { y : record { z : empty }; w : record { z : nat } }; nat };": "",
+            # a name as its definition
+            "type a = b; type b = empty;": "a b", "type a = b; type b = nat;": "",
+            "type a = b; type b = c; type c = d; type d = record { d };": "a b c d",
+            "type d = b; type c = variant {}; type b = a; type a = c;": "a b c d",
+            # all else has one
+            "type a = opt empty; type b = vec empty; type c = func (empty) -> (empty); type d = service { m : (empty) -> (empty) };": "",
+            "type a = opt a; type b = vec b; type c = func (c) -> (c); type d = service { m : (d) -> (d) };": "",
+            "type a = record { opt a; vec b; func (a) -> (b); service { m : (b) -> (a) } }; type b = variant { x : opt b };": "",
+            "type a = record { opt e; vec e; func (e) -> (e); service { m : f } }; type e = empty; type f = func (e) -> (e);": "e",
+            "type a = opt variant {}; type b = opt opt record { a; b; empty };": "",
+            # circles, with and without a way out
+            "type a = record { a };": "a", "type a = record { record { a } };": "a", "type a = variant { x : a };": "a",
+            "type a = variant { x : a; y : a };": "a", "type a = variant { x : a; y };": "", "type a = variant { y; x : a };": "",
+            "type a = record { opt a; a };": "a", "type a = record { opt a; opt a };": "", "type a = variant { x : a; y : opt a };": "",
+            "type a = record { b }; type b = variant { x : a };": "a b", "type a = record { b }; type b = variant { x : a; y : b };": "a b",
+            "type a = record { b }; type b = variant { x : a; y : c }; type c = record {};": "",
+            "type a = record { b }; type b = variant { x : a; y : c }; type c = record { b };": "a b c",
+            "type a = record { b }; type b = variant { x : a; y : c }; type c = record { opt b };": "",
+            "type a = record { b }; type b = record { opt a }; type c = record { d }; type d = record { c; opt d };": "c d",
+            "type a = record { nat; variant { x : record { nat; a }; y : a } };": "a",
+            "type a = record { nat; variant { x : record { nat; a }; y : nat } };": "",
+            "type z = variant { x : z; y : record { z; y } }; type y = variant { x : y; z : x }; type x = nat;": "z",
+            "type z = variant { x : z; y : record { y; x } }; type y = variant { x : y; z : x }; type x = nat;": "",
+            # P11
+            "type r = record { r }; type s = record { t }; type t = r;": "r s t", "type o = record { p }; type p = opt o;": "",
+        }.items():
+            self.assertEqual(self.empties(source), right, source)
+            self.assertEqual(self.empties("".join(reversed(re.split("(?<=;) (?=type)", source)))), right, source)  # definitions in the other order
+
+    def test_files(self):
+        """Definitions of main and of imports, reached or not, with and without an actor; the init file's are not read."""
+        body = "record { x : e }; type e = empty"
+        for source, right in {
+            f'file "m" main type a = {body};': "a e", f'file "m" main type a = {body}; service : {{}}': "a e",
+            f'file "m" main service : {{}} file "i" type type a = {body};': "a e",
+            f'file "m" main file "i" service type a = {body}; service : {{}}': "a e",
+            f'file "m" main service : {{}} file "i" init type a = {body}; args (a)': "",
+            f'file "m" main type a = {body}; file "i" init type a = {body}; args (a)': "a e",
+            'file "m" main type a = b; file "i" service type c = empty; service : {} file "j" type type b = variant { x : c };': "a b c",
+            'file "m" main type a = b; type b = nat; file "i" init type b = nat; type c = empty; args (empty)': "",
+        }.items():
+            self.assertEqual(self.empties(source), right, source)
+
+    def test_refused(self):
+        """What the check refuses, 1, 24 and 18 come first, whatever is empty."""
+        empty = "type a = empty; type b = variant {}; type c = record { c };"
+        for source, outcome in {
+            empty: 'given 3 "a" "b" "c"', empty + "type a = nat;": 'refused 2 "a"', empty + "type d = z;": 'refused 3 "z"',
+            empty + "type d = class () -> {};": "refused 4 -", empty + "type d = d;": 'refused 7 "d"',
+            empty + "type d = service { m : a };": "refused 8 -",
+            empty + "service : { m : b }": 'refused 9 "m"', empty + "service : a": "refused 10 -", empty + "truncate 1": "refused 1 -",
+            empty + "type d = variant { x : a; x : b };": 'refused 18 "x"',
+        }.items():
+            found = answers.outcomes(mkbook.book(source))
+            self.assertEqual(found["empty"], outcome, source)
+            self.assertEqual("empty-short" in found, source == empty, source)
+        self.assertEqual(answers.outcomes(mkbook.book(empty))["empty-short"], "needs 3 refused 16 -")
+        self.assertEqual(answers.outcomes(mkbook.book(empty), (1024, 4096, 2))["empty"], OVER)
+
+    def test_deep(self):
+        """Nested and chained as far as there is room; what a chain's last is decides, and is found last."""
+        chain = " ".join(f"a{place:03}" for place in range(511)) + " head"
+        for around, empty in {
+            "nest 4095 { record { | } }": True, "nest 4095 { variant { x : | } }": True, "nest 1365 { record { nat; variant { x : | } } }": True,
+            "nest 4095 { opt | }": False, "nest 2000 { variant { x : | ; y : empty } }": True, "nest 2000 { variant { x : | ; y : nat } }": False,
+        }.items():
+            self.assertEqual(self.empties(f"type a = {around} {{ empty }};"), "a" if empty else "", around)
+            self.assertEqual(self.empties(f"type a = {around} {{ nat }};"), "", around)
+        for step in ("a###", "record { a### }", "variant { x : a### }", "record { nat; a###; a### }", "variant { x : empty; y : a### }",
+                     "record { variant { x : a### } }"):
+            for last, right in {"empty": chain, "variant {}": chain, "record { head }": chain, "nat": ""}.items():
+                self.assertEqual(self.empties(f"type head repeat 511 {{ = {step}; type a### }} = {last};"), right, (step, last))
+        for last, right in {"empty": chain, "opt head": ""}.items():
+            self.assertEqual(self.empties(f"type head nest 511 {{ | = record {{ a### }}; type a### }} {{}} = {last};"), right, last)
+
+    def of_checked(self, books):
+        """What the check makes of those that pass, with the names that are empty."""
+        for data in books:
+            book = None if layout.faults(data) else answers.Book(data)
+            if book and not isinstance(asked(answers.check, book)[0], int):
+                yield answers.check(book)[0], answers.emptiness(book)
+
+    def random_books(self, count, leaves, kinds):
+        """Books of up to five definitions, of such leaves and kinds."""
+        random = Random(4)
+
+        def tree(depth):
+            kind = random.choice(kinds) if depth and random.random() < 0.6 else random.choice(leaves)
+            if kind not in ("opt", "record", "variant"):
+                return random.choice("abcde"[:names]) if kind == "name" else kind
+            inner = [tree(depth - 1) for _ in range(1 if kind == "opt" else random.choice((0, 1, 1, 2, 2, 3)))]
+            return f"opt {inner[0]}" if kind == "opt" else f"{kind} {{ {'; '.join(f'{place} : {kid}' for place, kid in enumerate(inner))} }}"
+
+        for _ in range(count):
+            names = random.randint(1, 5)
+            yield mkbook.book(" ".join(f"type {name} = {tree(3)};" for name in "abcde"[:names]))
+
+    def test_by_search(self):
+        """A least value crosses no name twice on one way down, so it is found by going down without coming back to a name."""
+        def found(env, tree, above=frozenset()):
+            if tree.kind == answers.NAME:
+                return tree.value not in above and found(env, env[tree.value], above | {tree.value})
+            if tree.kind == answers.RECORD:
+                return all(found(env, kid, above) for kid in tree.kids)
+            if tree.kind == answers.VARIANT:
+                return any(found(env, kid, above) for kid in tree.kids)
+            return tree.kind != 16
+
+        stored = [book for name, book in LIST_BOOKS.items() if not name.startswith("large-")]
+        tried = some = 0
+        made = self.random_books(3000, ("name", "name", "name", "empty", "nat"), ("opt", *("record", "variant") * 3))
+        for env, empties in self.of_checked([*stored, *made]):
+            self.assertEqual(empties, [name for name in sorted(env) if not found(env, answers.Tree(answers.NAME, 0, 0, name, []))])
+            tried, some = tried + 1, some + bool(empties and len(empties) < len(env))
+        self.assertGreater(tried, 1500)
+        self.assertGreater(some, 500)
+
+    def test_of_the_rust(self):
+        """By `is_empty` of type_env.rs, arm by arm: the same names where each definition is a name, has a value whatever names have, or is a record
+        of such fields, as in all books without variant and empty whose record fields are names or primitives; elsewhere its names are among ours."""
+        tried = collections.Counter()
+        books = [*CHECK_BOOKS.values(), *LIST_BOOKS.values(), *self.random_books(2000, ("name", "name", "nat"), ("opt", *("record",) * 4)),
+                 *self.random_books(1000, ("name", "name", "empty", "nat"), ("opt", "record", "variant"))]
+        for env, empties in self.of_checked(books):
+            judged = {}
+
+            def is_empty(name):
+                if name not in judged:
+                    judged[name], tree = None, env[name]
+                    fields = tree.kids if tree.kind == answers.RECORD else [tree]
+                    judged[name] = any(is_empty(field.value) for field in fields if field.kind == answers.NAME)
+                elif judged[name] is None:
+                    judged[name] = True
+                return judged[name]
+
+            def is_name_or_has_value(tree):
+                return tree.kind == answers.NAME or answers.has_value(answers.nodes(tree)[::-1], ())
+
+            by_names = all(is_name_or_has_value(tree) or tree.kind == answers.RECORD and all(map(is_name_or_has_value, tree.kids))
+                           for tree in env.values())
+            every = [node for tree in env.values() for node in answers.nodes(tree)]
+            is_plain = all(node.kind not in (answers.EMPTY, answers.VARIANT) for node in every) and all(
+                kid.kind <= answers.NAME for node in every if node.kind == answers.RECORD for kid in node.kids)
+            theirs = [name for name in sorted(env) if is_empty(name)]
+            self.assertTrue(by_names or not is_plain)
+            if by_names:
+                self.assertEqual(theirs, empties)
+            self.assertLessEqual(set(theirs), set(empties))
+            tried["plain" if is_plain else "by names" if by_names else "among" if theirs else "none among"] += 1
+            tried["ours alone"] += theirs != empties
+        self.assertGreater(min(tried.values()), 150, tried)
 
 
 class Limits(unittest.TestCase):
@@ -1054,7 +1220,7 @@ class Replay(unittest.TestCase):
                 self.assertEqual(mkbook.book(layout.text(book)), book, name)
             if not name.startswith("limits/"):
                 self.assertEqual(limits, FULL, name)
-        self.assertLess(len(self.records), 5_000_000)  # a book of 4,096 nodes has 49,000
+        self.assertLess(len(self.records), 5_500_000)  # a book of 4,096 nodes has 49,000
         self.assertLess(len(self.lines), 7_000_000)
 
     def test_layouts_and_checks(self):
@@ -1136,6 +1302,19 @@ class Replay(unittest.TestCase):
         self.assertEqual(joined(other)[1]["tools/answers.py says something else"], 2)
         with self.assertRaises(SystemExit):
             joined(rust + ["c check passed\n"])
+
+    def test_joined_values(self):
+        """Where not all that is empty is so by the Rust, the line is that of tools/answers.py, and each name that the Rust gives has to be in it."""
+        data = mkbatch.record("a", LIST_BOOKS["empty-nested-beside"])
+        right = list(replay.printed(replay.answered(data)))
+        self.assertIn('a empty given 3 "a" "r" "s"\n', right)
+        for theirs, others in {"": 0, ' "r" "s"': 0, ' "a" "r" "s"': 0, ' "r" "t"': 1, ' "values"': 1}.items():
+            rust = [f"a empty unanswered values{theirs}\n" if line.startswith("a empty ") else line for line in right
+                    if not line.startswith(("tally ", "a empty-short "))]
+            told = collections.defaultdict(collections.Counter)
+            self.assertEqual(list(replay.printed(replay.joined(data, "".join(rust), told))), right, theirs)
+            self.assertEqual(told["unanswered values"], {"empty": 1, "empty-short": 1}, theirs)
+            self.assertEqual(sum(told["tools/answers.py says something else"].values()), others, theirs)
 
     def test_joined_repeats(self):
         """18 is no line of the Rust's."""

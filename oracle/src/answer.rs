@@ -38,6 +38,9 @@ pub const OVER_LIMIT: &str = "refused 24 -";
 /// Of every question about a book with a repeated label, which is named after it.
 pub const REPEATED: &str = "refused 18 ";
 
+/// Why `empty` is unanswered where what the Rust makes empty is not all that is so: what it makes is told after it.
+pub const VALUES: &str = "values";
+
 /// Why there is no result.
 #[derive(Clone, PartialEq)]
 enum Fail {
@@ -292,6 +295,26 @@ fn has_ring<'a>(book: &'a Book, is_init: bool) -> bool {
     }
 }
 
+// Emptiness, by request 4 of document 02
+
+/// Whether a type has a value of finite height whatever names stand for.
+fn has_value(node: &Node) -> bool {
+    match node.kind {
+        book::EMPTY | book::NAME => false,
+        book::RECORD => node.kids.iter().all(has_value),
+        book::VARIANT => node.kids.iter().any(has_value),
+        _ => true,
+    }
+}
+
+/// Whether no definition is empty but by a circle of aliases and of record fields that are names, which is all that `replace_empty` sees: each is a
+/// name, has a value whatever names stand for, or is a record of such fields.
+fn is_empty_by_circles(book: &Book) -> bool {
+    let is_seen = |node: &Node| node.kind == book::NAME || has_value(node);
+    let mut bodies = book.definitions.iter().filter(|row| book.is_of(row, false)).map(|row| &row.tree);
+    bodies.all(|body| is_seen(body) || body.kind == book::RECORD && body.kids.iter().all(is_seen))
+}
+
 /// Runs a check, and again without `validate_decs` if it does not end. Also tells why it did not.
 fn checked<T>(ring: bool, whole: impl Fn() -> Found<T>, unvalidated: impl Fn() -> Found<T>) -> (Found<T>, Option<String>) {
     let found = guarded(if ring { STEPS_OF_RING } else { STEPS }, whole);
@@ -486,7 +509,12 @@ impl Texts<'_> {
         after.replace_empty().map_err(|e| self.row(e))?;
         let is_empty = |t: &Type| matches!(t.as_ref(), TypeInner::Empty);
         let made = after.0.iter().filter(|(name, t)| is_empty(t) && !is_empty(&checked.env.0[*name]));
-        Ok(self.entries(&made.map(|(name, _)| name.as_str()).collect::<Vec<_>>()))
+        let names = self.entries(&made.map(|(name, _)| name.as_str()).collect::<Vec<_>>());
+        if is_empty_by_circles(self.book) {
+            Ok(names)
+        } else {
+            Err(Fail::Unanswered([&[VALUES.into()], &names[..]].concat().join(" ")))
+        }
     }
 
     fn draft(&self) -> Found<Vec<String>> {

@@ -2,6 +2,7 @@
 
 use std::collections::HashMap;
 
+pub const EMPTY: u8 = 16;
 pub const NAME: u8 = 18;
 pub const OPT: u8 = 19;
 pub const VEC: u8 = 20;

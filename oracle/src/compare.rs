@@ -1,8 +1,8 @@
 //! Our lines and the Rust's, line by line.
 
-use crate::answer::{OVER_LIMIT, REPEATED};
+use crate::answer::{OVER_LIMIT, REPEATED, VALUES};
 use crate::book::{self, Batch, Book, Limits, Record, Repeat, FULL};
-use std::collections::{BTreeMap, HashSet};
+use std::collections::{BTreeMap, BTreeSet, HashSet};
 use std::io::Write;
 use std::iter::Peekable;
 use std::str::Lines;
@@ -29,8 +29,14 @@ impl<'a> Line<'a> {
         Line { whole, question: whole[..whole.len() - outcome.len()].trim_end(), word, outcome }
     }
 
+    /// Why it is not compared.
     fn unanswered(&self) -> Option<&'a str> {
-        self.outcome.strip_prefix("unanswered ")
+        self.outcome.strip_prefix("unanswered ")?.split(' ').next()
+    }
+
+    /// The quoted names of its outcome.
+    fn names(&self) -> HashSet<&'a str> {
+        self.outcome.split('"').skip(1).step_by(2).collect()
     }
 
     /// The question that this one asks again with too short a list.
@@ -62,6 +68,7 @@ pub struct Counts {
     lines: u64,
     skipped: BTreeMap<String, u64>,
     books_skipped: BTreeMap<String, u64>,
+    values: Values,
     refused: BTreeMap<u32, BTreeMap<String, u64>>,
     entries: BTreeMap<String, (u64, u64)>,
     /// Lines that are the oracle's own, not the Rust's.
@@ -84,6 +91,14 @@ struct Under {
     within_others: u64,
     /// Of these, the books that have just as many as some limit that is not full.
     at_one: u64,
+}
+
+/// Books whose empty names are not compared with the Rust's, but that these are among ours.
+#[derive(Default)]
+struct Values {
+    ours: u64,
+    theirs: u64,
+    alike: u64,
 }
 
 impl Under {
@@ -171,7 +186,7 @@ pub fn compared(batch: &[u8], ours: &str, rust: &str) -> (Counts, Vec<Difference
             theirs.iter().filter(|line| line.unanswered().is_some()).map(|line| line.question).collect();
         let mut own = lines_of(&mut ours, name);
         own.retain(|line| !line.asked_before().is_some_and(|before| unanswered.contains(before.as_str())));
-        let (mut next, mut passes, mut listed, mut marked, mut skipped_for) = (0, false, false, false, None);
+        let (mut next, mut passes, mut listed, mut marked, mut skipped_for) = (0, false, false, false, BTreeSet::new());
         for line in theirs {
             let Some(place) = own[next..].iter().position(|own| own.question == line.question) else {
                 differs(nothing(), said(line));
@@ -191,7 +206,16 @@ pub fn compared(batch: &[u8], ours: &str, rust: &str) -> (Counts, Vec<Difference
             }
             if let Some(why) = line.unanswered() {
                 *counts.skipped.entry(why.into()).or_default() += 1;
-                skipped_for = Some(why);
+                skipped_for.insert(why);
+                if why == VALUES {
+                    let (ours, theirs) = (found.names(), line.names());
+                    counts.values.ours += !ours.is_empty() as u64;
+                    counts.values.theirs += !theirs.is_empty() as u64;
+                    counts.values.alike += (ours == theirs) as u64;
+                    if !found.outcome.starts_with("given ") || !theirs.is_subset(&ours) {
+                        differs(said(found), said(line));
+                    }
+                }
                 continue;
             }
             counts.lines += 1;
@@ -220,7 +244,7 @@ pub fn compared(batch: &[u8], ours: &str, rust: &str) -> (Counts, Vec<Difference
         own[next..].iter().for_each(|own| differs(said(*own), nothing()));
         counts.passed += passes as u64;
         counts.with_actor += (passes && listed) as u64;
-        if let Some(why) = skipped_for {
+        for why in skipped_for {
             *counts.books_skipped.entry(why.into()).or_default() += 1;
         }
     }
@@ -266,6 +290,8 @@ fn print(counts: &Counts, differences: &[Difference]) {
         let books = counts.books_skipped.get(why).unwrap_or(&0);
         println!("unanswered, {why}: {lines} lines of {books} books");
     }
+    let Values { ours, theirs, alike } = counts.values;
+    println!("of the books whose empty names are so by values: {ours} have some, {theirs} have some of the Rust's, {alike} have these alone");
     for (number, words) in &counts.refused {
         let words: Vec<String> = words.iter().map(|(word, lines)| format!("{word} {lines}")).collect();
         println!("refused {number}: {}", words.join(", "));

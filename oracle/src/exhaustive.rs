@@ -30,6 +30,9 @@
 //! names alone, no class below the top, no nat as an actor. It has four shapes: an actor with one definition, with two, with
 //! two and a service import; and, without an actor, a definition of main and one of the init file of the same name.
 //!
+//! The part `values` has what decides whether a definition is empty: main alone without an actor, with one definition or two in either order of up
+//! to 6 nodes, or three of up to 5. Types are nat, empty, a name that is defined, opt, a record of up to two fields and a variant of up to two cases.
+//!
 //! Limits are by turns the full ones, the book's own counts and the largest, so that the Rust is asked of every book. Under limits that a
 //! book is over, the exported functions alone are asked (exported.rs).
 
@@ -187,6 +190,43 @@ impl Makings<'_> {
     }
 }
 
+/// The types of the part `values`.
+fn types_of_values(names: &[u32], largest: usize) -> Trees {
+    let mut types: Trees = vec![vec![]];
+    for nodes in 1..=largest {
+        let mut found = vec![];
+        if nodes == 1 {
+            found.extend([NAT, book::EMPTY].map(|kind| node(kind, 0, &[])));
+            found.extend(names.iter().map(|name| node(book::NAME, *name, &[])));
+        }
+        for count in 0..=2 {
+            each(&vec![&types; count], nodes - 1, &mut vec![], &mut |kids| {
+                let inside = [book::RECORD, book::VARIANT].map(|kind| node(kind, 0, kids));
+                found.extend(inside.map(|tree| labelled(tree, &[SPELLINGS[0], SECOND_FIELD])));
+                found.extend((count == 1).then(|| node(book::OPT, 0, kids)));
+            });
+        }
+        types.push(found);
+    }
+    types
+}
+
+fn values(then: &mut dyn FnMut(Book)) {
+    let rows: [&[u32]; 4] = [&[A], &[A, B], &[B, A], &[A, B, M]];
+    for names in rows {
+        let most = if names.len() == 3 { NODES } else { NODES + 1 };
+        let types = types_of_values(names, most + 1 - names.len());
+        for nodes in names.len()..=most {
+            each(&vec![&types; names.len()], nodes, &mut vec![], &mut |trees| {
+                let definition = |(name, tree): (&u32, &Node)| Definition { name: *name as usize, file: 0, tree: tree.clone() };
+                let definitions = names.iter().zip(trees).map(definition).collect();
+                let files = vec![File { name: A as usize, role: book::MAIN, tree: None }];
+                then(Book { names: NAMES.map(|name| name.to_vec()).to_vec(), definitions, files });
+            });
+        }
+    }
+}
+
 /// Where the definitions stand and what files there are: the name and the file of each definition, the role of each file and
 /// whether it has a tree.
 struct Shape<'a> {
@@ -283,6 +323,7 @@ fn shapes(part: &str, then: &mut dyn FnMut(Book)) {
         all(&definitions, &[&[&[no_main], others].concat(), &[&[main], others].concat()]);
     };
     match part {
+        "values" => values(then),
         "main" => all(&in_main, &[&[no_main], &[main]]),
         "import" => {
             let files: [&[(u16, bool)]; 4] = [&[no_main, no_import], &[main, no_import], &[no_main, import], &[main, import]];
@@ -320,7 +361,7 @@ fn shapes(part: &str, then: &mut dyn FnMut(Book)) {
             }
             beside(&[&[sole(1)], &two(1, 2)], &[no_ignored, init]);
         }
-        _ => panic!("main, import, init, sound, type-import, imports or import-init, not {part}"),
+        _ => panic!("main, import, init, sound, values, type-import, imports or import-init, not {part}"),
     }
 }
 

@@ -2,8 +2,9 @@
 //!
 //! Three in four books are planned: definitions, services and actors that pass, and in some of them faults on purpose. The
 //! others are wild (whatever the layout allows) or of a special shape: long chains, deep trees, ladders, many uses, wide
-//! records. Labels may repeat in one book of eight and in wide ones, so that the Rust is asked of the others. Some are damaged afterwards. Half of
-//! them are asked under full limits.
+//! records. One planned book in six has little but records, variants, names and `empty` in its types, so that many names are empty. Labels may
+//! repeat in one book of eight and in wide ones, so that the Rust is asked of the others. Some are damaged afterwards. Half of them are asked under
+//! full limits.
 
 use crate::book::{self, number_of, Book, Definition, File, Limits, Node, Record, FULL};
 use candid::idl_hash;
@@ -299,6 +300,8 @@ struct Gen<'a> {
     functions: Vec<Name>,
     services: Vec<Name>,
     faults: Vec<Fault>,
+    /// Whether types are made of little but records, variants, names and `empty`.
+    hollow: bool,
     /// Whether labels may be as they come, or are made to differ.
     repeats: bool,
     /// Hashes of methods that stand in actors with service imports, where they may not repeat.
@@ -469,6 +472,10 @@ impl Gen<'_> {
             return if self.random.percent(50) { self.reference() } else { self.primitive() };
         }
         match self.random.below(100) {
+            0..=7 if self.hollow => leaf(book::EMPTY),
+            8..=15 if self.hollow => leaf(2),
+            16..=46 if self.hollow => self.reference(),
+            47..=91 if self.hollow => self.fields(depth),
             0..=23 => self.primitive(),
             24..=57 => self.reference(),
             58..=71 => {
@@ -569,7 +576,8 @@ impl Gen<'_> {
                 let to = order[self.random.between(rank + 1, order.len() - 1)];
                 (ends[to].0, Some(to))
             } else {
-                (*self.random.one(&[Sort::Data, Sort::Data, Sort::Data, Sort::Func, Sort::Service]), None)
+                let others = if self.hollow && self.random.percent(70) { Sort::Data } else { Sort::Func };
+                (*self.random.one(&[Sort::Data, Sort::Data, Sort::Data, others, Sort::Service]), None)
             };
         }
         let of = |sort: Sort| (0..names.len()).filter(|i| ends[*i].0 == sort).map(|i| names[i].clone()).collect::<Vec<_>>();
@@ -591,7 +599,11 @@ impl Gen<'_> {
                     tree(book::RECORD, kids)
                 }
                 (Sort::Data, _) => match self.typ(0) {
-                    alias if alias.kind == book::NAME && !self.faulty(Circle, 50) => tree(book::OPT, vec![alias]),
+                    alias if alias.kind == book::NAME && !self.faulty(Circle, 50) => {
+                        let kind = if self.hollow { *self.random.one(&[book::RECORD, book::VARIANT]) } else { book::OPT };
+                        let label = if self.hollow { self.label(0) } else { Label::None };
+                        tree(kind, vec![alias.labelled(label)])
+                    }
                     other => other,
                 },
                 (Sort::Func, _) => self.function(0),
@@ -624,6 +636,7 @@ impl Gen<'_> {
         let pool = self.random.between(2, 3 * scale * scale + 6);
         self.fill_pool(pool);
         self.left = nodes;
+        self.hollow = self.random.percent(16);
         if self.random.percent(42) {
             self.faults.push(*self.random.one(&FAULTS));
             if self.random.percent(35) {
@@ -999,7 +1012,7 @@ impl Gen<'_> {
                 // A chain of aliases or of references, forward or backward, that ends or closes.
                 let count = self.random.between(50, 510);
                 let closes = self.random.percent(30);
-                let wrapped = self.random.below(3);
+                let wrapped = self.random.below(5);
                 let end = if closes { self.random.below(count) } else { count };
                 let backward = self.random.percent(50);
                 let own = |i: usize| at(if backward { count - i } else { i });
@@ -1009,25 +1022,29 @@ impl Gen<'_> {
                         let body = match wrapped {
                             0 => next,
                             1 => tree(book::OPT, vec![next]),
+                            2 => tree(book::VARIANT, vec![next.labelled(Label::Number(0))]),
                             _ => tree(book::RECORD, vec![next.labelled(Label::Number(0))]),
                         };
                         Row { name: own(i), file: 0, tree: body }
                     })
                     .collect();
-                rows.push(Row { name: own(count), file: 0, tree: func(vec![leaf(2)], vec![], vec![]) });
+                let is_empty = wrapped > 1 && self.random.percent(50);
+                let last = if is_empty { leaf(book::EMPTY) } else { func(vec![leaf(2)], vec![], vec![]) };
+                rows.push(Row { name: own(count), file: 0, tree: last });
                 let used = name(&own(0));
                 let kid = if wrapped == 0 && !closes { used } else { func(vec![used], vec![], vec![]) };
                 main(rows, tree(book::SERVICE, vec![method("m", kid)]))
             }
             1 => {
                 // A deep tree.
-                let mut body = name(b"t");
+                let mut body = if self.random.percent(30) { leaf(book::EMPTY) } else { name(b"t") };
+                let wraps = [book::VEC, book::RECORD, book::FUNC, book::OPT];
+                let kinds = *self.random.one(&[&wraps[..], &[book::RECORD, book::VARIANT]]);
                 for _ in 0..self.random.between(100, 3000) {
-                    body = match self.random.below(4) {
-                        0 => tree(book::VEC, vec![body]),
-                        1 => tree(book::RECORD, vec![body.labelled(Label::Number(1))]),
-                        2 => func(vec![body], vec![], vec![]),
-                        _ => tree(book::OPT, vec![body]),
+                    body = match *self.random.one(kinds) {
+                        book::FUNC => func(vec![body], vec![], vec![]),
+                        kind @ (book::RECORD | book::VARIANT) => tree(kind, vec![body.labelled(Label::Number(1))]),
+                        kind => tree(kind, vec![body]),
                     };
                 }
                 main(vec![row("t".into(), body)], tree(book::SERVICE, vec![method("m", func(vec![name(b"t")], vec![], vec![]))]))
@@ -1172,6 +1189,7 @@ pub fn run(seed: u64, count: u64, all_damaged: bool) -> i32 {
             functions: vec![],
             services: vec![],
             faults: vec![],
+            hollow: false,
             repeats: false,
             taken: HashSet::new(),
             apart: false,

@@ -120,7 +120,7 @@ const STACK: usize = 1 << 30;
 
 const USAGE: &str = "usage: oracle answer < BATCH
        oracle generate SEED COUNT [damage] > BATCH
-       oracle generate-all main|import|init|sound|type-import|imports|import-init > BATCH
+       oracle generate-all main|import|init|sound|values|type-import|imports|import-init > BATCH
        oracle compare BATCH ANSWERS RUST [DIFFERENCE]
        oracle pick BATCH NAME > BOOK
        oracle shrink DIFFERENCE ANSWER_BATCH [ARGUMENT ...] > SMALLER";

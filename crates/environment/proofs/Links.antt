@@ -6,9 +6,9 @@
 --     row-within, name-inside           a node, and the name that it is
 --     LinkSays, Bound, link-says        what a link says of a name's definition
 --     ChainLeft, chain-step, ..        the loop of `alias_end`
---     get_or-within                     a place within a table
+--     get_or-within, listed-at          a place within a table, and what it has there
 use mathlib.Core.Path.{◌≡◌, refl, sym, ap, ◌∙◌}
-use mathlib.Core.List.{List, [], ◌∷◌}
+use mathlib.Core.List.{List, [], ◌∷◌, Memᴰ}
 use mathlib.Core.Bool.{true, false, false≢true}
 use Rattle.std.specs.Prelude.{Option, Some, None, IfSome, IfNone}
 use Rattle.std.specs.Option.{is_some}
@@ -259,3 +259,8 @@ pub get_or-within : (l : List ℕ) (n a b : ℕ) → n < length l → get_or l n
 get_or-within [] n a b h = absurd (omega arith)
 get_or-within (x ∷ l) zero a b h = refl
 get_or-within (x ∷ l) (suc n) a b h = get_or-within l n a b (omega arith)
+
+pub listed-at : (l : List ℕ) (n d : ℕ) → n < length l → Memᴰ (get_or l n d) l
+listed-at [] n d h = absurd (omega arith)
+listed-at (x ∷ l) zero d h = Memᴰ.head refl
+listed-at (x ∷ l) (suc n) d h = Memᴰ.tail (listed-at l n d (omega arith))

@@ -112,7 +112,7 @@ pub extern "C" fn ludzepin_marks(
     codes::answer_code(questions::marks(book, limits, list, out))
 }
 
-// The names that become empty; 512 places are always enough.
+// The names that are empty; 512 places are always enough.
 #[unsafe(no_mangle)]
 pub extern "C" fn ludzepin_emptiness(
     book: &[u8],

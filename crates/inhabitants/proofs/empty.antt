@@ -1,4 +1,2 @@
--- Laws of the walk that finds empty names.
-mod Visits
-mod Fields
-mod Next
+-- Laws of the names that are empty.
+mod Names

@@ -1,2 +1,3 @@
--- What the contracts cite. The names that become empty are defined in the crate `listing`, specs/Empty.antt.
+-- What the contracts cite. Which types fill is defined in the crate `listing`, specs/Empty.antt.
+pub mod Filling
 pub mod Empty

@@ -1,4 +1,5 @@
-// What values a type has. `empty`: the names that no value has, as `replace_empty` of type_env.rs finds them.
+// Which types have a value of finite height: of nodes in `filling`, of names in `empty`.
 #![tactic(auto)]
 
 pub mod empty;
+mod filling;

@@ -1,15 +1,19 @@
 -- Small books and what their lists are, by computation. Assumes nothing.
 use mathlib.Core.Path.{◌≡◌, refl}
+use mathlib.Core.Logic.{inl}
 use mathlib.Core.Bool.{Bool}
 use mathlib.Core.List.{List, [], ◌∷◌, map}
 use Prim.Native.Nat.{ℕ}
 use native.Mathlib.Omega.{arith}
+use lib.ListN.{length}
 use Rattle.labels.specs.declared.Label.{Label}
 use Rattle.labels.specs.declared.Label.TheVariants.{Named}
 use Rattle.format.specs.Forest.{Forest, end, tree, count, breadth, preorder, beside, map_forest, no_trees}
-use Rattle.format.specs.Node.{Nat, Kind, PrimT, VarT, OptT, FuncT, ServT, InitT, unlabelled, labelled, Node, prim_number, kind_number, mode_number, modes_number, value_number, label_kind, label_value}
+use Rattle.format.specs.Node.{PrimType, Null, Nat, Kind, PrimT, VarT, OptT, VecT, RecordT, VariantT, FuncT, ServT, InitT, unlabelled, labelled, Node, prim_number, kind_number, mode_number, modes_number, value_number, label_kind, label_value}
 use Rattle.format.specs.Book.{Definition, Main, TypeImport, InitArgs, Book, bodies, actors, trees}
 use Rattle.format.specs.Encode.{bytes16, bytes32, name_bytes, row_of, sized, row_bytes, entry_bytes, role_number, definition_entries, root_of, file_entries, names_bytes, nodes_bytes, definitions_bytes, files_bytes, toc_row, contents_bytes, encode}
+use Rattle.format.proofs.Logic.{clash}
+use Rattle.format.proofs.Occurs.{everywhere-tree, occurs-end, each-tree, beside-none}
 use Rattle.refusals.specs.Lists.{flat}
 use Rattle.format.specs.Fits.{every, is_byte, is_name, before, ascending, place_below, kind_fits, not_init, kind_allowed, label_fits, node_fits, forest_fits, is_init, definition_fits, files_rise, is_init_role, is_main, file_fits, imports_fit, roles_fit, fits, Fits}
 use Rattle.refusals.specs.Verdict.{Verdict, passes}
@@ -29,6 +33,10 @@ use Rattle.listing.specs.Room.{needs_actor}
 use Rattle.listing.specs.List.{list}
 use Rattle.listing.specs.InitList.{init_list}
 use Rattle.listing.specs.DraftList.{draft_definitions, draft_list}
+use Rattle.listing.specs.Empty.{emptiness}
+use Rattle.listing.specs.ReplaceEmpty.{replace_empty, Plain}
+use Rattle.listing.proofs.Empty.{empty-computed}
+use Rattle.listing.proofs.ReplaceEmpty.{replaced-computed}
 
 -- ---- The format, the check, the walk and the questions, each by every definition of it
 unfoldable pub fitting : Book → Bool
@@ -161,3 +169,97 @@ pub init-list : init_list (record {
 }) ≡ given (2 ∷ 1 ∷ [])
 unfolding init-listed beside
 init-list = refl
+
+-- ---- Emptiness, of one definition: that of a, with what the Rust's walk says of it
+emptied : Book → Outcome (List ℕ)
+unfolding checked after empty-computed
+emptied = emptiness
+
+replaced : List Definition → ℕ → List ℕ
+unfolding checked replaced-computed
+replaced = replace_empty
+
+abbrev alone : Forest Node → Book
+alone t = book (type 0 1 t ∷ []) end
+
+abbrev rust : Book → List ℕ
+rust b = replace_empty (main_definitions b) (length b.names)
+
+-- Empty, and not by the Rust's walk; not empty, by neither.
+abbrev EmptyByValues : Forest Node → Type 0
+EmptyByValues t = (emptiness (alone t) ≡ given (1 ∷ [])) × (rust (alone t) ≡ [])
+
+abbrev NotEmpty : Forest Node → Type 0
+NotEmpty t = (emptiness (alone t) ≡ given []) × (rust (alone t) ≡ [])
+
+abbrev holds : Kind → Forest Node → Forest Node
+holds κ kids = tree (record { kind = κ; label = labelled (Named 0) }) kids end
+
+-- type a = empty
+pub empty-itself : EmptyByValues (plain (PrimT PrimType.Empty) end)
+unfolding emptied replaced
+empty-itself = (refl, refl)
+
+-- type a = record { empty }
+pub empty-field : EmptyByValues (plain RecordT (holds (PrimT PrimType.Empty) end))
+unfolding emptied replaced
+empty-field = (refl, refl)
+
+-- type a = variant {}
+pub empty-variant : EmptyByValues (plain VariantT end)
+unfolding emptied replaced
+empty-variant = (refl, refl)
+
+-- type a = record { record { a } }
+pub empty-inside : EmptyByValues (plain RecordT (holds RecordT (holds (VarT 1) end)))
+unfolding emptied replaced
+empty-inside = (refl, refl)
+
+-- type a = variant { x : a }
+pub empty-cases : EmptyByValues (plain VariantT (holds (VarT 1) end))
+unfolding emptied replaced
+empty-cases = (refl, refl)
+
+-- type a = variant { x : a; y }
+pub filled-case : NotEmpty (plain VariantT (field (Named 0) (VarT 1) (field (Named 2) (PrimT Null) end)))
+unfolding emptied replaced
+filled-case = (refl, refl)
+
+-- type a = opt a
+pub filled-opt : NotEmpty (plain OptT (name 1))
+unfolding emptied replaced
+filled-opt = (refl, refl)
+
+-- type a = vec empty
+pub filled-vec : NotEmpty (plain VecT (plain (PrimT PrimType.Empty) end))
+unfolding emptied replaced
+filled-vec = (refl, refl)
+
+-- type a = record {}
+pub filled-record : NotEmpty (plain RecordT end)
+unfolding emptied replaced
+filled-record = (refl, refl)
+
+-- type a = b; type b = nat, of which a fills in the last round that there is
+pub filled-last : emptiness (book (type 0 1 (name 2) ∷ (type 0 2 (plain (PrimT Nat) end) ∷ [])) end) ≡ given []
+unfolding emptied
+filled-last = refl
+
+-- type a = record { a }, which is empty by both
+abbrev around : Book
+around = alone (plain RecordT (holds (VarT 1) end))
+
+pub empty-both : (emptiness around ≡ given (1 ∷ [])) × (rust around ≡ 1 ∷ [])
+unfolding emptied replaced
+empty-both = (refl, refl)
+
+-- That definition is of the class of request 4, so that its law has a book.
+pub around-plain : Plain (plain RecordT (holds (VarT 1) end))
+around-plain =
+    record {
+      no_variant = everywhere-tree (λ e. clash cc) (everywhere-tree (λ e. clash cc) (λ n kids o. occurs-end o) (λ n kids o. occurs-end o)) (λ n kids o. occurs-end o);
+      no_empty = everywhere-tree (λ e. clash cc) (everywhere-tree (λ e. clash cc) (λ n kids o. occurs-end o) (λ n kids o. occurs-end o)) (λ n kids o. occurs-end o);
+      fields =
+          everywhere-tree (λ e. each-tree (inl (1, refl)) (λ n kids b. beside-none b))
+          (everywhere-tree (λ e. clash cc) (λ n kids o. occurs-end o) (λ n kids o. occurs-end o)) (λ n kids o. occurs-end o);
+    }

@@ -4,8 +4,10 @@ pub mod Leaves
 pub mod Chases
 pub mod Chase
 pub mod Recursive
-pub mod Steps
+pub mod Filling
 pub mod Empty
+pub mod Steps
+pub mod ReplaceEmpty
 pub mod Interface
 pub mod Sites
 pub mod Methods

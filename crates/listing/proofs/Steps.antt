@@ -3,6 +3,7 @@
 --     names-steps, steps-names    these are the steps
 --     step-reference              a step is a reference
 --     Acyclic, not-empty          where every way ends no circle is reached
+--     empty-on, becomes-defined   where one is, a step leads on, and the name has a definition
 use mathlib.Core.Path.{◌≡◌, refl, sym, ap, ◌∙◌}
 use mathlib.Core.Logic.{◌⊎◌, inl, inr}
 use mathlib.Core.List.Memᴰ
@@ -15,9 +16,9 @@ use Rattle.format.specs.References.{references}
 use Rattle.judgement.specs.Environment.{Found, missing, body, find_type, Head, named, other, head_kind, head}
 use Rattle.format.specs.Occurs.{below, Beside, first, later}
 use Rattle.format.specs.Distinct.{Distinct}
-use Rattle.judgement.specs.WellFormed.{defined_name}
-use Rattle.listing.specs.Empty.{Steps, alias, field, StepsOn, here, by, OnCircle, BecomesEmpty}
-use Rattle.judgement.proofs.Lookup.{find-body, find-named}
+use Rattle.judgement.specs.WellFormed.{defined_name, Defined}
+use Rattle.listing.specs.ReplaceEmpty.{Steps, alias, field, StepsOn, here, by, OnCircle, BecomesEmpty}
+use Rattle.judgement.proofs.Lookup.{find-body, find-named, listed-defined}
 use Rattle.format.proofs.Occurs.{beside-occurs, occurs-reference}
 use Rattle.judgement.proofs.Heads.{other-named, named-var, head-refers}
 
@@ -53,7 +54,7 @@ unfolding head_names
 head-in other i = absurd (Memᴰ.not-nil i)
 head-in (named n) i = ap named (sym (Memᴰ.eq_of_singleton i))
 
-field-in : {m : ℕ} (kids : Forest Node) → Memᴰ m (field_names kids) → (f : Node) × (lids : Forest Node) × Beside f lids kids × (f.kind ≡ VarT m)
+pub field-in : {m : ℕ} (kids : Forest Node) → Memᴰ m (field_names kids) → (f : Node) × (lids : Forest Node) × Beside f lids kids × (f.kind ≡ VarT m)
 unfolding field_names
 field-in end i = absurd (Memᴰ.not-nil i)
 field-in {m} (tree f lids next) i = go (Memᴰ.append_cases (head_names (head_kind f.kind)) i) (field-in next)
@@ -64,7 +65,7 @@ field-in {m} (tree f lids next) i = go (Memᴰ.append_cases (head_names (head_ki
     go (inl j) ih = (f, lids, first, named-var f.kind (head-in (head_kind f.kind) j))
     go (inr j) ih = let r = ih j in (r.0, r.1, later r.2, r.3)
 
-in-field : {m : ℕ} {f : Node} {lids kids : Forest Node} → Beside f lids kids → f.kind ≡ VarT m → Memᴰ m (field_names kids)
+pub in-field : {m : ℕ} {f : Node} {lids kids : Forest Node} → Beside f lids kids → f.kind ≡ VarT m → Memᴰ m (field_names kids)
 unfolding field_names head_names head_kind
 in-field first e = rw e (Memᴰ.head refl)
 in-field (later {m = g} b) e = Memᴰ.append_right (head_names (head_kind g.kind)) (in-field b e)
@@ -151,6 +152,13 @@ module _ {ds : List Definition} where
   pub not-empty : {n : ℕ} → Acyclic ds n → BecomesEmpty ds n → ⊥
   not-empty a e = reached-circle e.reached a e.circle
 
-pub first-step : {ds : List Definition} {n k : ℕ} → StepsOn ds n k → OnCircle ds k → (m : ℕ) × Steps ds n m
-first-step here c = (c.next, c.step)
-first-step (by {m = m} s r) c = (m, s)
+-- A step leads on to where the circle is reached from.
+pub empty-on : {ds : List Definition} {n : ℕ} → BecomesEmpty ds n → (m : ℕ) × Steps ds n m × BecomesEmpty ds m
+empty-on e = go e.reached e.circle
+  where
+    go : {ds : List Definition} {n k : ℕ} → StepsOn ds n k → OnCircle ds k → (m : ℕ) × Steps ds n m × BecomesEmpty ds m
+    go {k = k} here c = (c.next, c.step, record { name = k; reached = c.back; circle = c })
+    go {k = k} (by {m = m} s r) c = (m, s, record { name = k; reached = r; circle = c })
+
+pub becomes-defined : (ds : List Definition) {n : ℕ} → BecomesEmpty ds n → Defined ds n
+becomes-defined ds e = let r = step-reference ds (empty-on e).1 in listed-defined r.1 r.2

@@ -3,6 +3,7 @@
 --     Inherited, sites-inherit       what passes on to parts and along aliases holds of every site of an actor of which it holds
 --     names-inherited, ..            such are: that all names are bound, that all are reachable
 --     sites-reach                    what is reachable from a site is reachable from the actor
+--     kept-says, kept-ascends, ..    what passes a test
 --     row-says, row-unique, ..       the row: the entries of the sites that pass a test of being reachable
 --     WalkLists, WalkListed, ..      the walk from each site lists what is reachable, if that from all fit types does
 --     uses-row, unreachable-none     then `uses_of` gives the row
@@ -13,10 +14,10 @@
 --     uses-few, uses-most            no more entries than so many
 --     uses-bytes-in-row, ..          all on bytes
 use mathlib.Core.Path.{◌≡◌, refl, sym, ap, subst, ◌∙◌}
-use mathlib.Core.Logic.{◌↔◌, ⊎_elim}
+use mathlib.Core.Logic.{◌↔◌, ◌⊎◌, inl, inr, ⊎_elim}
 use mathlib.Core.Bool.{Bool, true, false, cond}
 use mathlib.Core.List.{List, [], ◌∷◌, ◌++◌, map, Memᴰ}
-use Prim.Native.Nat.{ℕ, zero, suc, ◌+◌, ◌≤◌}
+use Prim.Native.Nat.{ℕ, zero, suc, ◌+◌, ◌≤◌, ◌<◌}
 use native.Mathlib.Omega.{arith}
 use lib.Dec.{T}
 use lib.ListN.{length, length-map}
@@ -25,6 +26,7 @@ use Rattle.format.specs.Forest.{Forest, end, tree, breadth}
 use Rattle.format.specs.Node.{Nat, Kind, PrimT, VarT, OptT, VecT, RecordT, VariantT, FuncT, ServT, ClassT, InitT, unlabelled, labelled, Node}
 use Rattle.format.specs.Book.{Definition, Book}
 use Rattle.format.specs.Fits.{Fits}
+use Rattle.format.specs.Distinct.{Ascends}
 use Rattle.format.specs.References.{references}
 use Rattle.format.specs.References as refer
 use Rattle.judgement.specs.Environment.{main_definitions, find_type, Head, named, other, head_kind, head, is_serv_kind, kids_of}
@@ -232,7 +234,7 @@ sites-reach ds actor s m n r =
     let passes = names-inherited ds Q (λ k d q i e j h. reach.onward {m = k} q record { definition = d; listed = i; named = e; refers = h }) in
     reach-on (sites-inherit ds (EachName Q) passes actor (top-inherit ds (EachName Q) passes actor (λ k i. direct i)) s m) r
 
--- ---- The row of a name
+-- ---- What passes a test
 
 module _ {A : Type 0} where
   kept-cons : (test : A → Bool) (P : List A → Type 0) (a : A) (l : List A) → (T (test a) → P (a ∷ kept test l)) → ((T (test a) → ⊥) → P (kept test l)) → P (kept test (a ∷ l))
@@ -256,18 +258,44 @@ module _ {A : Type 0} where
       ))
       (λ n. (later, λ p. ⊎_elim (λ (e : a ≡ c). absurd (n (subst (λ (x : A). T (test x)) e p.1))) (λ k. below.1 (k, p.1)) (mathlib.Core.List.Memᴰ.cases_cons p.0)))
 
-  kept-length : (test : A → Bool) (l : List A) → length (kept test l) ≤ length l
+  pub kept-length : (test : A → Bool) (l : List A) → length (kept test l) ≤ length l
   unfolding kept
   kept-length test [] = omega arith
   kept-length test (c ∷ l) =
       let below = kept-length test l in
       kept-cons test (λ k. length k ≤ suc (length l)) c l (λ y. omega arith) (λ n. omega arith)
 
+  -- what passes a test passes another: as much is kept, and the same; or less
+  pub kept-more : (test test' : A → Bool) (l : List A) → ((a : A) → T (test a) → T (test' a)) →
+      (kept test l ≡ kept test' l) ⊎ (length (kept test l) < length (kept test' l))
+  unfolding kept
+  kept-more test test' [] h = inl refl
+  kept-more test test' (c ∷ l) h = go (test c) (test' c) (h c) (kept-more test test' l h)
+    where
+      go : (b b' : Bool) → (T b → T b') → (kept test l ≡ kept test' l) ⊎ (length (kept test l) < length (kept test' l)) →
+          (cond b (c ∷ kept test l) (kept test l) ≡ cond b' (c ∷ kept test' l) (kept test' l))
+          ⊎ (length (cond b (c ∷ kept test l) (kept test l)) < length (cond b' (c ∷ kept test' l) (kept test' l)))
+      go true true i (inl e) = inl (ap (λ (k : List A). c ∷ k) e)
+      go true true i (inr m) = inr (omega (arith, m))
+      go true false i r = absurd (i tt)
+      go false true i (inl e) = inr (omega (arith, ap length e))
+      go false true i (inr m) = inr (omega (arith, m))
+      go false false i r = r
+
   -- tests that say the same keep the same
   kept-same : (test test' : A → Bool) (l : List A) → ((a : A) → Memᴰ a l → test a ≡ test' a) → kept test l ≡ kept test' l
   unfolding kept
   kept-same test test' [] h = refl
   kept-same test test' (c ∷ l) h = rw (h c (mathlib.Core.List.Memᴰ.head refl), kept-same test test' l (λ a m. h a (mathlib.Core.List.Memᴰ.tail m)))
+
+-- numbers in order stay so
+pub kept-ascends : (test : ℕ → Bool) (l : List ℕ) → Ascends l → Ascends (kept test l)
+unfolding kept
+kept-ascends test [] a = tt
+kept-ascends test (n ∷ l) a =
+    kept-cons test Ascends n l (λ y. (λ m i. a.0 m ((kept-says test l m).0 i).0, kept-ascends test l a.1)) (λ h. kept-ascends test l a.1)
+
+-- ---- The row of a name
 
 module _ {ds : List Definition} {all : List Site} {n : ℕ} where
   pub row-says : {row : List Use} → RowOf ds all n row → (u : Use) → Memᴰ u row ↔ ((s : Site) × Memᴰ s all × (s.entry ≡ u) × Reachable ds s.type n)

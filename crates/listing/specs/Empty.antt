@@ -1,131 +1,93 @@
--- Emptiness: `is_empty` and `replace_empty` of type_env.rs, document 01's sentence on the names that become empty, which knows nothing of the
--- walk (proofs/Empty.antt joins the two), the question, and what it refuses. Definitions; assumes nothing.
-use Rattle.std.specs.Prelude.{◌≡◌, Bool, true, false, cond, ℕ, zero, suc, get_or, set, replicate, length}
-use mathlib.Core.List.{List, [], ◌∷◌, Memᴰ}
+-- Emptiness by values, request 4 of document 02: which types have a value of finite height, as a relation that knows of no walk (`Fills`) and
+-- by rounds that run (proofs/Filling.antt joins the two), the question, and what it refuses. Definitions; assumes nothing.
+use Rattle.std.specs.Prelude.{◌≡◌, Bool, true, false, cond, not, ℕ, zero, suc, length, eqb}
+use mathlib.Core.List.{List, [], ◌∷◌, map}
 use Rattle.format.specs.Forest.{Forest, end, tree}
-use Rattle.format.specs.Node.{Kind, PrimT, VarT, OptT, VecT, RecordT, VariantT, FuncT, ServT, ClassT, InitT, Node}
+use Rattle.format.specs.Node.{PrimType, prim_number, Kind, PrimT, VarT, OptT, VecT, RecordT, VariantT, FuncT, ServT, ClassT, InitT, Node}
 use Rattle.format.specs.Book.{Definition, Book}
+use Rattle.format.specs.Fits.{every}
 use Rattle.format.specs.Occurs.{Beside}
-use Rattle.judgement.specs.Environment.{Found, missing, body, find_type, is_missing, Head, named, other, head_kind, head, main_definitions}
+use Rattle.judgement.specs.Environment.{Found, missing, body, find_type, main_definitions}
+use Rattle.judgement.specs.WellFormed.{defined_name, Defined}
+use Rattle.judgement.specs.Check.{member, check}
+use Rattle.judgement.specs.Rows.{CheckRow, check_rows}
 use Rattle.refusals.specs.declared.Refusal.{Refusal}
 use Rattle.refusals.specs.declared.Refusal.TheVariants.{Short}
 use Rattle.refusals.specs.Outcome.{Outcome, given, after}
-use Rattle.judgement.specs.Check.{check}
-use Rattle.judgement.specs.Rows.{CheckRow, check_rows}
 use Rattle.listing.specs.Room.{ShortRow, EachOnce}
+use Rattle.listing.specs.Recursive.{sorted}
+use Rattle.listing.specs.Uses.{kept}
 
--- ---- `is_empty`
+-- ---- Which types fill
 
--- What the map `res` has at a name: nothing, None while the name is visited, or the answer. A list has a mark for each name.
-pub data Mark : Type 0 where
-  unvisited visiting : Mark
-  answered : Bool → Mark
+-- All but `empty`, records, variants and names.
+pub record AllElse (k : Kind) : Type 0 where
+  pub no_empty : k ≡ PrimT PrimType.Empty → ⊥
+  pub no_record : k ≡ RecordT → ⊥
+  pub no_variant : k ≡ VariantT → ⊥
+  pub no_name : (m : ℕ) → k ≡ VarT m → ⊥
 
--- What a visit answers, and the marks after it.
-pub record Visit : Type 0 where
-  pub empty : Bool
-  pub marks : List Mark
+-- A type, by its kind and the types within it, fills if it has a value of finite height. No rule is of `empty`, which has none. A value of a record
+-- has one of each field, a value of a variant is one of some case, a value of a name is one of its definition; all else has a value.
+pub data Fills (ds : List Definition) : Kind → Forest Node → Type 0 where
+  of_fields : {fields : Forest Node} → ((f : Node) (kids : Forest Node) → Beside f kids fields → Fills ds f.kind kids) → Fills ds RecordT fields
+  of_case : {c : Node} {kids cases : Forest Node} → Beside c kids cases → Fills ds c.kind kids → Fills ds VariantT cases
+  of_name : {m : ℕ} {t : Node} {kids next none : Forest Node} → find_type ds m ≡ body (tree t kids next) → Fills ds t.kind kids → Fills ds (VarT m) none
+  of_else : {k : Kind} {kids : Forest Node} → AllElse k → Fills ds k kids
 
-abbrev pub not_empty : List Mark → Visit
-not_empty marks = record { empty = false; marks = marks }
+-- A name is empty if it has a definition, and this does not fill.
+pub record Empty (ds : List Definition) (n : ℕ) : Type 0 where
+  pub defined : Defined ds n
+  pub unfilled : Fills ds (VarT n) end → ⊥
 
--- A field: one that is a name is visited and, if empty, ends the record's walk; any other is passed over. `rest` are the fields after it.
-unfoldable pub visit_field : (ℕ → List Mark → Visit) → Head → (List Mark → Visit) → List Mark → Visit
-visit_field visit other rest marks = rest marks
-visit_field visit (named m) rest marks = let v = visit m marks in cond v.empty v (rest v.marks)
+-- ---- The same by rounds
 
-unfoldable pub visit_fields : (ℕ → List Mark → Visit) → Forest Node → List Mark → Visit
-visit_fields visit end marks = not_empty marks
-visit_fields visit (tree f kids next) marks = visit_field visit (head_kind f.kind) (visit_fields visit next) marks
+-- Whether one is true.
+unfoldable pub one_true : List Bool → Bool
+one_true [] = false
+one_true (b ∷ bs) = cond b true (one_true bs)
 
--- A type: a record's fields in order, an alias's name; no other is empty.
-unfoldable pub visit_type : (ℕ → List Mark → Visit) → Kind → Forest Node → List Mark → Visit
-visit_type visit (PrimT p) kids marks = not_empty marks
-visit_type visit (VarT m) kids marks = visit m marks
-visit_type visit OptT kids marks = not_empty marks
-visit_type visit VecT kids marks = not_empty marks
-visit_type visit RecordT kids marks = visit_fields visit kids marks
-visit_type visit VariantT kids marks = not_empty marks
-visit_type visit (FuncT a ms) kids marks = not_empty marks
-visit_type visit ServT kids marks = not_empty marks
-visit_type visit ClassT kids marks = not_empty marks
-visit_type visit InitT kids marks = not_empty marks
+-- Of the primitive types all but `empty` fill.
+unfoldable pub prim_fills : PrimType → Bool
+prim_fills p = not (eqb (prim_number p) 16)
 
--- A name without definition is an error in the Rust. No checked book has one; here it is not empty.
-unfoldable pub visit_found : (ℕ → List Mark → Visit) → Found → List Mark → Visit
-visit_found visit missing marks = not_empty marks
-visit_found visit (body end) marks = not_empty marks
-visit_found visit (body (tree t kids next)) marks = visit_type visit t.kind kids marks
+-- Whether a type of this kind fills, if the names in `known` do, and of the types within it those that are true.
+unfoldable pub kind_fills : List ℕ → Kind → List Bool → Bool
+kind_fills known (PrimT p) inner = prim_fills p
+kind_fills known (VarT m) inner = member m known
+kind_fills known OptT inner = true
+kind_fills known VecT inner = true
+kind_fills known RecordT inner = every (λ b. b) inner
+kind_fills known VariantT inner = one_true inner
+kind_fills known (FuncT a ms) inner = true
+kind_fills known ServT inner = true
+kind_fills known ClassT inner = true
+kind_fills known InitT inner = true
 
--- The answer is stored over whatever mark the name has by then. The Rust does so on both of its ways out.
-unfoldable pub store : ℕ → Visit → Visit
-store n v = record { empty = v.empty; marks = set v.marks n (answered v.empty) }
+-- Each of the types beside each other.
+unfoldable pub each_fills : List ℕ → Forest Node → List Bool
+each_fills known end = []
+each_fills known (tree t kids next) = kind_fills known t.kind (each_fills known kids) ∷ each_fills known next
 
--- By the name's mark: a name met while it is visited is empty.
-unfoldable pub visit_marked : (ℕ → List Mark → Visit) → ℕ → Found → Mark → List Mark → Visit
-visit_marked visit n found unvisited marks = store n (visit_found visit found (set marks n visiting))
-visit_marked visit n found visiting marks = store n (record { empty = true; marks = marks })
-visit_marked visit n found (answered b) marks = record { empty = b; marks = marks }
+unfoldable pub found_fills : List ℕ → Found → Bool
+found_fills known missing = false
+found_fills known (body end) = false
+found_fills known (body (tree t kids next)) = kind_fills known t.kind (each_fills known kids)
 
--- Names are visited at most k deep. More than the number of unvisited names is deep enough.
-unfoldable pub is_empty : List Definition → ℕ → ℕ → List Mark → Visit
-is_empty ds zero n marks = not_empty marks
-is_empty ds (suc k) n marks = visit_marked (is_empty ds k) n (find_type ds n) (get_or marks n unvisited) marks
+-- The names that fill after k rounds: before the first none does, and in each those do whose definition does by the names of the round before.
+unfoldable pub rounds : List Definition → ℕ → List ℕ
+rounds ds zero = []
+rounds ds (suc k) = let known = rounds ds k in kept (λ n. found_fills known (find_type ds n)) (map defined_name ds)
 
--- ---- `replace_empty`
-
--- The names that have a definition, ascending: those among n, n + 1 and so on, k of them.
-unfoldable pub keys_from : List Definition → ℕ → ℕ → List ℕ
-keys_from ds n zero = []
-keys_from ds n (suc k) = cond (is_missing (find_type ds n)) (keys_from ds (suc n) k) (n ∷ keys_from ds (suc n) k)
-
-unfoldable pub visit_all : (ℕ → List Mark → Visit) → List ℕ → List Mark → List Mark
-visit_all visit [] marks = marks
-visit_all visit (n ∷ ns) marks = visit_all visit ns (visit n marks).marks
-
--- The names whose answer is that they are empty, ascending; the marks are those of n, n + 1 and so on.
-unfoldable pub is_empty_mark : Mark → Bool
-is_empty_mark unvisited = false
-is_empty_mark visiting = false
-is_empty_mark (answered b) = b
-
-unfoldable pub empty_from : ℕ → List Mark → List ℕ
-empty_from n [] = []
-empty_from n (m ∷ ms) = cond (is_empty_mark m) (n ∷ empty_from (suc n) ms) (empty_from (suc n) ms)
-
--- `names` is the number of names.
-unfoldable pub replace_empty : List Definition → ℕ → List ℕ
-replace_empty ds names = empty_from 0 (visit_all (is_empty ds (suc names)) (keys_from ds 0 names) (replicate names unvisited))
-
--- ---- Document 01: a definition becomes empty exactly if a circle is reached from it by aliases and by record fields that are names
-
--- One step: a name's definition is the other name, or a record with a field that is.
-pub data Steps (ds : List Definition) (n m : ℕ) : Type 0 where
-  alias : {d : Definition} → Memᴰ d ds → d.name ≡ n → head d.body ≡ named m → Steps ds n m
-  field : {d : Definition} {r f : Node} {kids lids next : Forest Node} →
-      Memᴰ d ds → d.name ≡ n → d.body ≡ tree r kids next → r.kind ≡ RecordT → Beside f lids kids → f.kind ≡ VarT m → Steps ds n m
-
--- No step, or one and then others.
-pub data StepsOn (ds : List Definition) : ℕ → ℕ → Type 0 where
-  here : {n : ℕ} → StepsOn ds n n
-  by : {n m k : ℕ} → Steps ds n m → StepsOn ds m k → StepsOn ds n k
-
--- One step or more lead from a name back to it.
-pub record OnCircle (ds : List Definition) (n : ℕ) : Type 0 where
-  pub next : ℕ
-  pub step : Steps ds n next
-  pub back : StepsOn ds next n
-
-pub record BecomesEmpty (ds : List Definition) (n : ℕ) : Type 0 where
-  pub name : ℕ
-  pub reached : StepsOn ds n name
-  pub circle : OnCircle ds name
+-- With as many rounds as definitions no more follow. The names whose definition does not fill are the others.
+unfoldable pub unfilled : List Definition → List ℕ
+unfilled ds = let filled = rounds ds (length ds) in kept (λ n. not (member n filled)) (map defined_name ds)
 
 -- ---- The question
 
--- The question's answer for a book that passes the check.
+-- The question's answer for a book that passes the check, ascending.
 unfoldable pub empty_names : Book → List ℕ
-empty_names b = replace_empty (main_definitions b) (length b.names)
+empty_names b = sorted (unfilled (main_definitions b)) 0 (length b.names)
 
 unfoldable pub emptiness : Book → Outcome (List ℕ)
 emptiness b = after (check b) (given (empty_names b))
@@ -133,7 +95,7 @@ emptiness b = after (check b) (given (empty_names b))
 -- Its rows: those of the check, then 16.
 pub data EmptinessRow (b : Book) (places : ℕ) : Refusal → Type 0 where
   checked : {r : Refusal} → CheckRow b r → EmptinessRow b places r
-  short : {k : ℕ} → ShortRow places (emptiness b) (EachOnce (BecomesEmpty (main_definitions b))) k → EmptinessRow b places (Short k)
+  short : {k : ℕ} → ShortRow places (emptiness b) (EachOnce (Empty (main_definitions b))) k → EmptinessRow b places (Short k)
 
 abbrev pub emptiness_rows : List ℕ
 emptiness_rows = 16 ∷ check_rows

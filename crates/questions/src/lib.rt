@@ -102,7 +102,7 @@ pub fn project(book: &[u8], limits: Limits, asked: &[u16], out: &mut [u16]) -> A
     pass!(book, limits).project(asked, out)
 }
 
-// The names that become empty, ascending: the check's refusals and 16. No actor is needed.
+// The names that are empty, whose definition has no value of finite height, ascending: the check's refusals and 16. No actor is needed.
 pub fn emptiness(book: &[u8], limits: Limits, out: &mut [u16]) -> Answer
     ensures { HandedAs (on_bytes emptiness (book.now under limits)) out.old out.new result }
 {

@@ -22,6 +22,7 @@ use Rattle.judgement.specs.Check.{member, hashes_verdict}
 use Rattle.judgement.proofs.Lookup.{member-says}
 use Rattle.book.specs.Tables.{HashesAgree}
 use Rattle.duplicates.specs.Duplicate.{FirstDuplicate}
+use Rattle.environment.proofs.Links.{listed-at}
 use Rattle.syntax.specs.Hashed.{labels_of}
 use Rattle.syntax.specs.Gathering.{GathersAs}
 
@@ -73,11 +74,6 @@ module _ (hs : List ℕ) where
       ∙ first-twice (hash v ∷ seen) vs rest r (omega arith) (distinct-tail d)
       (λ x m k. ⊎_elim (λ (e : x ≡ hash v). distinct-head d (Memᴰ.cast (sym e) m)) (n x (Memᴰ.tail m)) (Memᴰ.cases_cons k))
       (⊎_elim (λ m. inl (Memᴰ.tail m)) (λ m. ⊎_elim (λ e. inl (Memᴰ.head e)) inr (Memᴰ.cases_cons m)) a)
-
-listed-at : (l : List ℕ) (n d : ℕ) → n < length l → Memᴰ (get_or l n d) l
-listed-at [] n d h = absurd (omega arith)
-listed-at (x ∷ l) zero d h = Memᴰ.head refl
-listed-at (x ∷ l) (suc n) d h = Memᴰ.tail (listed-at l n d (omega arith))
 
 -- ---- The verdict on what is gathered
 module _ (hs : List ℕ) (size : length hs ≡ 1024) where

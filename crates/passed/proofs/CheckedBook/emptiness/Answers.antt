@@ -6,6 +6,7 @@ use native.Mathlib.Omega.{arith}
 use lib.ListN.{length}
 use Rattle.refusals.specs.Outcome.{given}
 use Rattle.format.specs.Layout.{nodes_part}
+use Rattle.listing.specs.Recursive.{sorted}
 use Rattle.book.specs.declared.kinds.Contents.{Contents}
 use Rattle.book.specs.Reading.{Admitted}
 use Rattle.book.proofs.Opened.{names-count, nodes-count}
@@ -17,7 +18,7 @@ use Rattle.typing.specs.Passing.{PassedAs}
 use Rattle.inhabitants.specs.Empty.{EmptiedAs}
 use Rattle.environment.specs.declared.scope.Scope.{Scope}
 use Rattle.typing.proofs.prog.Book.{tabled}
-use Rattle.listing.specs.Empty.{replace_empty, empty_names, emptiness}
+use Rattle.listing.specs.Empty.{unfilled, empty_names, emptiness}
 use Rattle.refusals.proofs.Outcomes.{after-passed}
 use Rattle.passed.proofs.Asking.{handed-as}
 use Rattle.passed.proofs.CheckedBook.emptiness.Goals as goal
@@ -36,17 +37,17 @@ module _ {bs : List ℕ} {c : Contents} {a : Admitted bs c} {roots ends' : List 
     unfolding emptiness empty_names
     empty-given e =
         after-passed (check a.book) _ x.passed
-        ∙ ap (λ (n : ℕ). given (replace_empty (main_definitions a.book) n)) (sym (names-count a))
+        ∙ ap (λ (n : ℕ). given (sorted (unfilled (main_definitions a.book)) 0 n)) (sym (names-count a))
         ∙ ap given (sym (h.is (main_definitions a.book) (tabled x).0) ∙ sym e)
 
 pub of-requires : goal.of-requires
 of-requires c = let b = c.args.self.now.passes in rw (nodes-count b.admitted) b.passed.checked.table
 
 pub names_of-empty-requires : goal.names_of-empty-requires
-names_of-empty-requires c = let o = c.of.ensures in empty-flags c.args.self.now.passes.passed c.of.result o.rows (rw o.roots refl) o.names c.replace_empty-flags.ensures
+names_of-empty-requires c = let o = c.of.ensures in empty-flags c.args.self.now.passes.passed c.of.result o.rows (rw o.roots refl) o.names c.empty_names-flags.ensures
 
 pub returns : goal.returns
 returns c =
     let o = c.of.ensures in
-    handed-as (empty-given c.args.self.now.passes.passed c.of.result o.rows (rw o.roots refl) o.names c.replace_empty-flags.ensures c.names_of-empty.ensures)
+    handed-as (empty-given c.args.self.now.passes.passed c.of.result o.rows (rw o.roots refl) o.names c.empty_names-flags.ensures c.names_of-empty.ensures)
     (rw c.as_slice.ensures.value at c.hand.ensures)
