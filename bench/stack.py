@@ -45,6 +45,7 @@ def of_book(lines):
 # Of each program: the folders of its books, and its input and output.
 PROGRAMS = {
     "list": ([LIST_SOURCES, CHECK_SOURCES], of_book(answers.listing)),
+    "values": ([LIST_SOURCES, CHECK_SOURCES], of_book(answers.valuing)),
     "answer_batch": ([SOURCES, CHECK_SOURCES, LIST_SOURCES], of_batch(answer_lines)),
 }
 
@@ -52,7 +53,8 @@ PROGRAMS = {
 def output(path, data, kib):
     def limit():
         resource.setrlimit(resource.RLIMIT_STACK, (kib * 1024, kib * 1024))
-    return subprocess.run(["setarch", "-R", path], input=data, capture_output=True, preexec_fn=limit, env={}).stdout
+    done = subprocess.run(["setarch", "-R", path], input=data, capture_output=True, preexec_fn=limit, env={})
+    return None if done.returncode else done.stdout  # what was stopped has written nothing, which may be right
 
 
 def least(path, data, right):

@@ -13,7 +13,7 @@ struct asked {
     uint32_t limits[3]; /* of names, nodes and definitions */
     const uint16_t *list; /* so many names, for marks */
     size_t count;
-    uint16_t name, method; /* for uses and alias, and for a projection to it alone */
+    uint16_t name, method; /* for values, uses and alias, and for a projection to it alone */
     uint16_t *out;
     size_t places;
 };
@@ -28,12 +28,14 @@ static uint64_t ask_marks(const struct asked *a) { return ludzepin_marks(BOOK(a)
 static uint64_t ask_init_list(const struct asked *a) { return ludzepin_init_list(BOOK(a), a->out, a->places); }
 static uint64_t ask_draft_list(const struct asked *a) { return ludzepin_draft_list(BOOK(a), a->out, a->places); }
 static uint64_t ask_emptiness(const struct asked *a) { return ludzepin_emptiness(BOOK(a), a->out, a->places); }
+static uint64_t ask_values(const struct asked *a) { return ludzepin_values(BOOK(a), a->name); }
 static uint64_t ask_uses(const struct asked *a) { return ludzepin_uses(BOOK(a), a->name, a->out, a->places); }
 static uint64_t ask_alias(const struct asked *a) { return ludzepin_alias(BOOK(a), a->name); }
 static uint64_t ask_project(const struct asked *a) { return ludzepin_project(BOOK(a), &a->method, 1, a->out, a->places); }
 
-/* What a question is answered with: a verdict, names or positions in the lent list, uses in it, an alias chain. The last two have 64 bits. */
-enum answered { VERDICT, ENTRIES, ENTRIES_OF_USES, ALIAS_CHAIN };
+/* What a question is answered with: a verdict, names or positions in the lent list, uses in it, an alias chain, a number of values. The last
+ * three have 64 bits. */
+enum answered { VERDICT, ENTRIES, ENTRIES_OF_USES, ALIAS_CHAIN, NUMBER_OF_VALUES };
 
 static const struct question {
     const char *word;
@@ -47,6 +49,7 @@ static const struct question {
     {"init", ask_init_list, ENTRIES},
     {"draft", ask_draft_list, ENTRIES},
     {"empty", ask_emptiness, ENTRIES},
+    {"values", ask_values, NUMBER_OF_VALUES},
     {"uses", ask_uses, ENTRIES_OF_USES},
     {"alias", ask_alias, ALIAS_CHAIN},
     {"project", ask_project, ENTRIES},

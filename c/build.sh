@@ -99,6 +99,35 @@ ask tests/list/alias-unbound.did 1 1 4096
 ask tests/list/alias-circle-tail.did 1 1 4096
 ask tests/list/alias-check-first.did 65535 1 4096
 ask tests/list/alias-repeat.did 65535 1 4096
+# Numbers of values: none, one, the largest and one less, and many; 3 for names without definition and for numbers outside; the check before.
+ask tests/list/values-opts.did 1 1 0
+ask tests/list/values-fixed.did 1 1 0
+ask tests/list/values-fixed.did 4 1 0
+ask tests/list/values-fixed.did 8 1 0
+ask tests/list/values-endless.did 10 1 0
+ask tests/list/values-most-product.did 3 1 4096
+ask tests/list/values-most-product.did 6 1 4096
+ask tests/list/values-most-sum.did 1 1 4096
+ask tests/list/values-most-sum.did 2 1 4096
+ask tests/list/values-most-opt.did 1 1 4096
+ask tests/list/values-most-opt.did 2 1 4096
+ask tests/list/values-most-opt.did 3 1 4096
+ask tests/list/values-no-circle.did 1 1 4096
+ask tests/list/values-no-circle.did 3 1 4096
+ask tests/list/values-circle-names.did 4 1 4096
+ask tests/list/values-names.did 0 1 4096
+ask tests/list/values-unbound.did 0 4 4096
+ask tests/list/values-unbound.did 5 4 4096
+ask tests/list/values-unbound.did 9 4 4096
+ask tests/list/values-unbound.did 1024 4 4096
+ask tests/list/values-unbound.did 65535 4 4096
+ask tests/list/values-init.did 1 1 4096
+ask tests/list/values-check-first.did 65535 1 4096
+ask tests/list/values-check-names.did 65535 1 4096
+ask tests/list/values-broken.did 1 1 4096
+ask tests/list/values-repeat.did 65535 1 4096
+ask tests/list/large-values-chain.did 512 0 0
+ask tests/list/large-values-circle.did 511 0 0
 # The second reading stops at 4,097 uses.
 right=$(python3 tools/answers.py bench/uses-most.did 1 3 4096)
 try questions bench/uses-most.did 0 "${right/needs 4097/needs 3143680}" 1 3 4096
@@ -118,6 +147,7 @@ within tests/list/p01.did 7 10 3
 within tests/list/init-own.did 7 12 4
 within tests/list/p03.did 3 2 2
 within tests/list/alias-2.did 3 2 2
+within tests/list/values-opts.did 3 35 2
 within tests/layout/limit-all.did 1024 4096 512
 # Limits above the figures count as these, however large they are.
 ask tests/list/p01.did 6 4 4096 1025 4097 513

@@ -1,7 +1,7 @@
 /* Asks a book every question, and prints each answer on a line:  questions BOOK NAME METHOD [PLACES [NAMES NODES DEFINITIONS]]
  *
- * Marks are those of the book's list, uses and alias chain are NAME's and the projection is to METHOD, both by name number. PLACES are the
- * numbers lent for an answer, 4,096 if none are given. NAMES, NODES and DEFINITIONS are limits, the full ones if none are given.
+ * Marks are those of the book's list, values, uses and alias chain are NAME's and the projection is to METHOD, both by name number. PLACES are
+ * the numbers lent for an answer, 4,096 if none are given. NAMES, NODES and DEFINITIONS are limits, the full ones if none are given.
  * `python3 tools/answers.py` with the same arguments prints what is right. */
 #include <stdio.h>
 #include <stdlib.h>
@@ -31,9 +31,11 @@ static void print_entries(uint32_t entries, uint32_t numbers, const uint16_t *ou
 }
 
 static void print(const struct question *question, uint64_t answer, const uint16_t *out) {
-    int is_wide = question->with == ENTRIES_OF_USES || question->with == ALIAS_CHAIN;
+    int is_wide = question->with >= ENTRIES_OF_USES;
     uint32_t half = (uint32_t)answer;
-    uint32_t refusal = is_wide ? ludzepin_uses_refusal(answer) : ludzepin_refusal(half);
+    uint32_t refusal = question->with == NUMBER_OF_VALUES ? ludzepin_values_refusal(answer)
+                       : is_wide                          ? ludzepin_uses_refusal(answer)
+                                                          : ludzepin_refusal(half);
     printf("%s", question->word);
     if (refusal == LUDZEPIN_SHORT)
         print_refusal(refusal, is_wide ? ludzepin_uses_entries(answer) : ludzepin_entries(half));
@@ -45,6 +47,10 @@ static void print(const struct question *question, uint64_t answer, const uint16
         print_entries(ludzepin_uses_entries(answer), 3, out);
     else if (question->with == ALIAS_CHAIN)
         printf(" given %u %u", ludzepin_alias_names(answer), ludzepin_alias_last(answer));
+    else if (question->with == NUMBER_OF_VALUES && ludzepin_values_many(answer))
+        printf(" given many");
+    else if (question->with == NUMBER_OF_VALUES)
+        printf(" given %u", ludzepin_values_number(answer));
     else
         print_entries(ludzepin_entries(half), 1, out);
     printf("\n");

@@ -5,9 +5,10 @@
  * functions keep nothing between calls, allocate nothing and call only memcpy and memset. They need stack: 1 MiB is enough for
  * each of them on every book (docs/FIGURES.md has the figures), which is more than some systems give to a thread by default.
  *
- * crates/codes/specs/Coded.antt defines the answers and, once more, the arithmetic of the eight functions at the end of this file;
+ * crates/codes/specs/Coded.antt defines the answers and, once more, the arithmetic of the eleven functions at the end of this file;
  * crates/exports/src/lib.rt promises of each answer that this arithmetic gives back its refusal, name and entries, of an alias chain the names
- * crossed and the last. No proof reads this file: nothing compares the two texts but c/build.sh, which tries them. */
+ * crossed and the last, of values their number or that they are many. No proof reads this file: nothing compares the two texts but c/build.sh,
+ * which tries them. */
 #ifndef LUDZEPIN_H
 #define LUDZEPIN_H
 
@@ -90,12 +91,19 @@ uint64_t ludzepin_uses(const uint8_t *book, size_t bytes, uint32_t names, uint32
  * name itself where that is so of its own. Or a refusal (those of the check; 3, the name has no definition). No actor is needed. */
 uint64_t ludzepin_alias(const uint8_t *book, size_t bytes, uint32_t names, uint32_t nodes, uint32_t definitions, uint16_t name);
 
+/* The number of values of finite height that the definition of a name has, up to 4,294,967,295, or LUDZEPIN_MANY. Or a refusal (those of the check;
+ * 3, the name has no definition). No actor is needed. */
+uint64_t ludzepin_values(const uint8_t *book, size_t bytes, uint32_t names, uint32_t nodes, uint32_t definitions, uint16_t name);
+
+/* The answer of ludzepin_values for more values than any number that it gives. */
+#define LUDZEPIN_MANY UINT64_MAX
+
 /* The refusal in an answer, 0 if it is none. */
 static inline uint32_t ludzepin_refusal(uint32_t answer) { return answer >> 16; }
 
 /* The name number of a refusal other than LUDZEPIN_SHORT: a place in the book's table of names, or LUDZEPIN_NO_NAME. But LUDZEPIN_ABSENT, and
- * LUDZEPIN_UNBOUND of ludzepin_marks and ludzepin_alias, name the asked or listed number, whatever it is: where that is 65,535, the refusal tells
- * that it is a name, for both of these always name. */
+ * LUDZEPIN_UNBOUND of ludzepin_marks, ludzepin_alias and ludzepin_values, name the asked or listed number, whatever it is: where that is 65,535, the
+ * refusal tells that it is a name, for both of these always name. */
 static inline uint32_t ludzepin_name(uint32_t answer) { return answer & 65535; }
 
 /* The entries: those given if it is no refusal, those needed if it is LUDZEPIN_SHORT. */
@@ -109,6 +117,12 @@ static inline uint32_t ludzepin_uses_entries(uint64_t answer) { return (uint32_t
 /* The names crossed and the last of them in an answer of ludzepin_alias that is no refusal. */
 static inline uint32_t ludzepin_alias_names(uint64_t answer) { return (uint32_t)answer >> 16; }
 static inline uint32_t ludzepin_alias_last(uint64_t answer) { return (uint32_t)answer & 65535; }
+
+/* Of an answer of ludzepin_values the refusal, 0 if it is none (ludzepin_uses_refusal would read one in LUDZEPIN_MANY); whether it is
+ * LUDZEPIN_MANY; and the number, if it is neither. A refusal's name is that of ludzepin_uses_name. */
+static inline uint32_t ludzepin_values_refusal(uint64_t answer) { return answer == LUDZEPIN_MANY ? 0 : (uint32_t)(answer >> 32); }
+static inline uint32_t ludzepin_values_many(uint64_t answer) { return answer == LUDZEPIN_MANY; }
+static inline uint32_t ludzepin_values_number(uint64_t answer) { return (uint32_t)answer; }
 
 #ifdef __cplusplus
 }

@@ -3,7 +3,7 @@ r"""Answers the questions on a book, by the papers alone:
 
     python3 tools/answers.py BOOK-OR-SOURCE.did [NAME METHOD PLACES [NAMES NODES DEFINITIONS]]
 
-This is a second reading of document 01, of the Rust functions that it names and of requests 1, 3, 4 and 14 of document 02, for the tests;
+This is a second reading of document 01, of the Rust functions that it names and of requests 1, 3, 4, 13 and 14 of document 02, for the tests;
 tools/layout.py reads the bytes. It prints, one line each, what the program answer_batch prints of the book after its name:
 
     layout OUTCOME          whether the layout is whole, with the counts of names, nodes, definitions and files
@@ -18,6 +18,7 @@ tools/layout.py reads the bytes. It prints, one line each, what the program answ
     init OUTCOME            the init list
     draft OUTCOME           the draft list
     empty OUTCOME           the names of definitions that have no value of finite height
+    values OUTCOME          each name is asked for the number of its values: those that have one, with it
     chains OUTCOME          the alias chain from each definition's body, in order, all files' definitions taken as one environment
     lookups OUTCOME         what stands at the chain's end from the body of each definition but the init file's, and from main's actor
     uses "NAME" OUTCOME     for each name of the table: its uses, METHOD.KIND.INDEX,
@@ -26,7 +27,9 @@ tools/layout.py reads the bytes. It prints, one line each, what the program answ
     twice "NAME" OUTCOME    and twice
     uses-outside OUTCOME    the uses of a number outside every table
     alias-outside OUTCOME   its alias chain,
-    alias-highest OUTCOME   that of the highest number
+    alias-highest OUTCOME   that of the highest number,
+    values-outside OUTCOME  how many values it has,
+    values-highest OUTCOME  and how many the highest number,
     project-outside OUTCOME the methods projected when it is asked for,
     project-highest OUTCOME when the highest number is,
     project-none OUTCOME    when nothing is asked for,
@@ -35,7 +38,8 @@ tools/layout.py reads the bytes. It prints, one line each, what the program answ
 
 OUTCOME is `passed` of a check, `whole` and the counts of a layout, `given`, the number of entries and these, or `refused`, the number
 and the name or `-`. A number that was asked with and is outside the book's table is named as it is, without quotes. An alias is given as the
-number of names and the last one. An entry of chains is ends.K, circle.K or unbound.K and the name without definition, one of lookups f.K (a
+number of names and the last one. An entry of values is a name and the number of its values, or `many`; a name without definition, which is refused
+with 3, has none. An entry of chains is ends.K, circle.K or unbound.K and the name without definition, one of lookups f.K (a
 function), s.K (a service) or -.K; K are the names crossed, of a chain that never ends as many as there are definitions. After the lookups comes
 actor.K, of what stands below main's class, where main has an actor; it is no entry. These two are of functions inside the crates, which C has
 not: chains is refused with 1, 24, 18 and 2, lookups with what the check is. Of a book with more
@@ -56,21 +60,26 @@ with limits under these.
 """
 
 import functools
+import math
 import sys
 from collections import namedtuple
 
+import graphs
 import layout
 import mkbook
 
 sys.setrecursionlimit(1 << 16)
 
-EMPTY = 16
+NULL, BOOL, NAT8, NAT16, INT8, INT16, RESERVED, EMPTY = 0, 1, 4, 5, 8, 9, 15, 16
 NAME, OPT, VEC, RECORD, VARIANT, FUNC, SERVICE, CLASS, ARGS = range(18, 27)
 MAIN, TYPE_IMPORT, SERVICE_IMPORT, INIT = range(4)
 ONEWAY = 1
 OF_CLASS = 65535  # stands for the method in a use by an argument of the actor's class
 OUTSIDE = 1024  # the first number outside every name table
 HIGHEST = 65535  # the last one
+MOST_VALUES = 4294967295  # what has more of them has many
+MANY = "many"
+OF_PRIMITIVE = {NULL: 1, BOOL: 2, NAT8: 256, NAT16: 65536, INT8: 256, INT16: 65536, RESERVED: 1}  # how many values; the others but empty have many
 MOST_USES = 4096  # entries in the list that answer_batch lends for uses; its other lists are long enough for all
 MOST_NAMES = 514  # a book that has more of them and lists none is asked about some alone:
 FIRST_AND_LAST = 8  # so many of the first and of the last
@@ -448,9 +457,9 @@ def project(book, asked):
     return taken
 
 
-def has_value(body, valued):
-    """Whether a type has a value of finite height where of the names just those in `valued` have one. Its nodes come from the last to the first, so
-    that what is inside a node comes before it."""
+def having_values(body, valued):
+    """Of each node of a type whether it has a value of finite height where of the names just those in `valued` have one. The nodes come from the
+    last to the first, so that what is inside a node comes before it."""
     has = {}
     for node in body:
         if node.kind == EMPTY:
@@ -464,20 +473,102 @@ def has_value(body, valued):
         else:
             found = True
         has[id(node)] = found
-    return found
+    return has
 
 
-def emptiness(book):
-    """Request 4: the names whose definition is empty. Each sweep over the definitions finds those that have a value by what the names found before
-    have, until one finds no more; then no value of finite height is of what is left."""
+def has_value(body, valued):
+    """Whether the type itself has one, which comes last."""
+    return having_values(body, valued)[id(body[-1])]
+
+
+@functools.cache
+def valued_names(book):
+    """The names whose definition has a value of finite height. Each sweep over the definitions finds those that have one by what the names found
+    before have, until one finds no more; then no value of finite height is of what is left."""
     env, _ = check(book)
     bodies = {name: nodes(tree)[::-1] for name, tree in env.items()}
     valued = set()
     while True:
         more = {name for name in env.keys() - valued if has_value(bodies[name], valued)}
         if not more:
-            return sorted(env.keys() - valued)
+            return valued
         valued |= more
+
+
+def emptiness(book):
+    """Request 4: the names whose definition is empty."""
+    env, _ = check(book)
+    return sorted(env.keys() - valued_names(book))
+
+
+def contributing(tree, has):
+    """A type and the parts whose values make values of it, each after what it is part of: parts of an opt, a record or a variant that have a value,
+    if what they are part of has one. From a part's values so many of the whole are made at least."""
+    found, left = [], [tree]
+    while left:
+        node = left.pop()
+        if has[id(node)]:
+            found.append(node)
+            left += node.kids if node.kind in (OPT, RECORD, VARIANT) else []
+    return found
+
+
+def number_of_values(tree, has, of_name):
+    """How many values a type that has one has, exactly, or MANY if something in it has no end: by the numbers of names, and from the last part to
+    the first. Parts without value are not among these."""
+    numbers = {}
+    for node in reversed(contributing(tree, has)):
+        parts = [numbers[id(kid)] for kid in node.kids if id(kid) in numbers]
+        if node.kind == NAME:
+            number = of_name[node.value]
+        elif node.kind == VEC:
+            number = MANY if has[id(node.kids[0])] else 1
+        elif node.kind not in (OPT, RECORD, VARIANT):
+            number = OF_PRIMITIVE.get(node.kind, MANY)
+        elif MANY in parts:
+            number = MANY
+        else:
+            number = math.prod(parts) if node.kind == RECORD else sum(parts) + (node.kind == OPT)
+        numbers[id(node)] = number
+    return numbers[id(tree)]
+
+
+@functools.cache
+def numbers_of_values(book):
+    """Request 13: how many values of finite height each definition has, MANY if they are more than MOST_VALUES or without end. Where the values of a
+    name make values of another and so on back to the name there is no end: each makes a higher one. The others come after those that make theirs.
+    A number is exact within a definition; of a name one that is too large is MANY at once, since all that it makes values of has as many."""
+    env, _ = check(book)
+    valued, found, has = valued_names(book), dict.fromkeys(env, 0), {}
+    for tree in env.values():
+        has |= having_values(nodes(tree)[::-1], valued)
+    making = {name: {node.value for node in contributing(env[name], has) if node.kind == NAME} for name in valued}
+    for names in graphs.components(making):
+        is_circle = len(names) > 1 or names[0] in making[names[0]]
+        for name in names:
+            number = MANY if is_circle else number_of_values(env[name], has, found)
+            found[name] = MANY if number == MANY or number > MOST_VALUES else number
+    return found
+
+
+def values(book, name):
+    """How many values a definition has, or MANY; 3."""
+    found = numbers_of_values(book)
+    if name not in found:
+        raise Refused(3, name)
+    return found[name]
+
+
+def all_values(book):
+    """What is given where each name of the table is asked about; of those without definition it is nothing."""
+    check(book)
+    found = []
+    for name in range(len(book.names)):
+        try:
+            found.append((name, values(book, name)))
+        except Refused:
+            pass
+    return found
 
 
 # What functions inside the crates answer
@@ -559,6 +650,14 @@ def length_and_last(lines, found):
     return f"given {count} {lines.name(last)}"
 
 
+def names_and_values(lines, entries):
+    return given([f"{lines.name(name)} {number}" for name, number in entries])
+
+
+def number_alone(lines, number):
+    return f"given {number}"
+
+
 def ends_of_chains(lines, entries):
     return given([f"{end}.{count}" + ("" if name is None else f" {lines.name(name)}") for end, count, name in entries])
 
@@ -586,6 +685,7 @@ QUESTIONS = tuple(Question(*row) for row in (
     ("init", OF_BOOK, "init", init_list, lambda lines, _: [], names, True),
     ("draft", OF_BOOK, "draft", draft_list, lambda lines, _: [], names, True),
     ("empty", OF_BOOK, "empty", emptiness, lambda lines, _: [], names, True),
+    ("values", OF_BOOK, "values", all_values, lambda lines, _: [], names_and_values, False),
     ("chains", OF_BOOK, "chains", chains, lambda lines, _: [], ends_of_chains, False),
     ("lookups", OF_BOOK, "lookups", lookups, lambda lines, _: [], found_by_lookups, False),
     ("uses", OF_NAME, "uses", uses, lambda lines, number: [number], entries_of_uses, True),
@@ -595,6 +695,8 @@ QUESTIONS = tuple(Question(*row) for row in (
     ("uses-outside", OF_WHOLE, "uses", uses, lambda lines, _: [OUTSIDE], entries_of_uses, False),
     ("alias-outside", OF_WHOLE, "alias", alias, lambda lines, _: [OUTSIDE], length_and_last, False),
     ("alias-highest", OF_WHOLE, "alias", alias, lambda lines, _: [HIGHEST], length_and_last, False),
+    ("values-outside", OF_WHOLE, "values", values, lambda lines, _: [OUTSIDE], number_alone, False),
+    ("values-highest", OF_WHOLE, "values", values, lambda lines, _: [HIGHEST], number_alone, False),
     ("project-outside", OF_WHOLE, "project", project, lambda lines, _: [[OUTSIDE]], numbers, False),
     ("project-highest", OF_WHOLE, "project", project, lambda lines, _: [[HIGHEST]], numbers, False),
     ("project-none", OF_WHOLE, "project", project, lambda lines, _: [[]], numbers, False),
@@ -602,7 +704,9 @@ QUESTIONS = tuple(Question(*row) for row in (
     ("project-every", OF_WHOLE, "project", project, lambda lines, _: [[*range(len(lines.book.names))][::-1]], numbers, False),
 ))
 ROWS = {row.word: row for row in QUESTIONS}
-LIMITED = [row for row in QUESTIONS if row.word not in ("layout", "name")]  # those that take limits
+UNLIMITED = ("layout", "name")
+LIMITED = [row for row in QUESTIONS if row.word not in UNLIMITED]  # those that take limits
+OF_ONE_NAME = ROWS["values-outside"]._replace(word="values", asked=ROWS["alias"].asked)  # as C asks; answer_batch asks about all names in one line
 INNER = ("chains", "lookups")  # those of functions inside the crates
 BROKEN = {row.word: 'given 2 "" ""' if row.word == "name" else "refused 1 -" for row in QUESTIONS if row.of == OF_BOOK}
 
@@ -637,7 +741,7 @@ class Lines:
 
     def answer(self, row, number):
         """What a question answers; 24 comes before all that its function refuses."""
-        if row in LIMITED:
+        if row.word not in UNLIMITED:
             within(self.book, self.limits)
         return row.function(self.book, *row.asked(self, number))
 
@@ -707,8 +811,8 @@ class Tally:
 
 def numbered(data, name, method, places, limits=FULL):
     """What c/questions.c prints of a book. How many uses are needed it knows up to MOST_USES alone."""
-    about = {"uses": name, "alias": name, "project": method}
-    rows = [row for row in LIMITED if row.word == row.counted and row.word not in INNER]
+    about = {"uses": name, "alias": name, "values": name, "project": method}
+    rows = [OF_ONE_NAME if row.word == "values" else row for row in LIMITED if row.word == row.counted and row.word not in INNER]
     try:
         lines = Lines(Book(data), limits)
     except Refused:
@@ -718,8 +822,8 @@ def numbered(data, name, method, places, limits=FULL):
         lines.answers[row.word] = None
         try:
             answer = lines.answers[row.word] = lines.answer(row, about.get(row.word))
-            if row.said is passed:
-                outcome = passed(lines, answer)
+            if row.said in (passed, number_alone):
+                outcome = row.said(lines, answer)
             elif row.said is length_and_last:
                 outcome = f"given {answer[0]} {answer[1]}"
             else:
@@ -747,6 +851,18 @@ def listing(data):
     lines += [f"{place} {'r' if name in marked else '-'} {layout.quoted(book.names[name])}"
               for place, name in enumerate(listed, 1)]
     return "\n".join(lines) + "\n"
+
+
+def valuing(data):
+    """What the program `values` prints of a book, under the full limits."""
+    try:
+        book = Book(data)
+    except Refused as refused:
+        return refusal(refused, []) + "\n"
+    try:
+        return "".join(f"{layout.quoted(book.names[name])} {number}\n" for name, number in all_values(book))
+    except Refused as refused:
+        return refusal(refused, book.names) + "\n"
 
 
 def main():

@@ -24,6 +24,7 @@ A stated outcome of a question is
     // QUESTION: whole N N N N   of layout: names, nodes, definitions, files
     // QUESTION: needs N         of a question with too short a list
     // alias TEXT: N TEXT        the names crossed and the last of them
+    // values: TEXT N ..         each name with the number of its values, or `many`
 Each three limits are a record of its own, whose name is NAME@NAMES-NODES-DEFINITIONS; stated is
     // NAMES NODES DEFINITIONS: within    every line is as under document 01's figures
     // NAMES NODES DEFINITIONS: over      all but layout and name are refused with 24
@@ -135,11 +136,12 @@ def entries(text):
 
 
 def given(word, listed):
-    """Stated entries after `given` and their number, but for what is no entry of its own: the name of an unbound chain, and the actor's lookup.
-    An alias chain is one entry that begins with its number."""
+    """Stated entries after `given` and their number, but for what is no entry of its own: the name of an unbound chain, the actor's lookup, and the
+    name before a number of values. An alias chain is one entry that begins with its number."""
     if word == "alias":
         return " ".join(["given", *listed])
-    count = sum(not entry.startswith(("actor", '"')) for entry in listed) if word in answers.INNER else len(listed)
+    has_more = word in (*answers.INNER, "values")
+    count = sum(not entry.startswith(("actor", '"')) for entry in listed) if has_more else len(listed)
     return " ".join([f"given {count}", *listed])
 
 

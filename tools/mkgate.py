@@ -3,6 +3,7 @@
 
     crates/answer_batch/stdin, stdout     the stored list (docs/TESTING.md), with the outcome of every question and the tally
     crates/list/stdin, stdout             P1 and its list
+    crates/values/stdin, stdout           a book with odd names, and how many values its definitions have
 
 Books come from the sources by tools/mkbook.py. What the programs must write comes from the sources' first lines and
 from tools/layout.py and tools/answers.py, which read the bytes by the papers alone, and never from the programs;
@@ -51,14 +52,19 @@ def answer_batch():
 
 def files():
     """Each file with its contents."""
-    with open(os.path.join(SOURCES, "p01.did"), encoding="utf-8") as file:
-        p1 = mkbook.book(file.read())
+    def book(folder, name):
+        with open(os.path.join(folder, name), encoding="utf-8") as file:
+            return bytes(mkbook.book(file.read()))
+
+    p1, names = book(SOURCES, "p01.did"), book(LIST_SOURCES, "values-names.did")
     records, lines = answer_batch()
     return {
         "crates/answer_batch/stdin": records,
         "crates/answer_batch/stdout": lines.encode(),
-        "crates/list/stdin": bytes(p1),
+        "crates/list/stdin": p1,
         "crates/list/stdout": answers.listing(p1).encode(),
+        "crates/values/stdin": names,
+        "crates/values/stdout": answers.valuing(names).encode(),
     }
 
 

@@ -74,6 +74,8 @@ def whose(question, theirs):
         return "the oracle's own, 3 for a number outside"
     if word in ("alias", *answers.INNER) and outcome.startswith("given"):
         return "the oracle's own, the names crossed"
+    if word == "values" and outcome.startswith("given"):
+        return "the oracle's own, how many values"
     return "the Rust's"
 
 

@@ -1,10 +1,10 @@
 #!/usr/bin/env python3
-r"""Tests the built program `list`:  python3 tools/test_programs.py
+r"""Tests the built programs `list` and `values`:  python3 tools/test_programs.py
 
-`tools/build.sh list` builds it, and the gate runs it on P1; here it reads every book of tests, books at the limits, bytes that are none, and files that cannot
-be read or written.
-What it must write comes from tools/answers.py, which reads the bytes by the paper alone, and in part from the paper by hand.
-Without the program all tests are skipped.
+`tools/build.sh list values` builds them, and the gate runs each on a book; here they read every book of tests, books at the limits, bytes that
+are none, and files that cannot be read or written.
+What they must write comes from tools/answers.py, which reads the bytes by the paper alone, and in part from the paper by hand.
+Without a program its tests are skipped.
 """
 
 import os
@@ -22,9 +22,7 @@ import mkbatch
 import mkbook
 from mkgate import CHECK_SOURCES, LIMITS_SOURCES, LIST_SOURCES, ROOT, SOURCES
 
-PROGRAM = os.path.join(ROOT, "target", "bin", "list")
 MOST = 65536  # bytes of a book
-NOT_BUILT = None if os.path.exists(PROGRAM) else "target/bin/list is not built, nothing is tested: `tools/build.sh list` builds it"
 BROKEN = "refused 1 -\n"
 
 
@@ -33,19 +31,127 @@ def book_of(*path):
         return bytes(mkbook.book(file.read()))
 
 
-@unittest.skipIf(NOT_BUILT, NOT_BUILT)
-class List(unittest.TestCase):
+def path_of(name):
+    return os.path.join(ROOT, "target", "bin", name)
+
+
+def if_built(name):
+    """Skips the tests of a program that is not there."""
+    return unittest.skipUnless(os.path.exists(path_of(name)), f"target/bin/{name} is not built: `tools/build.sh {name}` builds it")
+
+
+class Program:
+    """What is asked of each program: `name`, and `right`, what it must write of the bytes of a book."""
 
     def writes(self, data, expected, what=None):
-        found = subprocess.run([PROGRAM], input=data, capture_output=True, env={})
+        found = subprocess.run([path_of(self.name)], input=data, capture_output=True, env={})
         self.assertEqual((found.stdout.decode(), found.stderr, found.returncode), (expected, b"", 0), what)
+
+    def test_nothing(self):
+        self.writes(b"", BROKEN)
+
+    def test_every_book(self):
+        """The books of tests; each refusal of the check is among them. Under the full figures no book is over its limits, so 24 is not."""
+        numbers, answered = set(), 0
+        for folder in (SOURCES, CHECK_SOURCES, LIST_SOURCES, LIMITS_SOURCES):
+            for name, text in mkbatch.sources(folder):
+                book = bytes(mkbook.book(text))
+                right = self.right(book)
+                self.writes(book, right, f"{folder}/{name}")
+                answered += not right.startswith("refused")
+                numbers |= {int(right.split()[1])} if right.startswith("refused") else set()
+        self.assertEqual(numbers, {*range(1, 11), 12, 13, 14, 18, *self.more_refusals})
+        self.assertGreater(answered, 150)
+
+    def test_damaged(self):
+        """P1 with each byte changed in turn, and cut at each place."""
+        book, chance = book_of("tests", "list", "p01.did"), random.Random(1)
+        for place in range(len(book)):
+            damaged = bytearray(book)
+            damaged[place] ^= chance.randrange(1, 256)
+            self.writes(bytes(damaged), self.right(bytes(damaged)), place)
+            self.writes(book[:place], BROKEN, place)
+
+    def test_in_pieces(self):
+        """Input that comes in pieces is read to its end."""
+        book = book_of("tests", "list", "p01.did")
+        with subprocess.Popen([path_of(self.name)], stdin=subprocess.PIPE, stdout=subprocess.PIPE, env={}) as run:
+            for at in range(0, len(book), 50):
+                run.stdin.write(book[at:at + 50])
+                run.stdin.flush()
+                time.sleep(0.01)
+            run.stdin.close()
+            self.assertEqual(run.stdout.read().decode(), self.right(book))
+
+
+    # ---- files, and what fails
+
+    def runs(self, arguments, output, errors, **streams):
+        """What is written to standard output and to standard error; the C library's texts are in English here."""
+        streams = {"stdin": subprocess.DEVNULL, "stdout": subprocess.PIPE, **streams}
+        found = subprocess.run([path_of(self.name), *arguments], env={}, stderr=subprocess.PIPE, **streams)
+        self.assertEqual((found.stdout, found.stderr.decode(), found.returncode), (output, errors, 0), arguments)
+
+    def test_file(self):
+        """A file that is named is read, whatever stands on standard input."""
+        book = book_of("tests", "list", "p01.did")
+        with tempfile.TemporaryDirectory() as folder:
+            path = os.path.join(folder, "book")
+            for data in (book, b"", book + b"\0", book_of("bench", "full.did")):
+                with open(path, "wb") as file:
+                    file.write(data)
+                self.runs([path], self.right(data).encode(), "")
+            # A name may have 4,095 bytes; what does not fit the program's buffer is not shown.
+            long = folder + "/" * (4095 - len(folder) - len("book")) + "book"
+            with open(path, "wb") as file:
+                file.write(book)
+            self.runs([long], self.right(book).encode(), "")
+            self.runs(["/" + long], b"", f"{self.name}: /{long}: File name too long\n")
+            self.runs(["//" + long], b"", f"{self.name}: the file's name: File name too long\n")
+
+    def test_failed_read(self):
+        """A failure is told with its reason, nothing is printed, and none is taken for an empty book."""
+        with tempfile.TemporaryDirectory() as folder:
+            missing = os.path.join(folder, "missing")
+            self.runs([missing], b"", f"{self.name}: {missing}: No such file or directory\n")
+            self.runs([folder], b"", f"{self.name}: {folder}: Is a directory\n")
+            self.runs([os.path.join(folder, "")[:-1] + "/x/y"], b"", f"{self.name}: {folder}/x/y: No such file or directory\n")
+            with open(missing, "wb") as write_only:
+                self.runs([], b"", f"{self.name}: standard input: Bad file descriptor\n", stdin=write_only)
+            descriptor = os.open(folder, os.O_RDONLY)
+            self.runs([], b"", f"{self.name}: standard input: Is a directory\n", stdin=descriptor)
+            os.close(descriptor)
+        self.runs([""], b"", f"{self.name}: : No such file or directory\n")
+        found = subprocess.run([path_of(self.name), b"\xff"], env={}, capture_output=True)
+        self.assertEqual((found.stdout, found.stderr, found.returncode), (b"", self.name.encode() + b": \xff: Not UTF-8\n", 0))
+        for arguments in (["a", "b"], ["", "", ""]):
+            self.runs(arguments, b"", f"usage: {self.name} [FILE]\n")
+
+    def test_read_that_fails_later(self):
+        """A failure after the first bytes of a book, even of a whole one, is no end of the input."""
+        book = book_of("tests", "list", "p01.did")
+        for size in (len(book), 40):
+            ours, theirs = socket.socketpair()
+            with ours, theirs:
+                ours.sendall(book[:size])
+                theirs.setsockopt(socket.SOL_SOCKET, socket.SO_RCVTIMEO, struct.pack("ll", 0, 100_000))
+                self.runs([], b"", f"{self.name}: standard input: Resource temporarily unavailable\n", stdin=theirs)
+
+    def test_failed_write(self):
+        book = os.path.join(ROOT, "crates", self.name, "stdin")
+        with open("/dev/full", "wb") as full:
+            self.runs([book], None, f"{self.name}: standard output: No space left on device\n", stdout=full)
+        with open(os.devnull, "rb") as read_only:
+            self.runs([book], None, f"{self.name}: standard output: Bad file descriptor\n", stdout=read_only)
+
+
+@if_built("list")
+class List(Program, unittest.TestCase):
+    name, right, more_refusals = "list", staticmethod(answers.listing), {17}
 
     def test_p1(self):
         """Document 01's own output."""
         self.writes(book_of("tests", "list", "p01.did"), 'list 2 marked 1\n1 - "pair"\n2 r "tree"\n')
-
-    def test_nothing(self):
-        self.writes(b"", BROKEN)
 
     def test_largest(self):
         """As long as a book may be, with every definition listed, and longer."""
@@ -89,102 +195,57 @@ class List(unittest.TestCase):
         self.assertGreater(len(right), 160_000)
         self.writes(book, right)
 
-    def test_every_book(self):
-        """The books of tests; each refusal of the check is among them, and each kind of list. Under the full figures no book is over its
-        limits, so 24 is not."""
-        numbers, listed = set(), 0
-        for folder in (SOURCES, CHECK_SOURCES, LIST_SOURCES, LIMITS_SOURCES):
-            for name, text in mkbatch.sources(folder):
-                book = bytes(mkbook.book(text))
-                right = answers.listing(book)
-                self.writes(book, right, f"{folder}/{name}")
-                listed += right.startswith("list")
-                numbers |= {int(right.split()[1])} if right.startswith("refused") else set()
-        self.assertEqual(numbers, {*range(1, 11), 12, 13, 14, 17, 18})
-        self.assertGreater(listed, 150)
 
-    def test_damaged(self):
-        """P1 with each byte changed in turn, and cut at each place."""
-        book, chance = book_of("tests", "list", "p01.did"), random.Random(1)
-        for place in range(len(book)):
-            damaged = bytearray(book)
-            damaged[place] ^= chance.randrange(1, 256)
-            self.writes(bytes(damaged), answers.listing(bytes(damaged)), place)
-            self.writes(book[:place], BROKEN, place)
+@if_built("values")
+class Values(Program, unittest.TestCase):
+    """Request 13 of document 02: a line for each definition, ascending by name."""
 
-    def test_in_pieces(self):
-        """Input that comes in pieces is read to its end."""
-        book = book_of("tests", "list", "p01.did")
-        with subprocess.Popen([PROGRAM], stdin=subprocess.PIPE, stdout=subprocess.PIPE, env={}) as run:
-            for at in range(0, len(book), 50):
-                run.stdin.write(book[at:at + 50])
-                run.stdin.flush()
-                time.sleep(0.01)
-            run.stdin.close()
-            self.assertEqual(run.stdout.read().decode(), answers.listing(book))
+    name, right, more_refusals = "values", staticmethod(answers.valuing), set()
 
+    def test_by_hand(self):
+        for source, right in {
+            "": "", "service : { m : () -> () }": "", "type a = bool;": '"a" 2\n', "type a = opt a;": '"a" many\n',
+            "type a = record { text; empty };": '"a" 0\n',
+            "type b = a; type a = variant { x; y : nat8 }; type c = vec b;": '"a" 257\n"b" 257\n"c" many\n',
+            'file "m" main type b = nat16; file "i" type type a = b; service : a file "j" init type c = bool; args (c)': '"a" 65536\n"b" 65536\n',
+        }.items():
+            self.writes(mkbook.book(source), right, source)
+        self.writes(book_of("tests", "list", "values-most-opt.did"), '"a" 4294967294\n"b" 4294967295\n"c" many\n"d" many\n"e" 65535\n'
+                    '"f" 4294901760\n"g" 65534\n"h" 4294967295\n"i" 0\n')
 
-    # ---- files, and what fails
+    def test_refusals(self):
+        for folder, name, refusal in (
+            ("check", "p03", '7 "a"'), ("check", "p06", '2 "b"'), ("check", "row-04-definition", "4 -"), ("check", "p09-import", '14 "\\00a"'),
+            ("list", "broken", "1 -"), ("check", "row-18-record", '18 "x"'), ("list", "values-check-first", "10 -"),
+            ("list", "values-check-names", '3 ""'),
+        ):
+            self.writes(book_of("tests", folder, name + ".did"), f"refused {refusal}\n", name)
 
-    def runs(self, arguments, output, errors, **streams):
-        """What is written to standard output and to standard error; the C library's texts are in English here."""
-        found = subprocess.run([PROGRAM, *arguments], env={}, **{"stdin": subprocess.DEVNULL, "stdout": subprocess.PIPE, **streams}, stderr=subprocess.PIPE)
-        self.assertEqual((found.stdout, found.stderr.decode(), found.returncode), (output, errors, 0), arguments)
+    def test_odd_names(self):
+        """Bytes outside 0x20 to 0x7E, the quote and the backslash are a backslash and two digits."""
+        source = r'''type "\00\1f\20!\"#[\\]}~\7f\80\ff" = null; type "" = bool;'''
+        self.writes(mkbook.book(source), '"" 2\n"\\00\\1f !\\22#[\\5c]}~\\7f\\80\\ff" 1\n')
 
-    def test_file(self):
-        """A file that is named is read, whatever stands on standard input."""
-        book = book_of("tests", "list", "p01.did")
-        with tempfile.TemporaryDirectory() as folder:
-            path = os.path.join(folder, "book")
-            for data in (book, b"", book + b"\0", book_of("bench", "full.did")):
-                with open(path, "wb") as file:
-                    file.write(data)
-                self.runs([path], answers.listing(data).encode(), "")
-            # A name may have 4,095 bytes; what does not fit the program's buffer is not shown.
-            long = folder + "/" * (4095 - len(folder) - len("book")) + "book"
-            with open(path, "wb") as file:
-                file.write(book)
-            self.runs([long], answers.listing(book).encode(), "")
-            self.runs(["/" + long], b"", f"list: /{long}: File name too long\n")
-            self.runs(["//" + long], b"", "list: the file's name: File name too long\n")
+    def test_largest(self):
+        """As long as a book may be, with as many definitions, and longer."""
+        book = book_of("bench", "full.did")
+        self.assertEqual(len(book), MOST)
+        self.assertEqual(self.right(book).count("\n"), 512)
+        self.writes(book, self.right(book))
+        self.writes(book + b"\0", BROKEN)
+        self.writes(book[:-1], BROKEN)
+        right = "".join(f'"{number:03}" 65536\n' for number in range(512))
+        self.writes(mkbook.book('repeat 511 { type "###" = "511"; } type "511" = nat16;'), right)
 
-    def test_failed_read(self):
-        """A failure is told with its reason, nothing is printed, and none is taken for an empty book."""
-        with tempfile.TemporaryDirectory() as folder:
-            missing = os.path.join(folder, "missing")
-            self.runs([missing], b"", f"list: {missing}: No such file or directory\n")
-            self.runs([folder], b"", f"list: {folder}: Is a directory\n")
-            self.runs([os.path.join(folder, "")[:-1] + "/x/y"], b"", f"list: {folder}/x/y: No such file or directory\n")
-            with open(missing, "wb") as write_only:
-                self.runs([], b"", "list: standard input: Bad file descriptor\n", stdin=write_only)
-            descriptor = os.open(folder, os.O_RDONLY)
-            self.runs([], b"", "list: standard input: Is a directory\n", stdin=descriptor)
-            os.close(descriptor)
-        self.runs([""], b"", "list: : No such file or directory\n")
-        found = subprocess.run([PROGRAM, b"\xff"], env={}, capture_output=True)
-        self.assertEqual((found.stdout, found.stderr, found.returncode), (b"", b"list: \xff: Not UTF-8\n", 0))
-        for arguments in (["a", "b"], ["", "", ""]):
-            self.runs(arguments, b"", "usage: list [FILE]\n")
-
-    def test_read_that_fails_later(self):
-        """A failure after the first bytes of a book, even of a whole one, is no end of the input."""
-        book = book_of("tests", "list", "p01.did")
-        for size in (len(book), 40):
-            ours, theirs = socket.socketpair()
-            with ours, theirs:
-                ours.sendall(book[:size])
-                theirs.setsockopt(socket.SOL_SOCKET, socket.SO_RCVTIMEO, struct.pack("ll", 0, 100_000))
-                self.runs([], b"", "list: standard input: Resource temporarily unavailable\n", stdin=theirs)
-
-    def test_failed_write(self):
-        book = os.path.join(ROOT, "crates", "list", "stdin")
-        with open("/dev/full", "wb") as full:
-            self.runs([book], None, "list: standard output: No space left on device\n", stdout=full)
-        with open(os.devnull, "rb") as read_only:
-            self.runs([book], None, "list: standard output: Bad file descriptor\n", stdout=read_only)
+    def test_longest_output(self):
+        """Long names, three characters for each byte, with the longest numbers: a book has 65,536 bytes."""
+        largest = "record { variant { x; y; z }; opt opt opt bool; opt record { bool; bool; bool; bool }; opt nat8; opt nat16 }"  # 4,294,967,295
+        book = bytes(mkbook.book(rf'''repeat 232 {{ type "\00" * 252 + "###" = n; }} type n = {largest};'''))
+        right = self.right(book)
+        self.assertEqual(right.count(" 4294967295\n"), 233)
+        self.assertGreater(len(right), 178_000)
+        self.writes(book, right)
 
 
 if __name__ == "__main__":
-    if NOT_BUILT:
-        print(NOT_BUILT)
     unittest.main()

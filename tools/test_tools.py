@@ -332,22 +332,24 @@ class Answers(unittest.TestCase):
         """By hand, what c/build.sh tries. Names: "" fork leaf pair put spare tree; a b c d init m main; "" r s t; "" a b c d m; "" f m000 m001 ..;
         "" a m; "" a b; "" n0000 .. \\ff; a000 .. a510 head m; a b c d init main."""
         p1 = {"check": "passed", "init-check": "passed", "list": "given 2 3 6", "marks": "given 1 6", "init": "given 0",
-              "draft": "given 2 3 6", "empty": "given 0", "uses": "given 1 0.0.0", "alias": "given 1 6", "project": "given 1 0"}
+              "draft": "given 2 3 6", "empty": "given 0", "values": "given many", "uses": "given 1 0.0.0", "alias": "given 1 6",
+              "project": "given 1 0"}
         short, circle = "refused 16 needs", "refused 7 1"
         books = LIST_BOOKS | {"uses-most": MOST_USES}
         for (name, *asked), right in {
             ("p01", 6, 4, 4096): p1,
             ("p01", 5, 6, 4096): p1 | {"uses": "given 0", "alias": "given 1 5", "project": "refused 15 6"},
-            ("p01", 1024, 1024, 4096): p1 | {"uses": "given 0", "alias": "refused 3 1024", "project": "refused 15 1024"},
-            ("p01", 65535, 65535, 4096): p1 | {"uses": "given 0", "alias": "refused 3 65535", "project": "refused 15 65535"},
+            ("p01", 1024, 1024, 4096): p1 | {"uses": "given 0", "alias": "refused 3 1024", "values": "refused 3 1024", "project": "refused 15 1024"},
+            ("p01", 65535, 65535, 4096): p1 | {"uses": "given 0", "alias": "refused 3 65535", "values": "refused 3 65535",
+                                               "project": "refused 15 65535"},
             ("p01", 6, 4, 3): p1,
             ("p01", 6, 4, 2): p1 | {"uses": f"{short} 1"},
             ("p01", 6, 4, 0): p1 | {"list": f"{short} 2", "draft": f"{short} 2",
                                     "marks": f"{short} 1", "uses": f"{short} 1", "project": f"{short} 1"},
             ("init-own", 0, 5, 4096): {"init": "given 3 3 2 1", "draft": "given 1 0", "marks": "given 0", "empty": "given 0",
-                                       "uses": "given 1 0.0.0", "alias": "given 1 0", "project": "given 1 0"},
+                                       "values": "given many", "uses": "given 1 0.0.0", "alias": "given 1 0", "project": "given 1 0"},
             ("p11-empty", 1, 1, 4096): {"init": "given 0", "draft": "refused 17 -", "marks": "given 0", "empty": "given 3 1 2 3",
-                                        "uses": "refused 17 -", "alias": "given 1 1", "project": "refused 17 -"},
+                                        "values": "given 0", "uses": "refused 17 -", "alias": "given 1 1", "project": "refused 17 -"},
             ("class-arguments", 2, 5, 4096): {"init": "given 0", "draft": "given 4 4 2 3 1", "marks": "given 0", "empty": "given 0",
                                               "uses": "given 1 65535.0.1", "project": "given 1 0"},
             ("uses-most", 1, 3, 4096): {"init": "given 0", "draft": "given 1 1", "marks": "given 1 1", "empty": "given 0",
@@ -363,6 +365,27 @@ class Answers(unittest.TestCase):
             ("large-chain", 512, 512, 4096): {"alias": "refused 3 512"},
             ("alias-init", 0, 0, 0): {"alias": "given 2 1"},
             ("alias-init", 2, 0, 0): {"alias": "refused 3 2"},
+            ("values-opts", 1, 1, 0): {"values": "given 34", "alias": "given 1 1", "uses": "refused 17 -", "empty": "given 0"},
+            ("values-fixed", 1, 1, 0): {"values": "given 1"},
+            ("values-fixed", 4, 1, 0): {"values": "given 65536"},
+            ("values-fixed", 8, 1, 0): {"values": "given 0", "empty": f"{short} 1"},
+            ("values-endless", 10, 1, 0): {"values": "given many"},
+            ("values-most-product", 3, 1, 4096): {"values": "given 4294967295"},
+            ("values-most-product", 6, 1, 4096): {"values": "given many"},
+            ("values-most-opt", 1, 1, 4096): {"values": "given 4294967294"},
+            ("values-most-opt", 2, 1, 4096): {"values": "given 4294967295"},
+            ("values-most-opt", 3, 1, 4096): {"values": "given many"},
+            ("values-no-circle", 1, 1, 4096): {"values": "given 1"},
+            ("values-no-circle", 3, 1, 4096): {"values": "given 0", "empty": "given 2 3 6"},
+            ("values-names", 0, 1, 4096): {"values": "given 2", "alias": "given 4 4"},
+            ("values-unbound", 5, 4, 4096): {"values": "refused 3 5", "project": "given 1 0"},
+            ("values-unbound", 1024, 4, 4096): {"values": "refused 3 1024"},
+            ("values-unbound", 65535, 4, 4096): {"values": "refused 3 65535"},
+            ("values-init", 1, 1, 4096): {"values": "refused 3 1", "init": "given 2 0 1"},
+            ("values-check-first", 65535, 1, 4096): {"values": "refused 10 -"},
+            ("values-check-names", 65535, 1, 4096): {"values": "refused 3 0"},
+            ("values-repeat", 65535, 1, 4096): {"values": "refused 18 2"},
+            ("large-values-chain", 512, 0, 0): {"values": "given 513", "alias": "given 1 512"},
             ("repeat-every-question", 6, 4, 4096): dict.fromkeys(p1, "refused 18 7"),
             ("repeat-none", 65535, 65535, 0): dict.fromkeys(p1, "refused 18 -"),
             ("p03", 2, 1, 4096): dict.fromkeys(p1, circle) | {"draft": "refused 17 -"},
@@ -373,7 +396,7 @@ class Answers(unittest.TestCase):
 
     def test_numbered_limits(self):
         """P1 has 7 names, 10 nodes and 3 definitions. A limit too small is told before a name outside the table and a list too short."""
-        words = "check init-check list marks init draft empty uses alias project".split()
+        words = "check init-check list marks init draft empty values uses alias project".split()
         for asked in ((6, 4, 4096), (65535, 65535, 4096), (6, 4, 0)):
             full = answers.numbered(LIST_BOOKS["p01"], *asked)
             for limits in ((7, 10, 3), (7, 4096, 512), (1024, 10, 512), (1024, 4096, 3), (1025, 4097, 513), (2**32 - 1,) * 3):
@@ -413,6 +436,30 @@ def reached(refers, start):
             found.add(name)
             left += refers[name]
     return found
+
+
+def checked(books):
+    """Those that pass."""
+    for data in books:
+        book = None if layout.faults(data) else answers.Book(data)
+        if book and not isinstance(asked(answers.check, book)[0], int):
+            yield book
+
+
+def random_books(count, leaves, kinds, most=5, deepest=3):
+    """Books of up to so many definitions, of such leaves and kinds."""
+    random = Random(4)
+
+    def tree(depth):
+        kind = random.choice(kinds) if depth and random.random() < 0.6 else random.choice(leaves)
+        if kind not in ("opt", "vec", "record", "variant"):
+            return random.choice("abcde"[:names]) if kind == "name" else kind
+        inner = [tree(depth - 1) for _ in range(1 if kind in ("opt", "vec") else random.choice((0, 1, 1, 2, 2, 3)))]
+        return f"{kind} {inner[0]}" if kind in ("opt", "vec") else f"{kind} {{ {'; '.join(f'{place} : {kid}' for place, kid in enumerate(inner))} }}"
+
+    for _ in range(count):
+        names = random.randint(1, most)
+        yield mkbook.book(" ".join(f"type {name} = {tree(deepest)};" for name in "abcde"[:names]))
 
 
 class Emptiness(unittest.TestCase):
@@ -523,25 +570,8 @@ class Emptiness(unittest.TestCase):
 
     def of_checked(self, books):
         """What the check makes of those that pass, with the names that are empty."""
-        for data in books:
-            book = None if layout.faults(data) else answers.Book(data)
-            if book and not isinstance(asked(answers.check, book)[0], int):
-                yield answers.check(book)[0], answers.emptiness(book)
-
-    def random_books(self, count, leaves, kinds):
-        """Books of up to five definitions, of such leaves and kinds."""
-        random = Random(4)
-
-        def tree(depth):
-            kind = random.choice(kinds) if depth and random.random() < 0.6 else random.choice(leaves)
-            if kind not in ("opt", "record", "variant"):
-                return random.choice("abcde"[:names]) if kind == "name" else kind
-            inner = [tree(depth - 1) for _ in range(1 if kind == "opt" else random.choice((0, 1, 1, 2, 2, 3)))]
-            return f"opt {inner[0]}" if kind == "opt" else f"{kind} {{ {'; '.join(f'{place} : {kid}' for place, kid in enumerate(inner))} }}"
-
-        for _ in range(count):
-            names = random.randint(1, 5)
-            yield mkbook.book(" ".join(f"type {name} = {tree(3)};" for name in "abcde"[:names]))
+        for book in checked(books):
+            yield answers.check(book)[0], answers.emptiness(book)
 
     def test_by_search(self):
         """A least value crosses no name twice on one way down, so it is found by going down without coming back to a name."""
@@ -556,7 +586,7 @@ class Emptiness(unittest.TestCase):
 
         stored = [book for name, book in LIST_BOOKS.items() if not name.startswith("large-")]
         tried = some = 0
-        made = self.random_books(3000, ("name", "name", "name", "empty", "nat"), ("opt", *("record", "variant") * 3))
+        made = random_books(3000, ("name", "name", "name", "empty", "nat"), ("opt", *("record", "variant") * 3))
         for env, empties in self.of_checked([*stored, *made]):
             self.assertEqual(empties, [name for name in sorted(env) if not found(env, answers.Tree(answers.NAME, 0, 0, name, []))])
             tried, some = tried + 1, some + bool(empties and len(empties) < len(env))
@@ -567,8 +597,8 @@ class Emptiness(unittest.TestCase):
         """By `is_empty` of type_env.rs, arm by arm: the same names where each definition is a name, has a value whatever names have, or is a record
         of such fields, as in all books without variant and empty whose record fields are names or primitives; elsewhere its names are among ours."""
         tried = collections.Counter()
-        books = [*CHECK_BOOKS.values(), *LIST_BOOKS.values(), *self.random_books(2000, ("name", "name", "nat"), ("opt", *("record",) * 4)),
-                 *self.random_books(1000, ("name", "name", "empty", "nat"), ("opt", "record", "variant"))]
+        books = [*CHECK_BOOKS.values(), *LIST_BOOKS.values(), *random_books(2000, ("name", "name", "nat"), ("opt", *("record",) * 4)),
+                 *random_books(1000, ("name", "name", "empty", "nat"), ("opt", "record", "variant"))]
         for env, empties in self.of_checked(books):
             judged = {}
 
@@ -599,6 +629,272 @@ class Emptiness(unittest.TestCase):
         self.assertGreater(min(tried.values()), 150, tried)
 
 
+class Values(unittest.TestCase):
+    """Request 13 of document 02: how many values of finite height a definition has."""
+
+    MOST = 4294967295
+    FACTORS = ("variant { x; y; z }", "opt opt opt bool", "opt record { bool; bool; bool; bool }", "opt nat8")  # 3, 5, 17 and 257: 65,535 together
+
+    def values(self, source):
+        book = answers.Book(mkbook.book(source))
+        return " ".join(f"{book.names[name].decode()}:{number}" for name, number in answers.all_values(book))
+
+    def test_by_hand(self):
+        """Each rule alone and at its edges."""
+        for source, right in {
+            # leaves, functions and services
+            " ".join(f"type {leaf}_ = {leaf};" for leaf in layout.LEAVES):
+                "bool_:2 empty_:0 float32_:many float64_:many int16_:65536 int32_:many int64_:many int8_:256 int_:many nat16_:65536 nat32_:many "
+                "nat64_:many nat8_:256 nat_:many null_:1 principal_:many reserved_:1 text_:many",
+            "type f = func () -> (); type g = func (empty) -> (empty); type s = service {}; type t = service { m : g };":
+                "f:many g:many s:many t:many",
+            # opt one more than its content
+            "type a = opt null; type b = opt bool; type c = opt empty; type d = opt nat16; type e = opt text;": "a:2 b:3 c:1 d:65537 e:many",
+            "type a = opt opt opt empty; type b = opt opt record { bool; bool };": "a:3 b:6", "type a = nest 32 { opt | } { bool };": "a:34",
+            "type a = opt variant {}; type b = opt record { text; empty };": "a:1 b:1",
+            # records multiply
+            "type a = record {}; type b = record { null }; type c = record { bool }; type d = record { bool; bool; bool };": "a:1 b:1 c:2 d:8",
+            "type a = record { nat8; nat16; reserved };": "a:16777216", "type a = record { opt bool; variant { x; y; z } };": "a:9",
+            "type a = record { record {}; record { record { bool } } };": "a:2", "type a = record { null; null; bool };": "a:2",
+            "type a = record { text; empty }; type b = record { empty; text }; type c = record { bool; empty; nat };": "a:0 b:0 c:0",
+            "type a = record { text; null }; type b = record { null; bool; vec nat };": "a:many b:many",
+            "type a = record { e; a }; type b = record { opt b; e }; type e = variant {};": "a:0 b:0 e:0",
+            # variants add
+            "type a = variant {}; type b = variant { x }; type c = variant { x; y; z };": "a:0 b:1 c:3",
+            "type a = variant { x : bool; y : nat8; z : null; w : empty };": "a:259", "type a = variant { x : empty };": "a:0",
+            "type a = variant { x : variant { x; y }; y : variant { x; y } };": "a:4", "type a = variant { x : text; y };": "a:many",
+            "type a = variant { x : record { text; empty }; y };": "a:1", "type a = variant { x : bool; y : bool };": "a:4",
+            # a vec of a valueless type 1, of any other many
+            "type a = vec empty; type b = vec null; type c = vec record { empty }; type d = vec record {}; type e = blob;":
+                "a:1 b:many c:1 d:many e:many",
+            "type a = vec e; type b = vec vec e; type c = opt vec e; type e = variant { x : e };": "a:1 b:many c:2 e:0",
+            "type a = vec a; type b = vec record { b }; type c = record { vec c }; type d = opt vec reserved;": "a:many b:many c:many d:many",
+            # a name as its definition
+            "type a = b; type b = c; type c = bool;": "a:2 b:2 c:2", "type a = record { b; b }; type b = variant { x; y; z };": "a:9 b:3",
+            "type a = b; type b = empty; type c = d; type d = text;": "a:0 b:0 c:many d:many",
+            # circles make many
+            "type a = opt a; type b = variant { x : b; y };": "a:many b:many", "type a = variant { y; x : a };": "a:many",
+            "type a = record { opt a };": "a:many", "type a = record { b }; type b = opt a;": "a:many b:many",
+            "type a = opt b; type b = record { c; bool }; type c = variant { x : a; y };": "a:many b:many c:many",
+            "type a = opt b; type b = opt b; type c = variant { x : d }; type d = record { a };": "a:many b:many c:many d:many",
+            "type a = variant { x : a; y : a; z };": "a:many", "type a = opt variant { x : record { a } };": "a:many",
+            "type a = b; type b = opt c; type c = a; type d = bool;": "a:many b:many c:many d:2",
+            # circles through parts without value do not
+            "type a = opt record { a; c }; type c = record { c };": "a:1 c:0", "type a = variant { x : record { a; empty }; y };": "a:1",
+            "type a = variant { x : record { b; e }; y : bool }; type b = opt a; type e = variant {};": "a:2 b:3 e:0",
+            "type a = record { a }; type b = variant { x : b }; type c = record { d }; type d = variant { x : c };": "a:0 b:0 c:0 d:0",
+            "type a = vec record { a; empty };": "a:1", "type a = variant { x : record { record { a; nat8 }; variant {} }; y; z };": "a:2",
+            "type a = opt record { b; record { empty } }; type b = opt record { a; text; d }; type d = record { a; d };": "a:1 b:1 d:0",
+            "type a = record { vec e; bool }; type e = record { opt a; e };": "a:2 e:0",
+            "type a = vec record { b; empty }; type b = opt a;": "a:1 b:2",
+        }.items():
+            self.assertEqual(self.values(source), right, source)
+            self.assertEqual(self.values("".join(reversed(re.split("(?<=;) (?=type)", source)))), right, source)  # definitions in the other order
+
+    def test_bound(self):
+        """4,294,967,295 is a number still, and one more is many, however it is made."""
+        most = f"record {{ {'; '.join(self.FACTORS)}; opt nat16 }}"
+        for around, right in {
+            "{}": self.MOST, "record {{ {}; null; reserved }}": self.MOST, "record {{ {}; opt variant {{}}; vec empty }}": self.MOST,
+            "variant {{ x : {}; y : empty }}": self.MOST, "variant {{ x : {}; y }}": "many", "variant {{ x; y : {} }}": "many", "opt {}": "many",
+            "record {{ {}; bool }}": "many", "record {{ {}; text }}": "many", "record {{ {}; empty }}": 0, "opt record {{ {}; empty }}": 1,
+            "vec {}": "many", "variant {{ x : {}; y : vec empty }}": "many",
+        }.items():
+            for inner in (most, "b"):
+                self.assertEqual(self.values(f"type a = {around.format(inner)}; type b = {most};"), f"a:{right} b:{self.MOST}", (around, inner))
+        for around, right in {"{}": "many", "record {{ {} }}": "many", "variant {{ x : {} }}": "many", "opt {}": "many", "record {{ {}; empty }}": 0,
+                              "vec record {{ {}; empty }}": 1}.items():
+            self.assertEqual(self.values(f"type a = {around.format('record { nat16; nat16 }')};"), f"a:{right}", around)
+        # 65,536 times 65,535, with 65,534, 65,535 and 65,536 more
+        large, last = f"record {{ nat16; {'; '.join(self.FACTORS)} }}", f"record {{ {'; '.join(self.FACTORS)} }}"
+        fewer = "variant { x : record { nat8; variant { repeat 255 { x#; } } }; y : variant { repeat 254 { x#; } } }"
+        for more, right in ((fewer, self.MOST - 1), (last, self.MOST), (f"{fewer}; z", self.MOST), (f"{last}; z", "many"), ("nat16", "many"),
+                            (f"opt {fewer}", self.MOST), (f"opt {last}", "many")):
+            self.assertEqual(self.values(f"type a = variant {{ x : {large}; y : {more} }};"), f"a:{right}", more)
+            self.assertEqual(self.values(f"type a = variant {{ y : {more}; x : b }}; type b = {large};"), f"a:{right} b:{65536 * 65535}", more)
+        below = f"variant {{ x : {large}; y : {fewer} }}"
+        for around, right in {"opt {}": self.MOST, "opt opt {}": "many", "variant {{ x : {}; y }}": self.MOST,
+                              "variant {{ x : {}; y; z }}": "many"}.items():
+            self.assertEqual(self.values(f"type a = {around.format('b')}; type b = {below};"), f"a:{right} b:{self.MOST - 1}", around)
+
+    def test_files(self):
+        """Definitions of main and of imports, reached or not, with and without an actor; the init file's are not read."""
+        body = "record { x : e; bool }; type e = opt bool"
+        for source, right in {
+            f'file "m" main type a = {body};': "a:6 e:3", f'file "m" main type a = {body}; service : {{}}': "a:6 e:3",
+            f'file "m" main service : {{}} file "i" type type a = {body};': "a:6 e:3",
+            f'file "m" main file "i" service type a = {body}; service : {{}}': "a:6 e:3",
+            f'file "m" main service : {{}} file "i" init type a = {body}; args (a)': "",
+            f'file "m" main type a = {body}; file "i" init type a = {body}; type b = bool; args (a)': "a:6 e:3",
+            'file "m" main type a = b; file "i" service type c = empty; service : {} file "j" type type b = variant { x : c; y };': "a:1 b:1 c:0",
+            'file "m" main type a = b; type b = nat8; file "i" init type b = nat8; type c = empty; args (empty)': "a:256 b:256",
+        }.items():
+            self.assertEqual(self.values(source), right, source)
+
+    def test_refused(self):
+        """What the check refuses, 1, 24 and 18 come first, whatever is asked; then 3 of a name that no definition of roles 0 to 2 has."""
+        fine = "type a = bool; type b = opt a; type c = record { c };"
+        for source, outcome in {
+            fine: 'given 3 "a" 2 "b" 3 "c" 0', "": "given 0", "names \"x\"": "given 0",
+            fine + "type a = nat;": 'refused 2 "a"', fine + "type d = z;": 'refused 3 "z"', fine + 'type d = "";': 'refused 3 ""',
+            fine + "type d = class () -> {};": "refused 4 -", fine + "type d = func () -> () query oneway;": "refused 5 -",
+            fine + "type d = func () -> (nat) oneway;": "refused 6 -", fine + "type d = d;": 'refused 7 "d"',
+            fine + "type d = service { m : a };": "refused 8 -", fine + "service : { m : b }": 'refused 9 "m"', fine + "service : a": "refused 10 -",
+            f'file "m" main {fine} file "i" service': 'refused 12 "i"',
+            f'file "m" main {fine} file "i" service service : () -> {{}}': 'refused 13 "i"',
+            f'file "m" main {fine} service : {{ m : () -> () }} file "i" service service : {{ m : () -> () }}': 'refused 14 "m"',
+            fine + "truncate 1": "refused 1 -", fine + "type d = variant { x : a; x : b };": 'refused 18 "x"',
+            fine + "type d = variant { x : a; 120 : b };": "refused 18 -",
+        }.items():
+            found = answers.outcomes(mkbook.book(source))
+            self.assertEqual(found["values"], outcome, source)
+            is_whole, is_given = outcome != "refused 1 -", outcome.startswith("given")
+            for word, number in (("values-outside", 1024), ("values-highest", 65535)):
+                self.assertEqual(found.get(word), (f"refused 3 {number}" if is_given else outcome) if is_whole else None, source)
+        self.assertEqual(answers.outcomes(mkbook.book(fine), (1024, 4096, 2))["values"], OVER)
+        book = answers.Book(mkbook.book(f'file "m" main {fine} service : {{ x : () -> () }} file "i" init type d = bool; args (d)'))
+        self.assertEqual(book.names, [b"a", b"b", b"c", b"d", b"i", b"m", b"x"])
+        self.assertEqual([asked(answers.values, book, number) for number in (*range(8), 1023, 65535)],
+                         [2, 3, 0, *((3, number) for number in (3, 4, 5, 6, 7, 1023, 65535))])
+        self.assertEqual([answers.numbered(mkbook.book(fine), number, 0, 0)[7] for number in (0, 1, 2, 3, 4, 65535)],
+                         ["values refused 3 0", "values given 2", "values given 3", "values given 0", "values refused 3 4", "values refused 3 65535"])
+
+    def test_program(self):
+        """What the program `values` prints."""
+        for source, right in {
+            'type b = bool; type "\\00\\"" = text; type a = record { b; b }; service : { m : () -> () }': '"\\00\\22" many\n"a" 4\n"b" 2\n',
+            "": "", "service : { m : () -> () }": "", "type a = b;": 'refused 3 "b"\n', "type a = record { x : b; x : b };": 'refused 18 "x"\n',
+            "type a = bool; truncate 1": "refused 1 -\n",
+        }.items():
+            self.assertEqual(answers.valuing(mkbook.book(source)), right, source)
+
+    def test_deep(self):
+        """Nested and chained as far as there is room; what a chain's last is decides, and is found last."""
+        for body, right in {
+            "nest 4095 { opt | } { bool }": 4097, "nest 4095 { opt | } { empty }": 4095, "nest 4095 { record { | } } { bool }": 2,
+            "nest 4095 { variant { x : | } } { text }": "many", "nest 2047 { record { bool; | } } { bool }": "many",
+            "nest 2047 { variant { x; y : | } } { null }": 2048, "nest 1023 { record { record {}; opt | } } { null }": 1024,
+            "nest 4095 { vec | } { empty }": "many", "nest 31 { record { bool; | } } { bool }": "many",
+            "nest 30 { record { bool; | } } { bool }": 2147483648, "record { repeat 4095 { null; } }": 1,
+            "record { repeat 31 { bool; } }": 2147483648, "record { repeat 32 { bool; } }": "many",
+            "record { repeat 4000 { null; } bool; }": 2, "record { repeat 4000 { text; } empty; }": 0,
+            "variant { repeat 4095 { #; } }": 4095, "variant { repeat 4095 { # : empty; } }": 0,
+            "variant { repeat 4095 { # : nat16; } }": 4095 * 65536,
+        }.items():
+            self.assertEqual(self.values(f"type a = {body};"), f"a:{right}", body)
+        for step, last, numbers in (
+            ("opt a###", "bool", range(513, 1, -1)), ("a###", "nat8", [256] * 512), ("record { a###; a### }", "null", [1] * 512),
+            ("record { a###; a### }", "bool", ["many"] * 507 + [2 ** 2 ** at for at in range(4, -1, -1)]),
+            ("variant { x : a###; y : a### }", "null", ["many"] * 480 + [2 ** at for at in range(31, -1, -1)]),
+            ("variant { x : a###; y : empty }", "variant {}", [0] * 512), ("record { a###; nat }", "empty", [0] * 512),
+            ("opt a###", "opt head", ["many"] * 512), ("record { a### }", "record { head }", [0] * 512),
+            ("vec a###", "empty", ["many"] * 510 + [1, 0]),
+        ):
+            names = [f"a{place:03}" for place in range(511)]
+            for source, chain in ((f"type head repeat 511 {{ = {step}; type a### }} = {last};", names),
+                                  (f"type head nest 511 {{ | = {step}; type a### }} {{}} = {last};", names[::-1])):
+                right = sorted(zip(["head", *chain], numbers, strict=True))
+                self.assertEqual(self.values(source), " ".join(f"{name}:{number}" for name, number in right), source)
+
+    def of_height(self, env, tree, height, most, known):
+        """The different values of a type up to a height, as values of Python, or None where there are more than `most`. A value is higher than what
+        it is made of; of what is endless there are more the higher they are."""
+        if tree.kind == answers.NAME:
+            return self.of_height(env, env[tree.value], height, most, known)
+        at = id(tree), height
+        if at in known:
+            return known[at]
+        leaves = {0: {None}, 1: {False, True}, 15: {"reserved"}, 16: set(), 4: set(range(256)), 8: set(range(-128, 128))}
+        if height == 0:
+            found = set()
+        elif tree.kind in leaves:
+            found = leaves[tree.kind]
+        elif tree.kind not in (answers.OPT, answers.VEC, answers.RECORD, answers.VARIANT):
+            found = set(range(height))
+        else:
+            parts = [self.of_height(env, kid, height - 1, most, known) for kid in tree.kids]
+            if tree.kind == answers.RECORD and set() in parts:
+                found = set()
+            elif None in parts:
+                found = None
+            elif tree.kind == answers.OPT:
+                found = {(), *((value,) for value in parts[0])}
+            elif tree.kind == answers.VEC:
+                found = {(value,) * length for value in parts[0] for length in range(height)} | {()}
+            elif tree.kind == answers.VARIANT:
+                found = {(kid.label, value) for kid, part in zip(tree.kids, parts) for value in part}
+            else:
+                found = {()}
+                for part in parts:
+                    found = {(*fields, value) for fields in found for value in part} if len(found) * len(part) <= most else None
+                    if found is None:
+                        break
+        known[at] = None if found is None or len(found) > most else found
+        return known[at]
+
+    def test_by_enumeration(self):
+        """Of small books all values up to a height are written down, of one above the number of nodes and of twice that. Where there are no more
+        then, they are as many as is said; else it is `many`, or more than was written down."""
+        tried, most = collections.Counter(), 400
+        for book in checked([*random_books(1200, ("name", "name", "empty", "null", "bool"), ("opt", *("record", "variant") * 2), 3, 3),
+                             *random_books(600, ("name", "empty", "bool", "reserved", "int8", "text"), ("opt", "vec", "record", "variant"), 3, 2)]):
+            env, _ = answers.check(book)
+            height, known = book.counts[1] + 1, {}
+            for name, number in answers.all_values(book):
+                low, high = (self.of_height(env, env[name], up_to, most, known) for up_to in (height, 2 * height))
+                if high is None:
+                    self.assertTrue(number == "many" or number > most)
+                elif low == high:
+                    self.assertEqual(number, len(low))
+                else:
+                    self.assertEqual(number, "many")
+                tried["many" if number == "many" else "none" if not number else "larger" if number > most else "some"] += 1
+        self.assertGreater(min(tried.values()), 10, tried)
+
+    def test_by_height(self):
+        """Of the stored books and of random ones with larger leaves, values of each height are counted, by height alone: a number stands still."""
+        def counted(env, height):
+            """How many values of so many heights each name has, none of them counted above twice the bound."""
+            top, of_leaves = 2 * self.MOST, {0: 1, 1: 2, 4: 256, 5: 65536, 8: 256, 9: 65536, 15: 1, 16: 0}
+            rows = [(node, [id(kid) for kid in node.kids]) for tree in env.values() for node in answers.nodes(tree)]
+            counts = {id(node): 0 for node, _ in rows}
+            for up_to in range(1, height + 1):
+                after = {}
+                for node, kids in rows:
+                    parts = [counts[kid] for kid in kids]
+                    if node.kind == answers.RECORD:
+                        number = 1
+                        for part in sorted(parts):
+                            number = min(number * part, top)
+                    elif node.kind in (answers.OPT, answers.VARIANT):
+                        number = sum(parts) + (node.kind == answers.OPT)
+                    elif node.kind == answers.VEC:
+                        number = 1 + parts[0] * up_to
+                    else:
+                        number = of_leaves.get(node.kind, up_to)
+                    after[id(node)] = min(number, top) if node.kind != answers.NAME else None
+                for node, _ in rows:  # a name is no higher than its definition
+                    if node.kind == answers.NAME:
+                        after[id(node)] = after[id(answers.alias_end(env, node))]
+                counts = after
+            return {name: counts[id(answers.alias_end(env, tree))] for name, tree in env.items()}
+
+        tried = collections.Counter()
+        stored = [book for name, book in [*LIST_BOOKS.items(), *CHECK_BOOKS.items()] if len(book) < 3000]
+        leaves = ("name", "name", "null", "bool", "nat8", "int16", "nat16", "empty")
+        for book in checked([*stored, *random_books(700, leaves, ("opt", *("record", "variant") * 4), 5, 3)]):
+            env, _ = answers.check(book)
+            height = sum(len(answers.nodes(tree)) for tree in env.values()) + 1
+            if height > 100:
+                continue
+            low, high = counted(env, height), counted(env, 2 * height)
+            for name, number in answers.all_values(book):
+                right = low[name] if low[name] == high[name] <= self.MOST else "many"
+                self.assertEqual(number, right)
+                tried["many" if number == "many" else "none" if not number else "large" if number > 1000 else "some"] += 1
+        self.assertGreater(min(tried.values()), 100, tried)
+
+
 class Limits(unittest.TestCase):
     """24, by request 14 of document 02: directly after 1 and before all else, in drafts too; layout and name take no limits."""
 
@@ -624,8 +920,9 @@ class Limits(unittest.TestCase):
         self.assertEqual(answers.outcomes(book, (6, 10, 3)) | {"name": None}, {
             "layout": "whole 7 10 3 1", "name": None,
             **{question: OVER for question in (
-                "check init-check list marks marks-back marks-outside marks-highest init draft empty chains lookups uses-outside "
-                "alias-outside alias-highest project-outside project-highest project-none project-all project-every").split()},
+                "check init-check list marks marks-back marks-outside marks-highest init draft empty values chains lookups uses-outside "
+                "alias-outside alias-highest values-outside values-highest project-outside project-highest project-none project-all "
+                "project-every").split()},
             **{f'{word} "{name}"': OVER for word in ("uses", "alias", "project", "twice")
                for name in ("", *"fork leaf pair put spare tree".split())}})
 
@@ -1075,6 +1372,9 @@ class ListSources(unittest.TestCase):
             '// chains: nest 2 { | unbound.# "b" } {}\n// lookups: actor.0\n':
                 {"chains": 'given 2 unbound.1 "b" unbound.0 "b"', "lookups": "given 0 actor.0"},
             '// chains: none\n// lookups: none\n': {"chains": "given 0", "lookups": "given 0"},
+            '// values: "a" 2 "b" many "\\00" 4294967295\n// values-outside: refused 3 1024\n':
+                {"values": 'given 3 "a" 2 "b" many "\\00" 4294967295', "values-outside": "refused 3 1024"},
+            '// values: repeat 2 { "a#" 1# }\n': {"values": 'given 2 "a0" 10 "a1" 11'}, '// values: none\n': {"values": "given 0"},
         }.items():
             self.assertEqual(mkbatch.stated(head + lines), found, lines)
         for text in (head, head + "// uses-short: needs 3\n", head + "// check-short: needs 3\n",
@@ -1090,16 +1390,17 @@ class ListSources(unittest.TestCase):
             "layout whole 2 2 0 1\n", 'name given 4 "" "m" "" ""\n',
             "check passed\n", "init-check passed\n", "list given 0\n", "marks given 0\n", "marks-back given 0\n",
             "marks-outside refused 3 1024\n", "marks-highest refused 3 65535\n", "init given 0\n", "draft given 0\n", "empty given 0\n",
-            "chains given 0\n", "lookups given 0 actor.0\n",
+            "values given 0\n", "chains given 0\n", "lookups given 0 actor.0\n",
             'uses "" given 0\n', 'alias "" refused 3 ""\n', 'project "" refused 15 ""\n', 'twice "" refused 15 ""\n',
             'uses "m" given 0\n', 'alias "m" refused 3 "m"\n', 'project "m" given 1 0\n', 'twice "m" refused 15 "m"\n',
             "uses-outside given 0\n", "alias-outside refused 3 1024\n", "alias-highest refused 3 65535\n",
+            "values-outside refused 3 1024\n", "values-highest refused 3 65535\n",
             "project-outside refused 15 1024\n", "project-highest refused 15 65535\n", "project-none given 0\n", "project-all given 1 0\n",
             "project-all-short needs 1 refused 16 -\n", 'project-every refused 15 ""\n')))
         self.assertEqual(replay.lines("a", answers.outcomes(b"")), [
             "a layout refused 1 -\n", 'a name given 2 "" ""\n',
             *(f"a {word} refused 1 -\n"
-              for word in "check init-check list marks marks-back marks-outside marks-highest init draft empty chains lookups".split())])
+              for word in "check init-check list marks marks-back marks-outside marks-highest init draft empty values chains lookups".split())])
 
     def test_tally(self):
         """By hand: P10's lines, those of a broken book, and P10's when a limit is passed, and a service of P10's method
@@ -1107,18 +1408,19 @@ class ListSources(unittest.TestCase):
         lines = list(replay.printed([("a", answers.outcomes(LIST_BOOKS["p10"])), ("b", answers.outcomes(b"")),
                                      ("c", answers.outcomes(LIST_BOOKS["p10"], (2, 1, 0))),
                                      ("d", answers.outcomes(CHECK_BOOKS["order-hash-alone"]))]))
-        refused = {1: 13, 3: 6, 15: 6, 16: 1, 18: 28, 24: 28}
+        refused = {1: 14, 3: 8, 15: 6, 16: 1, 18: 31, 24: 31}
         given = {"layout": 3, "name": 4, "check": 1, "init-check": 1, "project": 2}
-        words = "layout name check init-check list marks init draft empty chains lookups uses alias project".split()
-        self.assertEqual(lines[-34:], [
+        words = "layout name check init-check list marks init draft empty values chains lookups uses alias project".split()
+        self.assertEqual(lines[-35:], [
             *(f"tally refused {number} {refused.get(number, 0)}\n" for number in (*range(1, 19), 24)),
             *(f"tally given {word} {given.get(word, 0)}\n" for word in words),
             "tally incomplete\n"])
-        self.assertFalse(lines[-35].startswith("tally "))
+        self.assertFalse(lines[-36].startswith("tally "))
         tally = answers.Tally()
         for question, word in (("marks", "marks"), ("marks-back", "marks"), ("uses-outside", "uses"), ('uses "a"', "uses"),
                                ('twice "-"', "project"), ("project-all", "project"), ("init", "init"), ("name", "name"),
-                               ('alias "a"', "alias"), ("alias-highest", "alias"), ("chains", "chains"), ("lookups", "lookups")):
+                               ('alias "a"', "alias"), ("alias-highest", "alias"), ("chains", "chains"), ("lookups", "lookups"),
+                               ("values", "values"), ("values-outside", "values"), ("values-highest", "values")):
             before = tally.given[word]
             tally.add(question, "given 1 x")
             tally.add(question, "given 0")
@@ -1153,7 +1455,7 @@ class Replay(unittest.TestCase):
     def test_tally(self):
         """Every refusal and every answer with entries is in the list."""
         tally = [line for line in self.lines.splitlines() if line.startswith("tally ")]
-        self.assertEqual(len(tally), 19 + 14 + 1)
+        self.assertEqual(len(tally), 19 + 15 + 1)
         self.assertEqual(tally[-1], "tally complete")
         for line in tally[:-1]:
             self.assertGreater(int(line.split()[-1]), 0, line)
@@ -1173,6 +1475,7 @@ class Replay(unittest.TestCase):
             "list": {17, *check, *given}, "marks": {*check, *given}, "marks-back": {*check, *given},
             "marks-outside": check, "marks-highest": check,
             "init": {11, *check, *given}, "draft": {1, 2, 3, 17, 18, 24, *given}, "empty": {*check, *given},
+            "values": {*check, *given}, "values-outside": check - {1}, "values-highest": check - {1},
             "chains": {1, 2, 18, 24, *given}, "lookups": {*check, *given},
             "alias": {"given", *check} - {1}, "alias-outside": check - {1}, "alias-highest": check - {1},
             "uses": {16, 17, *check, *given} - {1}, "project": {15, 17, "given", *check} - {1}, "twice": {15, 17, *check} - {1},
@@ -1221,7 +1524,7 @@ class Replay(unittest.TestCase):
             if not name.startswith("limits/"):
                 self.assertEqual(limits, FULL, name)
         self.assertLess(len(self.records), 5_500_000)  # a book of 4,096 nodes has 49,000
-        self.assertLess(len(self.lines), 7_000_000)
+        self.assertLess(len(self.lines), 7_300_000)
 
     def test_layouts_and_checks(self):
         """Every book of tests/layout and of tests/check is there, with what its source says of the layout or of the two checks, and with
@@ -1293,8 +1596,8 @@ class Replay(unittest.TestCase):
             return found, {which: sum(words.values()) for which, words in told.items()}
 
         self.assertEqual(joined(rust), (right, {
-            "the Rust's": 41, "the oracle's own, the names crossed": 5, "the oracle's own, 16": 6, "the oracle's own, 3 for a number outside": 2,
-            "the oracle's own, its reader of books": 2, "the oracle's own, layout broken": 14}))
+            "the Rust's": 43, "the oracle's own, the names crossed": 5, "the oracle's own, how many values": 1, "the oracle's own, 16": 6,
+            "the oracle's own, 3 for a number outside": 2, "the oracle's own, its reader of books": 2, "the oracle's own, layout broken": 15}))
         silent = [line if not line.startswith("a list ") else "a list unanswered ring\n" for line in rust if " list-short" not in line]
         self.assertEqual(joined(silent)[0], right)
         self.assertEqual(joined(silent)[1]["unanswered ring"], 2)
@@ -1325,7 +1628,7 @@ class Replay(unittest.TestCase):
         self.assertIn('a draft refused 18 "x"\n', right)
         self.assertIn("b draft refused 18 -\n", right)
         self.assertEqual({which: sum(words.values()) for which, words in told.items()}, {
-            "the oracle's own, its reader of books": 4, "the oracle's own, 18": 32 + 28})
+            "the oracle's own, its reader of books": 4, "the oracle's own, 18": 35 + 31})
 
     def test_joined_limits(self):
         """Each book of a batch is asked under its own limits, and 24 is no line of the Rust's."""
@@ -1333,13 +1636,13 @@ class Replay(unittest.TestCase):
         right = list(replay.printed(replay.answered(data)))
         self.assertIn("7-10-3 list given 2 \"pair\" \"tree\"\n", right)
         self.assertIn("6-10-3 list refused 24 -\n", right)
-        self.assertIn("tally refused 24 48\n", right)
+        self.assertIn("tally refused 24 51\n", right)
         told = collections.defaultdict(collections.Counter)
         found = list(replay.printed(replay.joined(data, "".join(line for line in right if not line.startswith("tally ")), told)))
         self.assertEqual(found, right)
         self.assertEqual({which: sum(words.values()) for which, words in told.items()}, {
-            "the Rust's": 82, "the oracle's own, the names crossed": 10, "the oracle's own, 16": 12, "the oracle's own, 3 for a number outside": 4,
-            "the oracle's own, its reader of books": 6, "the oracle's own, 24": 48})
+            "the Rust's": 86, "the oracle's own, the names crossed": 10, "the oracle's own, how many values": 2, "the oracle's own, 16": 12,
+            "the oracle's own, 3 for a number outside": 4, "the oracle's own, its reader of books": 6, "the oracle's own, 24": 51})
 
 
 class Batch(unittest.TestCase):

@@ -6,6 +6,7 @@ pub mod bench;
 
 use crate::analysis::{chase_actor, chase_def_use, chase_types, infer_rec, project_methods};
 use crate::book::{self, number_of, quoted, Batch, Book, Limits, Node};
+use crate::numbers::numbers;
 use crate::rows;
 use crate::syntax::{
     Binding, Dec, FuncType, IDLActorType, IDLArgType, IDLInitArgs, IDLMergedProg, IDLProg, IDLType, PrimType, TypeField,
@@ -517,6 +518,29 @@ impl Texts<'_> {
         }
     }
 
+    /// How many values each name has that `find_type` knows: the Rust counts none, so the numbers are the oracle's own.
+    fn values(&self, checked: &Checked) -> Found<String> {
+        let numbers = numbers(self.book);
+        let mut entries = vec![];
+        for (number, name) in self.names.iter().enumerate() {
+            match (checked.env.find_type(name).is_ok(), numbers.get(&number)) {
+                (true, Some(Some(count))) => entries.push(format!(" {} {count}", named(self.book, number))),
+                (true, Some(None)) => entries.push(format!(" {} many", named(self.book, number))),
+                (false, None) => (),
+                _ => return Err(Fail::Unanswered("definitions-differ".into())),
+            }
+        }
+        Ok(format!("given {}{}", entries.len(), entries.concat()))
+    }
+
+    /// Those of a text that is no name's.
+    fn values_outside(&self, checked: &Checked, name: &str) -> Found<String> {
+        match checked.env.find_type(name) {
+            Err(_) => Err(Fail::Refused(3, Some(self.number(name)))),
+            Ok(_) => Err(Fail::Unanswered("definitions-differ".into())),
+        }
+    }
+
     fn draft(&self) -> Found<Vec<String>> {
         let actor = self.book.files[0].tree.as_ref().ok_or(Fail::Refused(17, None))?;
         let mut env = TypeEnv::new();
@@ -640,7 +664,7 @@ const DRAFT: &str = "draft";
 
 /// The questions that the Rust is asked, in the order of their lines, and whether each is asked again, with one place fewer than the entries
 /// that were given.
-const QUESTIONS: [(&str, Of, bool); 24] = [
+const QUESTIONS: [(&str, Of, bool); 27] = [
     ("check", Of::Book, false),
     ("init-check", Of::Book, false),
     ("list", Of::Book, true),
@@ -651,6 +675,7 @@ const QUESTIONS: [(&str, Of, bool); 24] = [
     ("init", Of::Book, true),
     (DRAFT, Of::Book, true),
     ("empty", Of::Book, true),
+    ("values", Of::Book, false),
     ("chains", Of::Book, false),
     ("lookups", Of::Book, false),
     ("uses", Of::Name, true),
@@ -660,6 +685,8 @@ const QUESTIONS: [(&str, Of, bool); 24] = [
     ("uses-outside", Of::Whole, false),
     ("alias-outside", Of::Whole, false),
     ("alias-highest", Of::Whole, false),
+    ("values-outside", Of::Whole, false),
+    ("values-highest", Of::Whole, false),
     ("project-outside", Of::Whole, false),
     ("project-highest", Of::Whole, false),
     ("project-none", Of::Whole, false),
@@ -797,6 +824,7 @@ fn lines_of(texts: &Texts) -> Vec<Line> {
     saying.say("init", None, init_list);
     saying.say(DRAFT, None, guarded(STEPS, || texts.draft()));
     saying.say("empty", None, guarded(STEPS, || texts.emptiness(known.clone()?)));
+    saying.tell("values", None, guarded(STEPS, || texts.values(known.clone()?)));
     saying.tell("chains", None, guarded(STEPS, || texts.chains()));
     saying.tell("lookups", None, guarded(STEPS, || texts.lookups(known.clone()?)));
 
@@ -828,6 +856,9 @@ fn lines_of(texts: &Texts) -> Vec<Line> {
     saying.say("uses-outside", None, uses_of(&outside));
     saying.tell("alias-outside", None, alias(&outside));
     saying.tell("alias-highest", None, alias(&highest));
+    let values_outside = |name: &str| guarded(STEPS, || texts.values_outside(known.clone()?, name));
+    saying.tell("values-outside", None, values_outside(&outside));
+    saying.tell("values-highest", None, values_outside(&highest));
     saying.say("project-outside", None, project(vec![outside.clone()]));
     saying.say("project-highest", None, project(vec![highest.clone()]));
     saying.say("project-none", None, project(vec![]));

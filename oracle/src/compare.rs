@@ -234,6 +234,8 @@ pub fn compared(batch: &[u8], ours: &str, rust: &str) -> (Counts, Vec<Difference
                 *counts.own.entry("18 for a repeated label").or_default() += 1;
             } else if ["marks-outside", "marks-highest"].contains(&line.word) && marked {
                 *counts.own.entry("3 for a number outside").or_default() += 1;
+            } else if line.word == "values" && is_given {
+                *counts.own.entry("how many values").or_default() += 1;
             } else if line.asked_before().is_some() {
                 *counts.own.entry("16 for a list too short").or_default() += 1;
             }

@@ -30,8 +30,9 @@
 //! names alone, no class below the top, no nat as an actor. It has four shapes: an actor with one definition, with two, with
 //! two and a service import; and, without an actor, a definition of main and one of the init file of the same name.
 //!
-//! The part `values` has what decides whether a definition is empty: main alone without an actor, with one definition or two in either order of up
-//! to 6 nodes, or three of up to 5. Types are nat, empty, a name that is defined, opt, a record of up to two fields and a variant of up to two cases.
+//! The part `values` has what decides whether a definition is empty and how many values it has: main alone without an actor, with one definition or
+//! two in either order of up to 6 nodes, or three of up to 5. Types are null, empty, a name that is defined, opt, vec, a record of up to two fields
+//! and a variant of up to two cases.
 //!
 //! Limits are by turns the full ones, the book's own counts and the largest, so that the Rust is asked of every book. Under limits that a
 //! book is over, the exported functions alone are asked (exported.rs).
@@ -45,6 +46,7 @@ const A: u32 = 0;
 const B: u32 = 1;
 const M: u32 = 2;
 
+const NULL: u8 = 0;
 const NAT: u8 = 2;
 const ONEWAY: u32 = 1;
 const QUERY_AND_ONEWAY: u32 = 2 + 4;
@@ -196,14 +198,16 @@ fn types_of_values(names: &[u32], largest: usize) -> Trees {
     for nodes in 1..=largest {
         let mut found = vec![];
         if nodes == 1 {
-            found.extend([NAT, book::EMPTY].map(|kind| node(kind, 0, &[])));
+            found.extend([NULL, book::EMPTY].map(|kind| node(kind, 0, &[])));
             found.extend(names.iter().map(|name| node(book::NAME, *name, &[])));
         }
         for count in 0..=2 {
             each(&vec![&types; count], nodes - 1, &mut vec![], &mut |kids| {
                 let inside = [book::RECORD, book::VARIANT].map(|kind| node(kind, 0, kids));
                 found.extend(inside.map(|tree| labelled(tree, &[SPELLINGS[0], SECOND_FIELD])));
-                found.extend((count == 1).then(|| node(book::OPT, 0, kids)));
+                if count == 1 {
+                    found.extend([book::OPT, book::VEC].map(|kind| node(kind, 0, kids)));
+                }
             });
         }
         types.push(found);

@@ -1,8 +1,8 @@
 //! What the reader's exported functions say to every question of a book, in the words of answer_batch.
 //!
 //! Each question is asked with a lent list that is long enough, just long enough, one entry too short and empty. Every time the numbers
-//! beyond the result, or all after a refusal, have to be as they were, and those before and after the lent list too. An alias chain is asked
-//! without one. All this is asked under the limits of the book's record; each function is then asked under up to five limits and the largest,
+//! beyond the result, or all after a refusal, have to be as they were, and those before and after the lent list too. Alias chains and values are
+//! asked without one. All this is asked under the limits of the book's record; each function is then asked under up to five limits and the largest,
 //! which have to agree. The lines `chains` and `lookups` are of functions that are not exported: they have nothing here.
 
 use crate::answer::asked_names;
@@ -181,7 +181,49 @@ impl Said<'_> {
         ours::alias(self.bytes, limits, number as u16)
     }
 
-    /// Numbers outside the book's table other than 1,024, which the lines have; marks, alias chains and projection have 65,535 as well.
+    fn values_under(&mut self, limits: Limits, number: usize) -> Answer {
+        self.calls += 1;
+        ours::values(self.bytes, limits, number as u16)
+    }
+
+    /// How many values each name has; those without definition are refused with 3, which names them, and left out. What is refused otherwise has to be
+    /// so whatever is asked.
+    fn values(&mut self, names: usize) {
+        let outside = self.values_under(self.limits, NAMES);
+        let mut line = match outside {
+            Answer::Refused(number, low) if (number, low) != (3, NAMES) => self.refused(number, low),
+            _ => {
+                let mut entries = Vec::new();
+                for number in 0..names {
+                    let said = match self.values_under(self.limits, number) {
+                        Answer::Refused(3, low) if low == number => continue,
+                        Answer::Refused(number, low) => self.refused(number, low),
+                        Answer::Given(ours::MANY) => "many".into(),
+                        Answer::Given(count) => count.to_string(),
+                    };
+                    entries.push(format!(" {} {said}", self.name(number)));
+                }
+                format!("given {}{}", entries.len(), entries.concat())
+            }
+        };
+        if line.starts_with("refused ") && [0, names / 2, names].iter().any(|number| self.values_under(self.limits, *number) != outside) {
+            line += " but otherwise for another number";
+        }
+        self.lines.insert("values".into(), line);
+    }
+
+    /// The same of a number that is no name's.
+    fn values_outside(&mut self, question: &str, number: usize) -> Answer {
+        let answer = self.values_under(self.limits, number);
+        let line = match answer {
+            Answer::Given(count) => format!("given {count}"),
+            Answer::Refused(number, low) => self.refused(number, low),
+        };
+        self.lines.insert(question.into(), line);
+        answer
+    }
+
+    /// Numbers outside the book's table other than 1,024, which the lines have; marks, alias chains, values and projection have 65,535 as well.
     fn outside(&self) -> Vec<u16> {
         let names = self.book.map_or(0, |book| book.names.len());
         [names, NO_NAME].into_iter().filter(|number| *number != NAMES).map(|number| number as u16).collect()
@@ -216,6 +258,7 @@ impl Said<'_> {
                 list = entries;
             }
         }
+        self.values(self.book.map_or(0, |book| book.names.len()));
         self.marks(&list);
         list
     }
@@ -248,6 +291,17 @@ impl Said<'_> {
                 self.make_wrong("alias-outside", " but otherwise for another number");
             }
         }
+        self.values_outside("values-highest", NO_NAME);
+        let answer = self.values_outside("values-outside", NAMES);
+        for number in self.outside() {
+            let right = match answer {
+                Answer::Refused(3, NAMES) => Answer::Refused(3, number as usize),
+                _ => answer,
+            };
+            if self.values_under(self.limits, number as usize) != right {
+                self.make_wrong("values-outside", " but otherwise for another number");
+            }
+        }
         self.say("project-highest", "", Question::Project(&[NO_NAME as u16]), true);
         let (answer, _) = self.say("project-outside", "", Question::Project(&[NAMES as u16]), true);
         for number in self.outside() {
@@ -273,6 +327,9 @@ impl Said<'_> {
         for number in [0, NAMES, NO_NAME] {
             if self.alias_under(self.limits, number) != Answer::Refused(1, NO_NAME) {
                 self.make_wrong("list", " but not 1 for an alias chain");
+            }
+            if self.values_under(self.limits, number) != Answer::Refused(1, NO_NAME) {
+                self.make_wrong("list", " but not 1 for values");
             }
         }
     }
@@ -330,6 +387,11 @@ impl Said<'_> {
             for limits in &others {
                 let answer = self.alias_under(*limits, number);
                 self.hold_under(*limits, "list", answer, largest);
+            }
+            let largest = self.values_under(LARGEST, number);
+            for limits in &others {
+                let answer = self.values_under(*limits, number);
+                self.hold_under(*limits, "values", answer, largest);
             }
         }
     }

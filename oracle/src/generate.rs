@@ -2,9 +2,9 @@
 //!
 //! Three in four books are planned: definitions, services and actors that pass, and in some of them faults on purpose. The
 //! others are wild (whatever the layout allows) or of a special shape: long chains, deep trees, ladders, many uses, wide
-//! records. One planned book in six has little but records, variants, names and `empty` in its types, so that many names are empty. Labels may
-//! repeat in one book of eight and in wide ones, so that the Rust is asked of the others. Some are damaged afterwards. Half of them are asked under
-//! full limits.
+//! records. One planned book in six has little but records, variants, names and `empty` in its types, so that many names are empty, and one in six
+//! small primitives and few circles, so that many have a number of values. Labels may repeat in one book of eight and in wide ones, so that the Rust
+//! is asked of the others. Some are damaged afterwards. Half of them are asked under full limits.
 
 use crate::book::{self, number_of, Book, Definition, File, Limits, Node, Record, FULL};
 use candid::idl_hash;
@@ -54,6 +54,9 @@ impl Random {
 }
 
 type Name = Vec<u8>;
+
+/// Primitives that have a number of values.
+const SMALL: [u8; 10] = [0, 1, 1, 1, 15, 4, 8, 5, 9, 1];
 
 /// Pairs of plain names of one label number.
 fn collisions() -> Vec<(Name, Name)> {
@@ -302,6 +305,8 @@ struct Gen<'a> {
     faults: Vec<Fault>,
     /// Whether types are made of little but records, variants, names and `empty`.
     hollow: bool,
+    /// Whether primitives are small, and most definitions refer to those of higher ranks alone.
+    finite: bool,
     /// Whether labels may be as they come, or are made to differ.
     repeats: bool,
     /// Hashes of methods that stand in actors with service imports, where they may not repeat.
@@ -358,6 +363,9 @@ impl Gen<'_> {
 
     /// A leaf; a few kinds are frequent, so that two trees agree now and then.
     fn primitive(&mut self) -> Tree {
+        if self.finite && self.random.percent(90) {
+            return leaf(*self.random.one(&SMALL));
+        }
         leaf(if self.random.percent(40) { *self.random.one(&[2, 2, 14]) } else { self.random.below(18) as u8 })
     }
 
@@ -472,6 +480,13 @@ impl Gen<'_> {
             return if self.random.percent(50) { self.reference() } else { self.primitive() };
         }
         match self.random.below(100) {
+            0..=3 if self.finite => leaf(book::EMPTY),
+            4..=39 if self.finite => self.primitive(),
+            40..=69 if self.finite => self.reference(),
+            70..=76 if self.finite => {
+                let kid = self.typ(depth + 1);
+                tree(book::OPT, vec![kid])
+            }
             0..=7 if self.hollow => leaf(book::EMPTY),
             8..=15 if self.hollow => leaf(2),
             16..=46 if self.hollow => self.reference(),
@@ -576,7 +591,7 @@ impl Gen<'_> {
                 let to = order[self.random.between(rank + 1, order.len() - 1)];
                 (ends[to].0, Some(to))
             } else {
-                let others = if self.hollow && self.random.percent(70) { Sort::Data } else { Sort::Func };
+                let others = if (self.hollow || self.finite) && self.random.percent(70) { Sort::Data } else { Sort::Func };
                 (*self.random.one(&[Sort::Data, Sort::Data, Sort::Data, others, Sort::Service]), None)
             };
         }
@@ -585,6 +600,11 @@ impl Gen<'_> {
         self.functions = of(Sort::Func);
         let mut rows = Vec::new();
         for (i, own) in names.iter().enumerate() {
+            if self.finite {
+                let rank = order.iter().position(|of_rank| *of_rank == i).expect("a rank");
+                let least = if self.random.percent(5) { 0 } else { rank + 1 };
+                self.bound = order[least..].iter().map(|of_rank| names[*of_rank].clone()).collect();
+            }
             let body = match ends[i] {
                 (_, Some(to)) if self.faulty(Circle, 60) => name(&names[self.random.between(0, to)]),
                 (_, Some(to)) => name(&names[to]),
@@ -611,6 +631,7 @@ impl Gen<'_> {
             };
             rows.push(Row { name: own.clone(), file: file_of(&mut self.random), tree: body });
         }
+        self.bound = names.to_vec();
         let plain = (0..names.len()).filter(|i| ends[*i] == (Sort::Service, None)).map(|i| names[i].clone());
         let aliased = (0..names.len()).filter(|i| ends[*i].0 == Sort::Service && ends[*i].1.is_some()).map(|i| names[i].clone());
         self.services = plain.collect();
@@ -637,6 +658,7 @@ impl Gen<'_> {
         self.fill_pool(pool);
         self.left = nodes;
         self.hollow = self.random.percent(16);
+        self.finite = !self.hollow && self.random.percent(20);
         if self.random.percent(42) {
             self.faults.push(*self.random.one(&FAULTS));
             if self.random.percent(35) {
@@ -1190,6 +1212,7 @@ pub fn run(seed: u64, count: u64, all_damaged: bool) -> i32 {
             services: vec![],
             faults: vec![],
             hollow: false,
+            finite: false,
             repeats: false,
             taken: HashSet::new(),
             apart: false,

@@ -9,6 +9,7 @@ mod exhaustive;
 #[cfg(exports)]
 mod exported;
 mod generate;
+mod numbers;
 #[cfg(exports)]
 mod ours;
 mod rows;

@@ -82,15 +82,16 @@ impl Stack {
 const MARKS: &str = "marks";
 const USES: &str = "uses";
 const ALIAS: &str = "alias";
+const NUMBERS: &str = "values";
 const PROJECT: &str = "project";
 
 /// The words of all questions.
 fn words() -> impl Iterator<Item = &'static str> {
     let verdicts = ours::VERDICTS.iter().map(|question| question.0);
-    verdicts.chain(ours::OF_BOOK.iter().map(|question| question.0)).chain([MARKS, USES, ALIAS, PROJECT])
+    verdicts.chain(ours::OF_BOOK.iter().map(|question| question.0)).chain([NUMBERS, MARKS, USES, ALIAS, PROJECT])
 }
 
-/// The names that uses, alias chains and projection are asked of: so many, the last one, and a number outside the table.
+/// The names that values, uses, alias chains and projection are asked of: so many, the last one, and a number outside the table.
 const ASKED: usize = 32;
 
 /// Asks ours, so that nothing but an exported function runs on the stack. Marks are asked over the list, projection also of all methods.
@@ -116,6 +117,11 @@ fn ask_ours(stack: &Stack, word: &str, bytes: &[u8], names: usize, out: &mut [u1
         ALIAS => each.for_each(|name| {
             stack.call(&mut || {
                 black_box(ours::alias(bytes, FULL, name));
+            })
+        }),
+        NUMBERS => each.for_each(|name| {
+            stack.call(&mut || {
+                black_box(ours::values(bytes, FULL, name));
             })
         }),
         PROJECT => {

@@ -19,6 +19,7 @@ extern "C" {
     ) -> u32;
     fn ludzepin_uses(book: *const u8, bytes: usize, names: u32, nodes: u32, definitions: u32, name: u16, out: *mut u16, numbers: usize) -> u64;
     fn ludzepin_alias(book: *const u8, bytes: usize, names: u32, nodes: u32, definitions: u32, name: u16) -> u64;
+    fn ludzepin_values(book: *const u8, bytes: usize, names: u32, nodes: u32, definitions: u32, name: u16) -> u64;
 }
 
 /// The most that a book has.
@@ -86,6 +87,16 @@ pub fn alias(book: &[u8], [names, nodes, definitions]: Limits, name: u16) -> Ans
 /// The names that an alias chain crosses, and the last of them.
 pub fn crossed(given: usize) -> (usize, usize) {
     (given >> 16, given & 0xffff)
+}
+
+/// More values than any number that is given.
+pub const MANY: usize = usize::MAX;
+
+pub fn values(book: &[u8], [names, nodes, definitions]: Limits, name: u16) -> Answer {
+    match unsafe { ludzepin_values(book.as_ptr(), book.len(), names, nodes, definitions, name) } {
+        u64::MAX => Answer::Given(MANY),
+        code => of_whole(code),
+    }
 }
 
 /// A question with a lent list.

@@ -3,10 +3,13 @@ use crate::asking::{Asking, Question, ROOM};
 use crate::tally::Given;
 use arrayvec::ArrayVec;
 use format::Limits;
-use refusals::Refusal;
+use refusals::{Count, Refusal};
 
 // Name numbers to ask with: at most as many as a book has names, and none of what is beyond.
 type Numbers = ArrayVec<u16, { Limits::NAMES }>;
+
+// As many names with how many values each has, None where that was refused.
+type Counted = ArrayVec<(u16, Option<Count>), { Limits::NAMES }>;
 
 // The first and the last number outside every table.
 const OUTSIDE: u16 = 1024;
@@ -48,6 +51,7 @@ impl Asking<'_> {
         self.ask_again(b"init", None, Question::InitList);
         self.ask_again(b"draft", None, Question::DraftList);
         self.ask_again(b"empty", None, Question::Emptiness);
+        self.ask_values(names);
         self.ask_inner();
         self.ask_of_names(names, listed);
     }
@@ -91,6 +95,37 @@ impl Asking<'_> {
         !list.is_empty()
     }
 
+    // Each name in turn is asked for the number of its values: those that have one, with it. Those without definition are refused with 3, which names
+    // them, and are left out. What is refused otherwise is so for every number, as for the first outside.
+    fn ask_values(&mut self, names: u16) {
+        self.begin_word(b"values");
+        if let Err(why) = questions::values(self.book, self.limits, OUTSIDE)
+            && why != Refusal::Unbound(OUTSIDE)
+        {
+            self.refuse(why);
+            return;
+        }
+        let mut found = Counted::new();
+        for number in 0..names {
+            match questions::values(self.book, self.limits, number) {
+                Err(why) if why == Refusal::Unbound(number) => (),
+                answer => {
+                    let _ = found.try_push((number, answer.ok()));
+                }
+            }
+        }
+        self.lines.count(b"given ", found.len());
+        for (number, count) in &found {
+            self.lines.name(b" ", book::name(self.book, *number), b"");
+            match count {
+                Some(count) => self.print_count(*count),
+                None => self.lines.write(b" refused"),
+            }
+        }
+        self.lines.write(b"\n");
+        self.tally.give_entries(Given::Values, found.len());
+    }
+
     // The questions about each name and about numbers that are no name's; the methods projected for none, for all names that have one, and for
     // all names, the last first. A broken book has none and is not asked.
     fn ask_of_names(&mut self, names: u16, is_listed: bool) {
@@ -125,6 +160,8 @@ impl Asking<'_> {
         self.ask(b"uses-outside", None, Question::Uses(OUTSIDE));
         self.ask_alias(b"alias-outside", None, OUTSIDE);
         self.ask_alias(b"alias-highest", None, HIGHEST);
+        self.ask_count(b"values-outside", OUTSIDE);
+        self.ask_count(b"values-highest", HIGHEST);
         self.project(b"project-outside", None, &[OUTSIDE]);
         self.project(b"project-highest", None, &[HIGHEST]);
         self.project(b"project-none", None, &[]);

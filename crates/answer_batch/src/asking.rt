@@ -4,13 +4,13 @@ ghost use Rattle.std.specs.Prelude.{◌≤◌, length};
 use crate::lines::Lines;
 use crate::tally::{Given, Tally};
 use format::Limits;
-use refusals::{Answer, Refusal, Verdict};
+use refusals::{Answer, Count, Refusal, Verdict};
 
 // More numbers than any question but uses is answered with, and 4,096 uses; more of these are refused with 16.
 pub(crate) const ROOM: usize = 12288;
 
 // The questions whose answers are lists, with what they are asked with. A new one is a variant with its arms, a place in the tally with its
-// word, and the line that asks it. An alias chain is no list, and is asked on its own.
+// word, and the line that asks it. An alias chain and a number of values are no lists, and are asked on their own.
 #[derive(Clone, Copy)]
 pub(crate) enum Question<'a> {
     MainList,
@@ -121,6 +121,27 @@ impl Asking<'_> {
                     .name(b" ", book::name(self.book, found.last), b"\n");
                 self.tally.give_entries(Given::Alias, found.names as usize);
             }
+        }
+    }
+
+    // How many values the definition of a number that is no name's has, by this word.
+    pub(crate) fn ask_count(&mut self, word: &[u8], number: u16) {
+        self.begin_word(word);
+        match questions::values(self.book, self.limits, number) {
+            Err(why) => self.refuse(why),
+            Ok(count) => {
+                self.lines.write(b"given");
+                self.print_count(count);
+                self.lines.write(b"\n");
+                self.tally.give(Given::Values);
+            }
+        }
+    }
+
+    pub(crate) fn print_count(&self, found: Count) {
+        match found {
+            Count::Exactly(number) => self.lines.count(b" ", number as usize),
+            Count::Many => self.lines.write(b" many"),
         }
     }
 

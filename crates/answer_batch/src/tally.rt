@@ -14,6 +14,7 @@ pub(crate) enum Given {
     InitList,
     DraftList,
     Emptiness,
+    Values,
     Chains,
     Lookups,
     Uses,
@@ -22,7 +23,7 @@ pub(crate) enum Given {
 }
 
 impl Given {
-    const COUNT: usize = 14;
+    const COUNT: usize = 15;
 
     // Each with its word, in the order in which they are printed.
     const ALL: [(Given, &'static [u8]); Given::COUNT] = [
@@ -35,6 +36,7 @@ impl Given {
         (Given::InitList, b"init"),
         (Given::DraftList, b"draft"),
         (Given::Emptiness, b"empty"),
+        (Given::Values, b"values"),
         (Given::Chains, b"chains"),
         (Given::Lookups, b"lookups"),
         (Given::Uses, b"uses"),

@@ -5,19 +5,22 @@
 --     verdict-settled                        and verdicts, where one is not refused with row 16
 use mathlib.Core.Path.{◌≡◌, refl, sym, ap, ◌∙◌}
 use mathlib.Core.Logic.{inl, inr}
+use mathlib.Core.Bool.{Bool, true, false}
 use Rattle.std.specs.Prelude.{Ok, Err}
+use Rattle.std.proofs.lemmas.Bool.{false≢true}
 use Prim.Native.Nat.{ℕ, ◌+◌, ◌*◌, ◌/◌, ◌%◌, ◌≤◌, ◌<◌}
 use native.Mathlib.Nat.{add-zero, div-eq_of_lt, mod-eq_of_lt, mul-add-div_right, mul-add-mod_self_right}
 use native.Mathlib.Decide.{ℕ_discrete}
 use native.Mathlib.Omega.{arith}
+use Rattle.refusals.specs.declared.Count.TheVariants.{Exactly, Many}
 use Rattle.refusals.specs.declared.Crossed.{Crossed}
 use Rattle.refusals.specs.declared.Refusal.{Refusal}
 use Rattle.refusals.specs.declared.Refusal.TheVariants.{Short}
 use Rattle.refusals.specs.Verdict.{Verdict}
 use Rattle.refusals.specs.Refusal.{number_of, name_of, needed_of}
-use Rattle.refusals.specs.Handed.{Answer, AliasAnswer}
+use Rattle.refusals.specs.Handed.{Answer, AliasAnswer, CountAnswer}
 use Rattle.refusals.proofs.Refusals.{number-some, needed-short, row-short, row-settles}
-use Rattle.codes.specs.Coded.{low_of, refusal_in, name_in, entries_in, uses_refusal_in, uses_name_in, uses_entries_in, alias_names_in, alias_last_in, SaysVerdict, SaysWhy, SaysAnswer, SaysAlias, ReadVerdict, ReadAnswer, ReadUses, ReadAlias}
+use Rattle.codes.specs.Coded.{low_of, refusal_in, name_in, entries_in, uses_refusal_in, uses_name_in, uses_entries_in, alias_names_in, alias_last_in, SaysVerdict, SaysWhy, SaysAnswer, values_many_in, values_refusal_in, values_number_in, SaysAlias, SaysCount, ReadVerdict, ReadAnswer, ReadUses, ReadAlias, ReadCount}
 use Rattle.codes.proofs.Codes.{low-needed, low-name}
 
 -- ---- The high and the low part of a number
@@ -54,6 +57,9 @@ not-read e h = absurd (omega arith)
 none-needed : (r : Refusal) → (number_of r ≡ 16 → ⊥) → needed_of r ≡ 0
 none-needed r h = elim (needed-short r) [ inl e ↦ e | inr e ↦ absurd (h (ap number_of e)) ]
 
+not-both : {A : Type 0} → false ≡ true → A
+not-both e = absurd (false≢true e)
+
 module _ (refusal named : ℕ) where
   other-same : (r s : Refusal) → refusal ≡ number_of r → refusal ≡ number_of s → (refusal ≡ 16 → ⊥) → named ≡ name_of r → named ≡ name_of s → r ≡ s
   other-same r s e f n g h =
@@ -79,6 +85,17 @@ module _ (refusal named : ℕ) where
   alias-same entries names last (Err r) (Ok d) x y = not-read y.0 x.some
   alias-same entries names last (Err r) (Err s) x y = ap Err (why-same entries r s x y)
 
+  count-same : (entries : ℕ) (is_many : Bool) (number : ℕ) (a b : CountAnswer) → SaysCount a refusal named entries is_many number → SaysCount b refusal named entries is_many number → a ≡ b
+  count-same entries is_many number (Ok (Exactly n)) (Ok (Exactly m)) x y = ap (λ (k : ℕ). Ok (Exactly k)) (sym x.2 ∙ y.2)
+  count-same entries is_many number (Ok (Exactly n)) (Ok Many) x y = not-both (sym x.1 ∙ y.1)
+  count-same entries is_many number (Ok Many) (Ok (Exactly m)) x y = not-both (sym y.1 ∙ x.1)
+  count-same entries is_many number (Ok Many) (Ok Many) x y = refl
+  count-same entries is_many number (Ok (Exactly n)) (Err s) x y = not-read x.0 y.0.some
+  count-same entries is_many number (Ok Many) (Err s) x y = not-read x.0 y.0.some
+  count-same entries is_many number (Err r) (Ok (Exactly m)) x y = not-read y.0 x.0.some
+  count-same entries is_many number (Err r) (Ok Many) x y = not-read y.0 x.0.some
+  count-same entries is_many number (Err r) (Err s) x y = ap Err (why-same entries r s x.0 y.0)
+
   -- a verdict's code has no entries needed
   verdict-same : (v w : Verdict) → ((r : Refusal) → v ≡ Err r → number_of r ≡ 16 → ⊥) → SaysVerdict v refusal named → SaysVerdict w refusal named → v ≡ w
   verdict-same (Ok a) (Ok b) n x y = refl
@@ -94,6 +111,9 @@ uses-settled a b code = answer-same (uses_refusal_in code) (uses_name_in code) (
 
 pub alias-settled : (a b : AliasAnswer) (code : ℕ) → ReadAlias a code → ReadAlias b code → a ≡ b
 alias-settled a b code = alias-same (uses_refusal_in code) (uses_name_in code) (uses_entries_in code) (alias_names_in code) (alias_last_in code) a b
+
+pub count-settled : (a b : CountAnswer) (code : ℕ) → ReadCount a code → ReadCount b code → a ≡ b
+count-settled a b code = count-same (values_refusal_in code) (uses_name_in code) (uses_entries_in code) (values_many_in code) (values_number_in code) a b
 
 pub verdict-settled : (v w : Verdict) (code : ℕ) → ((r : Refusal) → v ≡ Err r → number_of r ≡ 16 → ⊥) → ReadVerdict v code → ReadVerdict w code → v ≡ w
 verdict-settled v w code = verdict-same (refusal_in code) (name_in code) v w

@@ -1,9 +1,10 @@
 -- Verdicts and answers as one number each, and how include/ludzepin.h takes them apart again. Definitions; assumes nothing.
-use Rattle.std.specs.Prelude.{◌≡◌, cond, ℕ, ◌+◌, ◌*◌, ◌/◌, ◌%◌, ◌≤◌, ◌<◌, eqb, Ok, Err}
+use Rattle.std.specs.Prelude.{◌≡◌, Bool, true, false, cond, ℕ, ◌+◌, ◌*◌, ◌/◌, ◌%◌, ◌≤◌, ◌<◌, eqb, Ok, Err}
+use Rattle.refusals.specs.declared.Count.TheVariants.{Exactly, Many}
 use Rattle.refusals.specs.declared.Refusal.{Refusal}
 use Rattle.refusals.specs.Verdict.{Verdict}
 use Rattle.refusals.specs.Refusal.{number_of, name_of, needed_of}
-use Rattle.refusals.specs.Handed.{Answer, AliasAnswer}
+use Rattle.refusals.specs.Handed.{Answer, AliasAnswer, CountAnswer}
 
 -- 0 where it passes; else the refusal's number in the high 16 bits, and in the low ones the number of its name, 65,535 for none.
 unfoldable pub coded : Verdict → ℕ
@@ -43,9 +44,18 @@ unfoldable pub coded_alias : AliasAnswer → ℕ
 coded_alias (Ok c) = c.names * 65536 + c.last
 coded_alias (Err r) = coded_uses (Err r)
 
+-- Of the values of a name, in 64 bits too: their number, or for many the largest that there is, which no refusal is.
+abbrev pub many : ℕ
+many = 18446744073709551615
+
+unfoldable pub coded_count : CountAnswer → ℕ
+coded_count (Ok (Exactly n)) = n
+coded_count (Ok Many) = many
+coded_count (Err r) = coded_uses (Err r)
+
 -- ---- The arithmetic of include/ludzepin.h, a definition for each function there. No proof reads that file, so its text is to be held
 -- against these lines: `answer >> 16` is a division by 2^16, `answer & 65535` its remainder; of uses likewise `answer >> 32` and the cast of
--- `answer` to 32 bits. Of an alias chain that cast is shifted by 16 for the names crossed.
+-- `answer` to 32 bits. Of an alias chain that cast is shifted by 16 for the names crossed. UINT64_MAX is many.
 abbrev pub refusal_in : ℕ → ℕ
 refusal_in answer = answer / 65536
 
@@ -69,6 +79,15 @@ alias_names_in answer = answer % 4294967296 / 65536
 
 abbrev pub alias_last_in : ℕ → ℕ
 alias_last_in answer = answer % 65536
+
+abbrev pub values_many_in : ℕ → Bool
+values_many_in answer = eqb answer many
+
+abbrev pub values_refusal_in : ℕ → ℕ
+values_refusal_in answer = cond (eqb answer many) 0 (answer / 4294967296)
+
+abbrev pub values_number_in : ℕ → ℕ
+values_number_in answer = answer % 4294967296
 
 -- What is read says what a verdict is: refusal 0 of one that passes, else the row, which is never 0, and the name.
 pub record SaysRefused (r : Refusal) (refusal named : ℕ) : Type 0 where
@@ -97,6 +116,12 @@ abbrev pub SaysAlias : AliasAnswer → (refusal named entries names last : ℕ) 
 SaysAlias (Ok c) refusal named entries names last = (refusal ≡ 0) × (names ≡ c.names) × (last ≡ c.last)
 SaysAlias (Err r) refusal named entries names last = SaysWhy r refusal named entries
 
+-- Of values: refusal 0, and either many or their number; else as of any answer.
+abbrev pub SaysCount : CountAnswer → (refusal named entries : ℕ) → (is_many : Bool) → (number : ℕ) → Type 0
+SaysCount (Ok (Exactly n)) refusal named entries is_many number = (refusal ≡ 0) × (is_many ≡ false) × (number ≡ n)
+SaysCount (Ok Many) refusal named entries is_many number = (refusal ≡ 0) × (is_many ≡ true)
+SaysCount (Err r) refusal named entries is_many number = SaysWhy r refusal named entries × (is_many ≡ false)
+
 -- What the header reads in a number is this verdict, or this answer. No two answers are read alike in a number (proofs/Read.antt), and no two
 -- verdicts of a check (exports, proofs/Settled.antt).
 abbrev pub ReadVerdict : Verdict → ℕ → Type 0
@@ -110,3 +135,6 @@ ReadUses a code = SaysAnswer a (uses_refusal_in code) (uses_name_in code) (uses_
 
 abbrev pub ReadAlias : AliasAnswer → ℕ → Type 0
 ReadAlias a code = SaysAlias a (uses_refusal_in code) (uses_name_in code) (uses_entries_in code) (alias_names_in code) (alias_last_in code)
+
+abbrev pub ReadCount : CountAnswer → ℕ → Type 0
+ReadCount a code = SaysCount a (values_refusal_in code) (uses_name_in code) (uses_entries_in code) (values_many_in code) (values_number_in code)

@@ -4,9 +4,9 @@
 
 ghost use Rattle.std.specs.Prelude.{◌≡◌, ℕ, ◌≤◌, ◌<◌, ◌/◌, ◌%◌};
 ghost use Rattle.refusals.specs.Refusal.{needed_of};
-ghost use Rattle.codes.specs.Coded.{coded, low_of, coded_by, coded_answer, coded_uses, coded_alias, Below, small, wide, SaysAnswer, ReadVerdict, ReadAnswer, ReadUses, ReadAlias};
+ghost use Rattle.codes.specs.Coded.{coded, low_of, coded_by, coded_answer, coded_uses, coded_alias, coded_count, Below, small, wide, SaysAnswer, ReadVerdict, ReadAnswer, ReadUses, ReadAlias, ReadCount};
 
-use refusals::{AliasAnswer, Answer, Refusal, Verdict};
+use refusals::{AliasAnswer, Answer, Count, CountAnswer, Refusal, Verdict};
 
 // A refusal's number stands above what it tells: a name's number, or the entries needed. The C interface asks for one number, so this is no enum.
 const BELOW: u64 = 65536;
@@ -80,6 +80,19 @@ pub fn alias_code(a: AliasAnswer) -> u64
 {
     match a {
         Ok(c) => u64::from(c.names) * BELOW + u64::from(c.last),
+        Err(why) => by_unit::<BELOW_USES>(Err(why)),
+    }
+}
+
+// The same for the values of a name: many is the largest number that there is.
+#[tactic(auto, unfolding(crate::specs::Coded::coded_count))]
+pub fn count_code(a: CountAnswer) -> u64
+    ensures answer { result ≡ coded_count a }
+    ensures read { ReadCount a result }
+{
+    match a {
+        Ok(Count::Exactly(n)) => u64::from(n),
+        Ok(Count::Many) => u64::MAX,
         Err(why) => by_unit::<BELOW_USES>(Err(why)),
     }
 }

@@ -2,18 +2,19 @@
 --     opened, fit-parts, kids-trees, ..     the first of trees, those below it, and those after it
 --     method-label, kids-methods, ..        methods of services
 --     node-trees, node-some, node-top       each node of a book
+--     one-type                              an opt holds one type
 use mathlib.Core.Path.{◌≡◌, refl, sym, ap, subst, ◌∙◌}
 use mathlib.Core.Bool.{true, ◌&&◌}
 use mathlib.Core.List.{List}
 use Prim.Native.Nat.{ℕ, zero, suc, ◌+◌, ◌≤◌, ◌<◌}
 use native.Mathlib.Decide.{dec_lt}
 use native.Mathlib.Omega.{arith}
-use lib.Dec.{T, leb→le}
+use lib.Dec.{T, eqb→eq, leb→le}
 use Rattle.labels.specs.declared.Label.TheVariants.{Id, Named, Unnamed}
 use Rattle.format.specs.declared.Place.{Place}
 use Rattle.format.specs.declared.Place.TheVariants.{Root, Method}
 use Rattle.format.specs.Forest.{Forest, breadth}
-use Rattle.format.specs.Node.{Kind, ClassT, Labelled, unlabelled, labelled, Node, label_value, label_kind}
+use Rattle.format.specs.Node.{Kind, OptT, ClassT, Labelled, unlabelled, labelled, Node, label_value, label_kind}
 use Rattle.format.specs.Encode.{Row, row_of}
 use Rattle.format.specs.Fits.{place_below, kind_fits, kind_allowed, label_fits, node_fits, forest_fits}
 use Rattle.format.specs.Layout.{row_at, siblings, node_of, kind_of, kinds}
@@ -176,6 +177,19 @@ module _ {ns roots ends' : List ℕ} {n : ℕ} (t : Trees ns roots ends' n (n + 
   pub node-top : Top ns n
   node-top = record { whole = (opened t h).here; class = class-child }
 
+-- an opt has one
+opt-has : (names kids : ℕ) (κ : Kind) → κ ≡ OptT → T (kind_fits names κ kids) → kids ≡ 1
+unfolding kind_fits
+opt-has names kids κ e f = eqb→eq kids 1 (subst (λ (k : Kind). T (kind_fits names k kids)) e f)
+
+module _ {ns roots ends' : List ℕ} {n : ℕ} (t : Trees ns roots ends' n (n + (row_at ns n).size)) (h : n < n + (row_at ns n).size) where
+  opt-child : (row_at ns n).kind ≡ 19 → breadth (siblings ns (n + 1) (n + (row_at ns n).size)) ≡ 1
+  unfolding node_fits node_of kind_of kinds
+  opt-child k =
+      let kids = siblings ns (n + 1) (n + (row_at ns n).size) in
+      let f = (both₃ (kind_fits t.walk.names (node_of (row_at ns n)).kind (breadth kids)) (kind_allowed t.place (node_of (row_at ns n)).kind) (label_fits t.walk.names t.place (node_of (row_at ns n)).label) (fit-parts t h).0.0).0 in
+      opt-has t.walk.names (breadth kids) (node_of (row_at ns n)).kind (rw k) f
+
 -- a table that has nothing
 pub blank-nodes : (count : ℕ) (table : List ℕ) → table ≡ blank_table → Roots table count
 blank-nodes count table e = rw e (record { long = blank-length; node = λ n h. absurd (h (blank-at n)) })
@@ -189,3 +203,11 @@ top {count = count} a h =
     let z = blank-nodes count blank_table refl in
     let e = no-ends count zero_table refl in
     node-top (node-trees a z e h) (node-some a z e h)
+
+-- An opt holds one type.
+pub one-type : {ns : List ℕ} {names count : ℕ} → AllTrees ns names count → (n : ℕ) → n < count → (row_at ns n).kind ≡ 19 →
+    breadth (siblings ns (n + 1) (n + (row_at ns n).size)) ≡ 1
+one-type {count = count} a n h k =
+    let z = blank-nodes count blank_table refl in
+    let e = no-ends count zero_table refl in
+    opt-child (node-trees a z e h) (node-some a z e h) k

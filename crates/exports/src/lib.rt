@@ -14,8 +14,9 @@ ghost use Rattle.listing.specs.Uses.{uses};
 ghost use Rattle.listing.specs.Alias.{alias};
 ghost use Rattle.listing.specs.Project.{project};
 ghost use Rattle.listing.specs.Empty.{emptiness};
-ghost use Rattle.refusals.specs.Handed.{alias_answer};
-ghost use Rattle.codes.specs.Coded.{coded, coded_alias, ReadVerdict, ReadAlias};
+ghost use Rattle.listing.specs.Values.{values};
+ghost use Rattle.refusals.specs.Handed.{alias_answer, count_answer};
+ghost use Rattle.codes.specs.Coded.{coded, coded_alias, coded_count, ReadVerdict, ReadAlias, ReadCount};
 ghost use Rattle.exports.specs.Handed.{limits_of, CodedAs, UsesCodedAs};
 
 use format::Limits;
@@ -173,4 +174,20 @@ pub extern "C" fn ludzepin_alias(
 {
     let limits = limits_of(names, nodes, definitions);
     codes::alias_code(questions::alias(book, limits, name))
+}
+
+// How many values the definition of a name has.
+#[unsafe(no_mangle)]
+pub extern "C" fn ludzepin_values(
+    book: &[u8],
+    names: u32,
+    nodes: u32,
+    definitions: u32,
+    name: u16,
+) -> u64
+    ensures answer { result ≡ coded_count (count_answer (on_bytes (λ b. values b name) (book.now under limits_of names nodes definitions))) }
+    ensures read { ReadCount (count_answer (on_bytes (λ b. values b name) (book.now under limits_of names nodes definitions))) result }
+{
+    let limits = limits_of(names, nodes, definitions);
+    codes::count_code(questions::values(book, limits, name))
 }

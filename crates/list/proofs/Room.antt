@@ -1,6 +1,6 @@
 -- How long what is printed can be: at most 512 names are listed, a name has at most 255 bytes, and a byte prints as three at most. Assumes
 -- nothing.
-use mathlib.Core.Path.{◌≡◌, sym, ap, ◌∙◌}
+use mathlib.Core.Path.{◌≡◌, sym, ap}
 use mathlib.Core.List.{List, [], ◌∷◌}
 use Prim.Native.Nat.{ℕ, suc, ◌+◌, ◌*◌, ◌≤◌, ◌<◌}
 use native.Mathlib.Omega.{arith}
@@ -12,7 +12,6 @@ use Rattle.refusals.specs.Outcome.{Outcome, refused, given, fit}
 use Rattle.print.specs.declared.Text.{Text}
 use Rattle.print.specs.Laid.{Lays, LaysWithin}
 use Rattle.print.proofs.Laws.{decimal-length, quoted-length, name-length}
-use Rattle.print.proofs.Laid.{all-before}
 use Rattle.print.proofs.Lays.{alias, within}
 use Rattle.std.specs.Prelude.{Ok}
 use Rattle.refusals.specs.Handed.{Answer, HandedAs}
@@ -68,17 +67,10 @@ given-length bs l marked h k =
       lines-length bs marked 1 l (omega arith),
     )
 
--- So the marks that are given are laid whole where there is that much room,
+-- So the marks that are given are laid whole where there is that much room.
 module _ (bs l : List ℕ) {old new : List ℕ} {r : Answer} (h : HandedAs (marks_asked bs l) old new r) (n : 1024 ≡ length old) where
   pub marks-laid : {count : ℕ} {a b : Text} → length l ≤ 512 → r ≡ Ok count → Lays (marked_text bs l (given (take count new))) a b →
       LaysWithin 409600 (marked_text bs l (marks_in bs l)) a b
   marks-laid {count} f e p =
       let same = marks-given bs l h n e in
       within (rw (sym same) (given-length bs l (take count new) f (given-few h n e))) (alias same p)
-
--- and so is all that is printed.
-pub printed-laid : {text part : List ℕ} {a b : Text} → 409600 ≤ length a.out.now → a.end ≡ 0 → LaysWithin 409600 text a b → part ≡ take b.end b.out.now → (part ≡ text) × (length part < 409600)
-printed-laid h e q f =
-    let p = rw e at q.laid in
-    let same = f ∙ all-before p.laid (omega (arith, p.few)) in
-    (same, rw same p.few)

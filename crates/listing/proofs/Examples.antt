@@ -7,9 +7,9 @@ use Prim.Native.Nat.{ℕ}
 use native.Mathlib.Omega.{arith}
 use lib.ListN.{length}
 use Rattle.labels.specs.declared.Label.{Label}
-use Rattle.labels.specs.declared.Label.TheVariants.{Named}
+use Rattle.labels.specs.declared.Label.TheVariants.{Named, Unnamed}
 use Rattle.format.specs.Forest.{Forest, end, tree, count, breadth, preorder, beside, map_forest, no_trees}
-use Rattle.format.specs.Node.{PrimType, Null, Nat, Kind, PrimT, VarT, OptT, VecT, RecordT, VariantT, FuncT, ServT, InitT, unlabelled, labelled, Node, prim_number, kind_number, mode_number, modes_number, value_number, label_kind, label_value}
+use Rattle.format.specs.Node.{PrimType, Null, Bool as BoolType, Nat, Nat8, Nat16, Text, Kind, PrimT, VarT, OptT, VecT, RecordT, VariantT, FuncT, ServT, InitT, unlabelled, labelled, Node, prim_number, kind_number, mode_number, modes_number, value_number, label_kind, label_value}
 use Rattle.format.specs.Book.{Definition, Main, TypeImport, InitArgs, Book, bodies, actors, trees}
 use Rattle.format.specs.Encode.{bytes16, bytes32, name_bytes, row_of, sized, row_bytes, entry_bytes, role_number, definition_entries, root_of, file_entries, names_bytes, nodes_bytes, definitions_bytes, files_bytes, toc_row, contents_bytes, encode}
 use Rattle.format.proofs.Logic.{clash}
@@ -18,6 +18,8 @@ use Rattle.refusals.specs.Lists.{flat}
 use Rattle.format.specs.Fits.{every, is_byte, is_name, before, ascending, place_below, kind_fits, not_init, kind_allowed, label_fits, node_fits, forest_fits, is_init, definition_fits, files_rise, is_init_role, is_main, file_fits, imports_fit, roles_fit, fits, Fits}
 use Rattle.refusals.specs.Verdict.{Verdict, passes}
 use Rattle.refusals.specs.declared.Refusal.TheVariants.{Unbound, NoActor}
+use Rattle.refusals.specs.declared.Count.{Count}
+use Rattle.refusals.specs.declared.Count.TheVariants.{Exactly, Many}
 use Rattle.judgement.specs.Environment.{role_at, keep, main_definitions, init_definitions, find_type, is_missing, merge_definitions, head_kind, head, is_func_kind, is_serv_kind, kids_of}
 use Rattle.judgement.specs.Aliases.{met, link, chain_from, chain, alias_end, root_passes, as_func, as_service}
 use Rattle.judgement.specs.Actor.{is_service_import, service_imports, first_actor, main_actor, is_class_kind, is_class, last_tree, below_class, init_tree}
@@ -35,8 +37,10 @@ use Rattle.listing.specs.InitList.{init_list}
 use Rattle.listing.specs.DraftList.{draft_definitions, draft_list}
 use Rattle.listing.specs.Empty.{emptiness}
 use Rattle.listing.specs.ReplaceEmpty.{replace_empty, Plain}
+use Rattle.listing.specs.Values.{values}
 use Rattle.listing.proofs.Empty.{empty-computed}
 use Rattle.listing.proofs.ReplaceEmpty.{replaced-computed}
+use Rattle.listing.proofs.Values.{values-computed}
 
 -- ---- The format, the check, the walk and the questions, each by every definition of it
 unfoldable pub fitting : Book → Bool
@@ -263,3 +267,88 @@ around-plain =
           everywhere-tree (λ e. each-tree (inl (1, refl)) (λ n kids b. beside-none b))
           (everywhere-tree (λ e. clash cc) (λ n kids o. occurs-end o) (λ n kids o. occurs-end o)) (λ n kids o. occurs-end o);
     }
+
+-- ---- Values
+counted : Book → ℕ → Outcome Count
+unfolding checked after values-computed
+counted = values
+
+-- Of one definition, that of a; of two, those of a and b.
+abbrev Values : Forest Node → Count → Type 0
+Values t c = values (alone t) 1 ≡ given c
+
+abbrev both : Forest Node → Forest Node → Book
+both t u = book (type 0 1 t ∷ (type 0 2 u ∷ [])) end
+
+abbrev prim : PrimType → Forest Node
+prim p = plain (PrimT p) end
+
+-- A type with parts, before others.
+abbrev part : Label → Kind → Forest Node → Forest Node → Forest Node
+part l κ kids next = tree (record { kind = κ; label = labelled l }) kids next
+
+-- type a = record { text; empty }: none, whatever the others have
+pub values-field : Values (plain RecordT (field (Named 0) (PrimT Text) (field (Named 2) (PrimT PrimType.Empty) end))) (Exactly 0)
+unfolding counted
+values-field = refl
+
+-- type a = vec empty; type a = vec null
+pub values-vec : Values (plain VecT (prim PrimType.Empty)) (Exactly 1) × Values (plain VecT (prim Null)) Many
+unfolding counted
+values-vec = (refl, refl)
+
+-- type a = opt bool
+pub values-opt : Values (plain OptT (prim BoolType)) (Exactly 3)
+unfolding counted
+values-opt = refl
+
+-- type a = variant { ""; b : bool }
+pub values-variant : Values (plain VariantT (field (Named 0) (PrimT Null) (field (Named 2) (PrimT BoolType) end))) (Exactly 3)
+unfolding counted
+values-variant = refl
+
+-- type a = record { bool; nat8 }; type a = record { nat16; nat16 }
+pub values-record :
+    Values (plain RecordT (field (Named 0) (PrimT BoolType) (field (Named 2) (PrimT Nat8) end))) (Exactly 512)
+    × Values (plain RecordT (field (Named 0) (PrimT Nat16) (field (Named 2) (PrimT Nat16) end))) Many
+unfolding counted
+values-record = (refl, refl)
+
+-- type a = opt a; type a = variant { "" : a; b }
+pub values-circle : Values (plain OptT (name 1)) Many × Values (plain VariantT (field (Named 0) (VarT 1) (field (Named 2) (PrimT Null) end))) Many
+unfolding counted
+values-circle = (refl, refl)
+
+-- type a = opt record { a; b }; type b = record { b }: a stands in itself beside what has no value
+abbrev without : Book
+without = both (plain OptT (plain RecordT (field (Named 0) (VarT 1) (field (Named 2) (VarT 2) end)))) (plain RecordT (field (Named 0) (VarT 2) end))
+
+pub values-without : (values without 1 ≡ given (Exactly 1)) × (values without 2 ≡ given (Exactly 0))
+unfolding counted
+values-without = (refl, refl)
+
+-- type a = b; type b = bool, of which a is counted in the last round that there is
+pub values-name : values (both (name 2) (prim BoolType)) 1 ≡ given (Exactly 2)
+unfolding counted
+values-name = refl
+
+-- b, which has no definition
+pub values-unbound : values (alone (prim Null)) 2 ≡ refused (Unbound 2)
+unfolding counted
+values-unbound = refl
+
+-- The largest number, 4,294,967,295 = 3 * 5 * 17 * 257 * 65,537, and one more by an opt.
+abbrev largest : Forest Node
+largest =
+    let pair : Forest Node = field (Named 0) (PrimT BoolType) (field (Named 2) (PrimT BoolType) end) in
+    let four : Forest Node = part (Named 0) RecordT pair (part (Named 2) RecordT pair end) in
+    plain RecordT
+    (part (Unnamed 0) OptT (prim BoolType)
+    (part (Unnamed 1) OptT (plain RecordT pair)
+    (part (Unnamed 2) OptT (plain RecordT four)
+    (part (Unnamed 3) OptT (prim Nat8)
+    (part (Unnamed 4) OptT (prim Nat16) end)))))
+
+pub values-largest : Values largest (Exactly 4294967295) × Values (plain OptT largest) Many
+unfolding counted
+values-largest = (refl, refl)

@@ -21,6 +21,14 @@ pub mod Uses
 pub mod Alias
 pub mod DefUse
 pub mod Project
+pub mod Capped
+pub mod Numbers
+pub mod ByKind
+pub mod Sizes
+pub mod ValueRules
+pub mod Endless
+pub mod Counting
+pub mod Values
 pub mod Rows
 pub mod Named
 pub mod Examples

@@ -1,5 +1,5 @@
--- What a question's refusal names is a name of the book, but for 3 of a number that marks or an alias chain were asked with, and 15. Assumes
--- that the book fits; one that was read from bytes does.
+-- What a question's refusal names is a name of the book, but for 3 of a number that marks, an alias chain or values were asked with, and 15.
+-- Assumes that the book fits; one that was read from bytes does.
 --     reachable-named                     a reachable name is one of the book
 --     list-names, init-list-names, ..     of each question
 --     list-bytes-names, ..                the same on bytes, which are refused by admission or a book
@@ -34,6 +34,7 @@ use Rattle.listing.specs.DraftList.{draft_definitions, draft_list, DraftRow}
 use Rattle.listing.specs.Marks.{marks_over, MarksRow}
 use Rattle.listing.specs.Uses.{uses, UsesRow}
 use Rattle.listing.specs.Alias.{alias, AliasRow}
+use Rattle.listing.specs.Values.{values, ValuesRow}
 use Rattle.listing.specs.Project.{project, ProjectRow}
 use Rattle.listing.specs.Empty.{emptiness, EmptinessRow}
 use Rattle.listing.specs.List as listed
@@ -42,6 +43,7 @@ use Rattle.listing.specs.DraftList as drafts
 use Rattle.listing.specs.Marks as marks
 use Rattle.listing.specs.Uses as used
 use Rattle.listing.specs.Alias as aliased
+use Rattle.listing.specs.Values as counted
 use Rattle.listing.specs.Project as projected
 use Rattle.listing.specs.Empty as empty
 use Rattle.listing.proofs.List.{list-in-row}
@@ -50,6 +52,7 @@ use Rattle.listing.proofs.DraftList.{draft-in-row}
 use Rattle.listing.proofs.Marks.{marks-in-row}
 use Rattle.listing.proofs.Uses.{uses-in-row}
 use Rattle.listing.proofs.Alias.{alias-in-row}
+use Rattle.listing.proofs.Values.{values-in-row}
 use Rattle.listing.proofs.Project.{listed-times, project-in-row}
 use Rattle.listing.proofs.Empty.{emptiness-in-row}
 
@@ -134,6 +137,13 @@ alias-row-names b fits n (aliased.unbound x) = inr (n, refl, Memᴰ.head refl)
 pub alias-names : (b : Book) → Fits b → (n : ℕ) {r : Refusal} → alias b n ≡ refused r → NamesAsked Unbound (length b.names) (n ∷ []) r
 alias-names b fits n e = alias-row-names b fits n (alias-in-row b fits n e)
 
+values-row-names : (b : Book) → Fits b → (n : ℕ) {r : Refusal} → ValuesRow b n r → NamesAsked Unbound (length b.names) (n ∷ []) r
+values-row-names b fits n (counted.checked x) = inl (row-names b fits x)
+values-row-names b fits n (counted.unbound x) = inr (n, refl, Memᴰ.head refl)
+
+pub values-names : (b : Book) → Fits b → (n : ℕ) {r : Refusal} → values b n ≡ refused r → NamesAsked Unbound (length b.names) (n ∷ []) r
+values-names b fits n e = values-row-names b fits n (values-in-row b fits n e)
+
 -- ---- On bytes
 module _ (bs : Source) (places : ℕ) {r : Refusal} where
   pub list-bytes-names : fit places (on_bytes list bs) ≡ refused r → InRow bs (λ b. NamesPlace (length b.names)) r
@@ -159,3 +169,6 @@ module _ (bs : Source) (places : ℕ) {r : Refusal} where
 
 pub alias-bytes-names : (bs : Source) (n : ℕ) {r : Refusal} → on_bytes (λ b. alias b n) bs ≡ refused r → InRow bs (λ b. NamesAsked Unbound (length b.names) (n ∷ [])) r
 alias-bytes-names bs n = asked-in-row bs (λ b. alias b n) (λ b. NamesAsked Unbound (length b.names) (n ∷ [])) (λ b fits. alias-names b fits n)
+
+pub values-bytes-names : (bs : Source) (n : ℕ) {r : Refusal} → on_bytes (λ b. values b n) bs ≡ refused r → InRow bs (λ b. NamesAsked Unbound (length b.names) (n ∷ [])) r
+values-bytes-names bs n = asked-in-row bs (λ b. values b n) (λ b. NamesAsked Unbound (length b.names) (n ∷ [])) (λ b fits. values-names b fits n)

@@ -4,6 +4,7 @@
 --     go-each                             a definition is gone through by its references, one after the other
 --     infer-marks, infer-unbound          the marks over any list, or its first name without definition
 --     sorted-says, sorted-ascends         numbers of a set, ascending
+--     sorted-last                         and one number more
 use mathlib.Core.Path.{◌≡◌, refl, sym, ap, subst, ◌∙◌}
 use mathlib.Core.Logic.{◌⊎◌, inl, inr, ⊎_elim, ⊎_map, ◌↔◌}
 use mathlib.Core.Bool.{Bool, true, false, cond}
@@ -11,6 +12,7 @@ use mathlib.Core.List.Memᴰ
 use mathlib.Core.List.{List, [], ◌∷◌, ◌++◌, append_assoc, map, Memᴰ}
 use Prim.Native.Nat.{ℕ, zero, suc, ◌+◌, ◌≤◌, ◌<◌}
 use native.Mathlib.Decide.{ℕ_discrete}
+use native.Mathlib.Nat.{add-zero}
 use native.Mathlib.Omega.{arith}
 use lib.Dec.{T}
 use lib.ListN.{length, length-append}
@@ -337,3 +339,23 @@ sorted-ascends set n (suc k) = look (member n set) (sorted-ascends set (suc n) k
     look : (b : Bool) → Ascends (sorted set (suc n) k) → Ascends (cond b (n ∷ sorted set (suc n) k) (sorted set (suc n) k))
     look true a = (λ m i. omega (arith, ((sorted-says set (suc n) k m).0 i).1), a)
     look false a = a
+
+-- A number, if it is in the set.
+abbrev pub if_in : List ℕ → ℕ → List ℕ
+if_in set n = cond (member n set) (n ∷ []) []
+
+sorted-from : (set : List ℕ) (n k : ℕ) → sorted set n (suc k) ≡ sorted set n k ++ if_in set (n + k)
+unfolding sorted
+sorted-from set n zero = rw (add-zero n) refl
+sorted-from set n (suc k) = look (member n set) (sorted-from set (suc n) k ∙ ap (λ (m : ℕ). sorted set (suc n) k ++ if_in set m) (omega arith))
+  where
+    last : List ℕ
+    last = if_in set (n + suc k)
+
+    look : (b : Bool) → sorted set (suc n) (suc k) ≡ sorted set (suc n) k ++ last →
+        cond b (n ∷ sorted set (suc n) (suc k)) (sorted set (suc n) (suc k)) ≡ cond b (n ∷ sorted set (suc n) k) (sorted set (suc n) k) ++ last
+    look true e = ap (λ (l : List ℕ). n ∷ l) e
+    look false e = e
+
+pub sorted-last : (set : List ℕ) (n : ℕ) → sorted set 0 (suc n) ≡ sorted set 0 n ++ if_in set n
+sorted-last set n = sorted-from set 0 n ∙ ap (λ (m : ℕ). sorted set 0 n ++ if_in set m) (omega arith)

@@ -1,6 +1,6 @@
 -- The other side of the questions' rows: what lies in a row is not answered. Assumes that the book fits; one that was read from bytes does.
 --     list-refuses, init-list-refuses, ..      a row of the question, and no list is given
---     alias-refuses                            the same of the question that gives no list
+--     alias-refuses, values-refuses            the same of the questions that give no list
 --     bytes-unanswered, bytes-not-given        the same on bytes, of any question
 use mathlib.Core.Path.{◌≡◌, refl, sym, ◌∙◌}
 use mathlib.Core.Logic.{◌⊎◌, inl, inr}
@@ -28,6 +28,7 @@ use Rattle.listing.specs.InitList.{init_list, InitListRow}
 use Rattle.listing.specs.Marks.{marks_over, MarksRow}
 use Rattle.listing.specs.Uses.{uses, UsesRow}
 use Rattle.listing.specs.Alias.{alias, AliasRow}
+use Rattle.listing.specs.Values.{values, ValuesRow}
 use Rattle.listing.specs.Project.{project, ProjectRow}
 use Rattle.listing.specs.Empty.{emptiness, EmptinessRow}
 use Rattle.listing.specs.List as listed
@@ -35,6 +36,7 @@ use Rattle.listing.specs.InitList as inits
 use Rattle.listing.specs.Marks as marks
 use Rattle.listing.specs.Uses as used
 use Rattle.listing.specs.Alias as aliased
+use Rattle.listing.specs.Values as counted
 use Rattle.listing.specs.Project as projected
 use Rattle.listing.specs.Empty as empty
 use Rattle.listing.proofs.Room.{short-refuses, actor-lacks}
@@ -43,6 +45,7 @@ use Rattle.listing.proofs.InitList.{init-says}
 use Rattle.listing.proofs.Marks.{marks-unbound, marks-after}
 use Rattle.listing.proofs.Uses.{uses-after}
 use Rattle.listing.proofs.Alias.{alias-unbound, alias-after}
+use Rattle.listing.proofs.Values.{values-unbound, values-after}
 use Rattle.listing.proofs.Project.{project-absent, project-after}
 use Rattle.listing.proofs.Empty.{emptiness-after}
 
@@ -128,3 +131,8 @@ module _ (b : Book) (fits : Fits b) (places : ℕ) where
 pub alias-refuses : (b : Book) → Fits b → (n : ℕ) {r : Refusal} → AliasRow b n r → NotGiven (alias b n)
 alias-refuses b fits n (aliased.checked x) = checked-not-given (λ c. alias c n) (alias-after n) b fits x
 alias-refuses b fits n (aliased.unbound x) = refused-not-given (alias b n) ((alias-unbound b fits x.0 n).1 x.1)
+
+-- So is 3 of the values of a name: `values-unbound`.
+pub values-refuses : (b : Book) → Fits b → (n : ℕ) {r : Refusal} → ValuesRow b n r → NotGiven (values b n)
+values-refuses b fits n (counted.checked x) = checked-not-given (λ c. values c n) (values-after n) b fits x
+values-refuses b fits n (counted.unbound x) = refused-not-given (values b n) ((values-unbound b n x.0).1 x.1)

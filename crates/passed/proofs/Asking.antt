@@ -10,10 +10,11 @@ use Prim.Native.Nat.{ℕ}
 use Rattle.refusals.specs.declared.Refusal.{Refusal}
 use Rattle.refusals.specs.declared.Refusal.TheVariants.{NoActor}
 use Rattle.std.specs.Prelude.{Result, Ok, Err, IfOk}
+use Rattle.refusals.specs.declared.Count.{Count}
 use Rattle.refusals.specs.declared.Crossed.{Crossed}
 use Rattle.refusals.specs.Verdict.{Verdict, and_then}
 use Rattle.refusals.specs.Outcome.{Outcome, refused, given, after, asked, judged, fit}
-use Rattle.refusals.specs.Handed.{Answer, Use, answer_of, left_in, HandedAs, uses_left, UsesAs, alias_answer}
+use Rattle.refusals.specs.Handed.{Answer, Use, answer_of, left_in, HandedAs, uses_left, UsesAs, alias_answer, count_answer}
 use Rattle.format.specs.Forest.{end}
 use Rattle.format.specs.Book.{Book}
 use Rattle.format.specs.Layout.{Layout, broken, whole, layout}
@@ -116,6 +117,10 @@ uses-as {old = old} {new = new} {r = r} e x = subst (λ q. UsesAs q old new r) (
 pub alias-refused : {o : Outcome Crossed} {r : Refusal} → o ≡ refused r → Err r ≡ alias_answer o
 unfolding alias_answer
 alias-refused e = rw e
+
+pub count-refused : {o : Outcome Count} {r : Refusal} → o ≡ refused r → Err r ≡ count_answer o
+unfolding count_answer
+count-refused e = rw e
 
 -- ---- The init check, which is no question but starts in the same way
 pub init-stops : (bs : Source) {why : Refusal} → check_bytes bs ≡ Err why → init_check_bytes bs ≡ Err why

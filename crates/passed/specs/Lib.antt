@@ -7,3 +7,4 @@ pub mod Answers
 pub mod Drafts
 pub mod Uses
 pub mod Alias
+pub mod Values

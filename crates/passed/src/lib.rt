@@ -13,6 +13,7 @@ pub mod list;
 pub mod marks;
 pub mod project;
 pub mod uses;
+pub mod values;
 
 use book::admitted::AdmittedBook;
 use format::Limits;

@@ -1,8 +1,9 @@
--- Laws of a buffer with its place: nothing, one byte, and one text after another. Assumes nothing.
+-- Laws of a buffer with its place: nothing, one byte, one text after another, and all that was laid. Assumes nothing.
 use mathlib.Core.Path.{◌≡◌, refl, ◌∙◌}
 use mathlib.Core.List.{List, [], ◌∷◌, ◌++◌}
 use Prim.Native.Nat.{ℕ, ◌+◌, ◌≤◌, ◌<◌}
 use native.Mathlib.Numerals.{add-one}
+use native.Mathlib.Omega.{arith}
 use lib.ListN.{length, get_or, take}
 use lib.Seq.{take-suc}
 use Rattle.print.specs.declared.Text.{Text}
@@ -32,3 +33,11 @@ wider h e p = record { laid = laid.wider h e p.laid; same = p.same }
 -- One byte more of a text.
 pub more : {a b c : Text} (text : List ℕ) (i : ℕ) → i < length text → Lays (take i text) a b → Lays (get_or text i 0 ∷ []) b c → Lays (take (i + 1) text) a c
 more text i h p q = rw (add-one i, take-suc text i 0 h) (then p q)
+
+-- From the buffer's front on, a text that is shorter than the buffer is all that was laid.
+pub whole : {room : ℕ} {text part : List ℕ} {a b : Text} → room ≤ length a.out.now → a.end ≡ 0 → LaysWithin room text a b →
+    part ≡ take b.end b.out.now → (part ≡ text) × (length part < room)
+whole h e q f =
+    let p = rw e at q.laid in
+    let same = f ∙ laid.all-before p.laid (omega (arith, h, p.few)) in
+    (same, rw same p.few)

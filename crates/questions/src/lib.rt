@@ -1,11 +1,12 @@
 // The questions of documents 01 and 02 on a book of bytes, under the limits of a terminal model. An entry point is admission, the check (for init
 // arguments the init check) and the question on the book that passed, which has a module of its own; an accepted question gives the number of
-// its entries, which stand at the front of the lent list, and a refusal leaves the list as it was. An alias chain is no list, and is given as it is.
+// its entries, which stand at the front of the lent list, and a refusal leaves the list as it was. An alias chain and a count
+// are no lists, and are given as they are.
 // Book and limits are two parameters, as C and the programs have them: a struct of both would be put together for one call.
 #![tactic(auto)]
 
 ghost use Rattle.std.specs.Prelude.{◌≡◌};
-ghost use Rattle.refusals.specs.Handed.{HandedAs, UsesAs, alias_answer};
+ghost use Rattle.refusals.specs.Handed.{HandedAs, UsesAs, alias_answer, count_answer};
 ghost use Rattle.format.specs.Admission.{◌under◌, on_bytes};
 ghost use Rattle.judgement.specs.Check.{check_bytes, init_check_bytes};
 ghost use Rattle.listing.specs.List.{list};
@@ -16,10 +17,11 @@ ghost use Rattle.listing.specs.Uses.{uses};
 ghost use Rattle.listing.specs.Alias.{alias};
 ghost use Rattle.listing.specs.Project.{project};
 ghost use Rattle.listing.specs.Empty.{emptiness};
+ghost use Rattle.listing.specs.Values.{values};
 
 use format::Limits;
 use passed::CheckedBook;
-use refusals::{AliasAnswer, Answer, Verdict};
+use refusals::{AliasAnswer, Answer, CountAnswer, Verdict};
 
 // `CheckedBook::pass(book, limits)?`, written out: the borrow checker has no rule yet for a `?` on a `CheckedBook`, which holds references, facts and
 // a list with a model.
@@ -107,4 +109,12 @@ pub fn emptiness(book: &[u8], limits: Limits, out: &mut [u16]) -> Answer
     ensures { HandedAs (on_bytes emptiness (book.now under limits)) out.old out.new result }
 {
     pass!(book, limits).emptiness(out)
+}
+
+// How many values of finite height the definition of a name has, many from 4,294,967,296 on: the check's refusals, and 3 for a name that has no
+// definition. No actor is needed.
+pub fn values(book: &[u8], limits: Limits, name: u16) -> CountAnswer
+    ensures { result ≡ count_answer (on_bytes (λ b. values b name) (book.now under limits)) }
+{
+    pass!(book, limits).values(name)
 }

@@ -1,16 +1,21 @@
 -- How an answer is handed over: a number or a refusal, and the lent list. Definitions; assumes nothing.
 use Rattle.std.specs.Prelude.{◌≡◌, List, [], ◌∷◌, ◌++◌, ℕ, ◌*◌, ◌/◌, length, drop, Result, Ok, Err}
 use Rattle.refusals.specs.declared.Refusal.{Refusal}
+use Rattle.refusals.specs.declared.Count.{Count}
 use Rattle.refusals.specs.declared.Crossed.{Crossed}
 use Rattle.refusals.specs.Lists.{flat}
 use Rattle.refusals.specs.Outcome.{Outcome, refused, given, fit}
 
--- What a question answers: how many entries there are, or why there are none; and what the one about an alias chain does.
+-- What a question answers: how many entries there are, or why there are none; what the one about an alias chain does, and the one about the
+-- values of a name.
 abbrev pub Answer : Type 0
 Answer = Result ℕ Refusal
 
 abbrev pub AliasAnswer : Type 0
 AliasAnswer = Result Crossed Refusal
+
+abbrev pub CountAnswer : Type 0
+CountAnswer = Result Count Refusal
 
 -- How many entries there are, or why there are none.
 unfoldable pub answer_of : {A : Type 0} → Outcome (List A) → Answer
@@ -48,8 +53,12 @@ pub record UsesAs (o : Outcome (List Use)) (old new : List ℕ) (r : Answer) : T
   pub answer : r ≡ answer_of (fit (length old / 3) o)
   pub left : new ≡ uses_left (fit (length old / 3) o) old
 
--- ---- An alias chain, which takes no list
+-- ---- What takes no list: an alias chain, a count
 
 unfoldable pub alias_answer : Outcome Crossed → AliasAnswer
 alias_answer (refused r) = Err r
 alias_answer (given c) = Ok c
+
+unfoldable pub count_answer : Outcome Count → CountAnswer
+count_answer (refused r) = Err r
+count_answer (given c) = Ok c

@@ -148,6 +148,16 @@ pub struct Crossed {
 // What the question about an alias chain answers.
 pub type AliasAnswer = Result<Crossed, Refusal>;
 
+// How many values a type has: a number, or many, which is more than a u32 holds.
+#[derive(Clone, Copy, PartialEq, Eq, Debug)]
+pub enum Count {
+    Exactly(u32),
+    Many,
+}
+
+// What the question about the values of a name answers.
+pub type CountAnswer = Result<Count, Refusal>;
+
 // Hands a list over into a lent one; 16 where that is shorter.
 pub fn hand(list: &[u16], out: &mut [u16]) -> Answer
     requires { length list.now < 4294967296 }

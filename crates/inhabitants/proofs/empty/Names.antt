@@ -32,7 +32,7 @@ use Rattle.book.specs.Tables.{flagged, is_set}
 use Rattle.environment.specs.Tables.{Binds}
 use Rattle.environment.specs.declared.scope.Scope.{Scope}
 use Rattle.environment.proofs.Links.{found-none, found-some}
-use Rattle.inhabitants.specs.declared.filling.Filling.{Filling}
+use Rattle.inhabitants.specs.declared.waiting.Waiting.{Waiting}
 use Rattle.inhabitants.specs.Empty.{EmptiedAs}
 use Rattle.inhabitants.specs.Filling.{NodeFills, FillingOf}
 
@@ -41,15 +41,15 @@ unfoldable pub flag_of : List ℕ → ℕ → ℕ
 flag_of left root = cond (eqb root 65535) 0 (cond (eqb (get_or left root 0) 0) 0 1)
 
 -- The flags of the names before n are set.
-pub record FlagsLeft (s : Scope) (f : Filling) (flags : List ℕ) (n : ℕ) : Type 0 where
+pub record FlagsLeft (s : Scope) (f : Waiting) (flags : List ℕ) (n : ℕ) : Type 0 where
   pub long : length flags ≡ 1024
   pub done : (m : ℕ) → m < n → get_or flags m 0 ≡ flag_of f.left (get_or s.roots.now m 65535)
   pub blank : (m : ℕ) → n ≤ m → get_or flags m 0 ≡ 0
 
-pub flags-start : (s : Scope) (f : Filling) → FlagsLeft s f (replicate 1024 0) 0
+pub flags-start : (s : Scope) (f : Waiting) → FlagsLeft s f (replicate 1024 0) 0
 flags-start s f = record { long = length-replicate {A = ℕ} 1024 0; done = λ m b. absurd (omega arith); blank = λ m b. everywhere 1024 m 0 }
 
-module _ {s : Scope} {f : Filling} {flags : List ℕ} {n : ℕ} (h : FlagsLeft s f flags n) where
+module _ {s : Scope} {f : Waiting} {flags : List ℕ} {n : ℕ} (h : FlagsLeft s f flags n) where
   -- a name without definition keeps its flag
   pub flags-none : get_or s.roots.now n 65535 ≡ 65535 → FlagsLeft s f flags (n + 1)
   unfolding flag_of
@@ -74,7 +74,7 @@ unfolding flagged sorted
 flagged-sorted flags set n zero h = refl
 flagged-sorted flags set n (suc k) h = rw (h n (omega arith), flagged-sorted flags set (suc n) k (λ m b. h m (omega arith))) refl
 
-module _ {s : Scope} {f : Filling} (fills : FillingOf s f) {flags : List ℕ} {n : ℕ} (h : FlagsLeft s f flags n) (all : s.names ≤ n) where
+module _ {s : Scope} {f : Waiting} (fills : FillingOf s f) {flags : List ℕ} {n : ℕ} (h : FlagsLeft s f flags n) (all : s.names ≤ n) where
   module _ (ds : List Definition) (b : Binds s.rows.now s.roots.now ds) (m : ℕ) where
     root : ℕ
     root = get_or s.roots.now m 65535

@@ -1,30 +1,36 @@
--- When the type at a node fills, by its kind. Assumes nothing.
---     node-record, node-variant, node-empty, kind-of      a kind by its number, and its number
---     leaf-fills, fields-fill, case-fills     a leaf, a record, a variant
---     root-fills, row-fills                   a name, by its definition and by another row of the same
+-- When the type at a node fills, by its kind, and what it waits for. Assumes nothing.
+--     node-opt, .. node-empty, kind-of                    a kind by its number, and its number
+--     leaf-fills, fields-fill, case-fills, root-fills     a leaf, a record, a variant, and a name by its definition
+--     waits-name, .. waits-leaf                           what it waits for
 use mathlib.Core.Path.{◌≡◌, refl, sym, ap, subst, ◌∙◌}
 use mathlib.Core.List.{List, Memᴰ}
 use Prim.Native.Nat.{ℕ, ◌+◌, ◌<◌}
+use borrow.Author.Tests.{ne_eqb}
 use Rattle.format.specs.Forest.{Forest}
-use Rattle.format.specs.Node.{PrimType, Kind, PrimT, VarT, RecordT, VariantT, kind_number}
+use Rattle.format.specs.Node.{PrimType, Kind, PrimT, OptT, RecordT, VariantT, kind_number}
 use Rattle.format.specs.Node as node
 use Rattle.format.specs.Book.{Definition}
 use Rattle.format.specs.Occurs.{Beside}
 use Rattle.format.specs.Encode.{Row}
 use Rattle.format.specs.Layout.{row_at, node_of, siblings, kind_of, kinds}
-use Rattle.format.proofs.Logic.{clash}
 use Rattle.format.proofs.Nodes.{kind-number}
 use Rattle.format.proofs.References.{node-var}
 use Rattle.format.proofs.Stored.{tree-opens}
-use Rattle.judgement.specs.Environment.{find_type, body}
-use Rattle.listing.specs.Empty.{AllElse, Fills, of_fields, of_case, of_name, of_else}
+use Rattle.judgement.specs.Environment.{body}
+use Rattle.listing.specs.Empty.{AllElse, Fills, of_fields, of_case, of_else}
 use Rattle.listing.proofs.Filling.{name-fills}
-use Rattle.environment.specs.Tables.{Nodes, Binds, found_at}
+use Rattle.environment.specs.Tables.{Nodes, Binds}
 use Rattle.environment.proofs.Links.{found-some}
-use Rattle.inhabitants.specs.Filling.{within, kind_at, root_at, FillsAt}
-use Rattle.inhabitants.proofs.filling.Places.{beside-place, place-beside}
+use Rattle.inhabitants.specs.declared.waiting.Wait.TheVariants.{Nothing, Ever, All, One, Definition as OfName}
+use Rattle.inhabitants.specs.Waiting.{within, kind_at, root_at}
+use Rattle.inhabitants.specs.Filling.{filling_wait, FillsAt}
+use Rattle.inhabitants.proofs.waiting.Places.{beside-place, place-beside}
 
 -- ---- Kinds
+pub node-opt : (r : Row) → r.kind ≡ 19 → (node_of r).kind ≡ OptT
+unfolding node_of kind_of kinds
+node-opt r e = rw e refl
+
 pub node-record : (r : Row) → r.kind ≡ 21 → (node_of r).kind ≡ RecordT
 unfolding node_of kind_of kinds
 node-record r e = rw e refl
@@ -53,13 +59,6 @@ node-leaf r h a b c d =
       no_name = λ m e. b (sym is ∙ ap kind_number e);
     }
 
--- what fills as one name does as any other that stands for the same
-same-definition : (ds : List Definition) {a b : ℕ} {k : Kind} {kids none : Forest node.Node} → Fills ds k kids → k ≡ VarT a → find_type ds a ≡ find_type ds b → Fills ds (VarT b) none
-same-definition ds (of_fields h) e q = clash cc
-same-definition ds (of_case b x) e q = clash cc
-same-definition ds {a} (of_name {m = m} f x) e q = let p : a ≡ m = cc in of_name (sym q ∙ ap (find_type ds) p ∙ f) x
-same-definition ds {a} (of_else x) e q = absurd (x.no_name a e)
-
 module _ {ns : List ℕ} {names nodes : ℕ} (x : Nodes ns names nodes) (roots : List ℕ) {n : ℕ} (inside : n < nodes) where
   -- of a kind
   as-kind : {k : Kind} → (node_of (row_at ns n)).kind ≡ k →
@@ -81,14 +80,30 @@ module _ {ns : List ℕ} {names nodes : ℕ} (x : Nodes ns names nodes) (roots :
   pub case-fills : kind_at ns n ≡ 22 → {c : ℕ} → Memᴰ c (within ns n) → FillsAt ns roots c → FillsAt ns roots n
   case-fills e i f = as-kind (node-variant (row_at ns n) e) (λ ds b. of_case (place-beside (x.tree n inside).whole i) (f ds b))
 
-  module _ (k : kind_at ns n ≡ 18) where
-    pub root-fills : {root : ℕ} → root_at ns roots n ≡ root → (root ≡ 65535 → ⊥) → root < nodes → FillsAt ns roots root → FillsAt ns roots n
-    root-fills {root} e some l f =
-        as-kind (node-var (row_at ns n) k) (λ ds b.
-        (name-fills ds (siblings ns (n + 1) (n + (row_at ns n).size))
-        (b (row_at ns n).value ∙ ap (found_at ns) e ∙ found-some ns root some ∙ ap body (tree-opens (x.tree root l).whole))).1 (f ds b))
+  pub root-fills : kind_at ns n ≡ 18 → (root_at ns roots n ≡ 65535 → ⊥) → root_at ns roots n < nodes → FillsAt ns roots (root_at ns roots n) → FillsAt ns roots n
+  root-fills k some l f =
+      as-kind (node-var (row_at ns n) k) (λ ds b.
+      (name-fills ds (siblings ns (n + 1) (n + (row_at ns n).size))
+      (b (row_at ns n).value ∙ found-some ns (root_at ns roots n) some ∙ ap body (tree-opens (x.tree (root_at ns roots n) l).whole))).1 (f ds b))
 
-    pub row-fills : (m : ℕ) → kind_at ns m ≡ 18 → root_at ns roots m ≡ root_at ns roots n → FillsAt ns roots m → FillsAt ns roots n
-    row-fills m j e f =
-        as-kind (node-var (row_at ns n) k) (λ ds b.
-        same-definition ds (f ds b) (node-var (row_at ns m) j) (b (row_at ns m).value ∙ ap (found_at ns) e ∙ sym (b (row_at ns n).value)))
+-- ---- What a node waits for
+module _ (k : ℕ) where
+  pub waits-name : k ≡ 18 → filling_wait k ≡ OfName
+  unfolding filling_wait
+  waits-name e = rw e refl
+
+  pub waits-record : k ≡ 21 → filling_wait k ≡ All
+  unfolding filling_wait
+  waits-record e = rw e refl
+
+  pub waits-variant : k ≡ 22 → filling_wait k ≡ One
+  unfolding filling_wait
+  waits-variant e = rw e refl
+
+  pub waits-empty : k ≡ 16 → filling_wait k ≡ Ever
+  unfolding filling_wait
+  waits-empty e = rw e refl
+
+  pub waits-leaf : (k ≡ 16 → ⊥) → (k ≡ 18 → ⊥) → (k ≡ 21 → ⊥) → (k ≡ 22 → ⊥) → filling_wait k ≡ Nothing
+  unfolding filling_wait
+  waits-leaf a b c d = rw (ne_eqb k 18 b, ne_eqb k 21 c, ne_eqb k 22 d, ne_eqb k 16 a) refl

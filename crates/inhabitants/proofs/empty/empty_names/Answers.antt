@@ -14,13 +14,13 @@ other true = refl
 other false = refl
 
 pub loop-n-init : goal.loop-n-init
-loop-n-init c = flags-start c.args.scope c.fill.new.self
+loop-n-init c = flags-start c.args.scope c.fill.new.filling
 
 pub loop-n-preserved : goal.loop-n-preserved
 loop-n-preserved c =
     elim c.match-root_of.branch [
       | in-Some w ↦ rw w.flags-is (flags-some c.loop-n.invariant (omega (arith, c.loop-n-test.true, c.args.scope.whole.few_names)) w.in-Some.ensures.some.0 w.in-Some.ensures.some.1
-          (ap (λ (b : Bool). bool_byte (not b)) w.fills.ensures ∙ other (eqb (get_or c.fill.new.self.left w.in-Some.root 0) 0)))
+          (ap (λ (b : Bool). bool_byte (not b)) w.settled.ensures ∙ other (eqb (get_or c.fill.new.filling.left w.in-Some.root 0) 0)))
       | in_default w ↦ rw w.flags-is (flags-none c.loop-n.invariant w.in_default.ensures.none)
     ]
 

@@ -1,0 +1,1 @@
+-- `NodeValues::count_node` meets its contract. Assumes nothing.
