@@ -105,6 +105,12 @@ def many_methods():
     return f"{made.text}\n{made.service(4096, arguments=3)}"
 
 
+def shared_function():
+    """Each name a method's, all of them of one function, which has the nodes that are left as its arguments."""
+    methods = " ".join(f"{name} : f;" for name in ['""', "a", "f", *(f"m{i}" for i in range(1021))])
+    return f"type a = nat; type f = func (repeat 3069 {{ a, }}) -> (); service : {{ {methods} }}"
+
+
 # Init files
 
 # What the ledger is installed with: definitions that main has too, and two more.
@@ -182,6 +188,7 @@ def sources():
     yield "full-mixed", mixed(512, 4096)
     yield "uses-few", few_methods()
     yield "uses-many", many_methods()
+    yield "uses-shared", shared_function()
     yield "init-small", with_init(SMALL, SMALL_INIT)
     yield "init-full", init_alone(500, 4010)
     yield "init-merged", init_merged(256, 4096)

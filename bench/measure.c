@@ -17,7 +17,8 @@ enum { STACK = 8 << 20, FILL = 0xa5, MEASURED_US = 200000, USES = 3143680 };
 
 static uint8_t book[LUDZEPIN_BYTES + 1];
 static uint16_t listed[LUDZEPIN_DEFINITIONS], out[3 * USES];
-static struct asked asked = {.book = book, .limits = {LUDZEPIN_FULL}, .list = listed, .out = out, .places = 3 * USES};
+static uint32_t counts[LUDZEPIN_DEFINITIONS];
+static struct asked asked = {.book = book, .limits = {LUDZEPIN_FULL}, .list = listed, .out = out, .places = 3 * USES, .counts = counts};
 static const struct question *question;
 static uint64_t answer;
 

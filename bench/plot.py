@@ -20,7 +20,7 @@ DOCUMENTS = os.path.join(HERE, "tables.md"), os.path.join(HERE, "..", "docs", "F
 
 SIZES = ("small", "medium", "full", "full-mixed")
 INITS = ("init-small", "init-full", "init-merged", "init-aliases")
-USES = (*SIZES, "uses-few", "uses-many")
+USES = (*SIZES, "uses-few", "uses-many", "uses-shared")
 SERIES = ("size", "nodes", "definitions", "depth", "methods", "imports", "aliases")
 QUESTIONS = ("check", "list")
 
@@ -114,17 +114,17 @@ def summary(books):
 
 
 def parts_of_uses(books):
-    """What the uses of one name take, and what those of all would if the book were checked once."""
+    """What is counted and how much of that the list takes, and what the uses of one name take."""
     rows = []
     for book in books.values():
         if "our uses" in book.median:
-            each, check = book.median["our uses"] / book.names, book.median["our check"]
-            once = check + book.names * max(0, each - check)
-            rows.append([book.name.replace("-", " "), str(book.names), str(book.definitions), f"{int(book.entries['our uses']):,}",
-                         microseconds(book.median["our uses"]), microseconds(book.median["Rust uses"]), number(book.ratio("uses")),
-                         microseconds(each), microseconds(check), microseconds(once), number(book.median["Rust uses"] / once)])
-    table("parts of uses", ["uses of all names", "names", "definitions", "entries", "ours", "Rust", "Rust / ours", "ours for one name",
-                            "of it the check", "checked once", "Rust / that"], rows)
+            listed = int(book.entries["our uses of each"])
+            each = book.median["our uses of each"] / listed
+            rows.append([book.name.replace("-", " "), str(book.definitions), str(listed), f"{int(book.entries['our uses']):,}",
+                         *(microseconds(book.median[f"our {question}"]) for question in ("check", "list", "uses")),
+                         microseconds(book.median["Rust uses"]), number(book.ratio("uses")), microseconds(each)])
+    head = ["uses of all names", "definitions", "listed", "uses", "check", "list", "ours", "Rust", "Rust / ours", "of one name"]
+    table("parts of uses", head, rows)
 
 
 def firsts(books):

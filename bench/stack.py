@@ -46,6 +46,7 @@ def of_book(lines):
 PROGRAMS = {
     "list": ([LIST_SOURCES, CHECK_SOURCES], of_book(answers.listing)),
     "values": ([LIST_SOURCES, CHECK_SOURCES], of_book(answers.valuing)),
+    "uses_report": ([LIST_SOURCES, CHECK_SOURCES], of_book(answers.reporting)),
     "answer_batch": ([SOURCES, CHECK_SOURCES, LIST_SOURCES], of_batch(answer_lines)),
 }
 

@@ -16,6 +16,7 @@ struct asked {
     uint16_t name, method; /* for values, uses and alias, and for a projection to it alone */
     uint16_t *out;
     size_t places;
+    uint32_t *counts; /* for use counts: as many places, but no more than are ever needed */
 };
 
 /* The book and the limits, which each question takes first. */
@@ -29,13 +30,16 @@ static uint64_t ask_init_list(const struct asked *a) { return ludzepin_init_list
 static uint64_t ask_draft_list(const struct asked *a) { return ludzepin_draft_list(BOOK(a), a->out, a->places); }
 static uint64_t ask_emptiness(const struct asked *a) { return ludzepin_emptiness(BOOK(a), a->out, a->places); }
 static uint64_t ask_values(const struct asked *a) { return ludzepin_values(BOOK(a), a->name); }
+static uint64_t ask_use_counts(const struct asked *a) {
+    return ludzepin_use_counts(BOOK(a), a->counts, a->places < LUDZEPIN_DEFINITIONS ? a->places : LUDZEPIN_DEFINITIONS);
+}
 static uint64_t ask_uses(const struct asked *a) { return ludzepin_uses(BOOK(a), a->name, a->out, a->places); }
 static uint64_t ask_alias(const struct asked *a) { return ludzepin_alias(BOOK(a), a->name); }
 static uint64_t ask_project(const struct asked *a) { return ludzepin_project(BOOK(a), &a->method, 1, a->out, a->places); }
 
-/* What a question is answered with: a verdict, names or positions in the lent list, uses in it, an alias chain, a number of values. The last
- * three have 64 bits. */
-enum answered { VERDICT, ENTRIES, ENTRIES_OF_USES, ALIAS_CHAIN, NUMBER_OF_VALUES };
+/* What a question is answered with: a verdict, names or positions in the lent list, uses in it, counts in that of 32 bits, an alias chain, a number
+ * of values. The last four have 64 bits. */
+enum answered { VERDICT, ENTRIES, ENTRIES_OF_USES, COUNTS_OF_USES, ALIAS_CHAIN, NUMBER_OF_VALUES };
 
 static const struct question {
     const char *word;
@@ -50,6 +54,7 @@ static const struct question {
     {"draft", ask_draft_list, ENTRIES},
     {"empty", ask_emptiness, ENTRIES},
     {"values", ask_values, NUMBER_OF_VALUES},
+    {"use-counts", ask_use_counts, COUNTS_OF_USES},
     {"uses", ask_uses, ENTRIES_OF_USES},
     {"alias", ask_alias, ALIAS_CHAIN},
     {"project", ask_project, ENTRIES},

@@ -128,6 +128,84 @@ ask tests/list/values-broken.did 1 1 4096
 ask tests/list/values-repeat.did 65535 1 4096
 ask tests/list/large-values-chain.did 512 0 0
 ask tests/list/large-values-circle.did 511 0 0
+# Uses reports: no definition listed, one and 512, with room for all, for just as many, for one fewer and for none; more uses of a name than
+# there is room for, and more than 65,535; 17 and the check before.
+ask tests/list/p10.did 0 0 0
+ask tests/list/uses-function.did 1 4 3
+ask tests/list/uses-function.did 1 4 2
+ask tests/list/uses-function.did 1 4 0
+ask tests/list/uses-circle.did 4 1 4
+ask tests/list/uses-circle.did 4 1 3
+ask tests/list/use-counts-imports.did 1 1 3
+ask tests/list/use-counts-nested.did 1 1 4
+ask tests/list/use-counts-names.did 1 1 4
+ask tests/list/large-use-counts.did 1024 1 512
+ask tests/list/large-use-counts.did 1024 1 511
+ask tests/list/large-uses-4097.did 1 1 3
+ask tests/list/large-uses-many.did 0 1 1
+ask tests/list/large-uses-class.did 1 1 1
+ask tests/list/p04.did 1 1 0
+ask tests/list/uses-repeated-method.did 1 1 4096
+
+# The same by hand: report SOURCE PLACES OUTCOME.
+report() {
+    local line
+    python3 tools/mkbook.py "$1" >target/c/book
+    line=$(target/c/questions target/c/book 0 0 "$2" | grep '^use-counts ')
+    if [ "$line" != "use-counts $3" ]; then
+        printf 'questions, %s with %s places:\n%s\nwhere\nuse-counts %s\nis right\n' "$1" "$2" "$line" "$3" >&2
+        exit 1
+    fi
+    echo "questions, $1 with $2 places, $3: right"
+}
+# Pair and tree: `put` takes a tree, which leads to both.
+report tests/list/p01.did 2 'given 2 1 1'
+report tests/list/p01.did 1 'refused 16 needs 2'
+report tests/list/p01.did 0 'refused 16 needs 2'
+report tests/list/p10.did 0 'given 0'
+report tests/list/p04.did 4096 'refused 17 -'
+report tests/list/p03.did 4096 'refused 7 1'
+report tests/list/use-counts-unlisted.did 0 'given 0'
+# A method's own function has no use; where it is among its own arguments it has.
+report tests/list/uses-function.did 3 'given 3 1 1 0'
+report tests/list/uses-function-itself.did 1 'given 1 1'
+# Two class arguments, an argument and a result.
+report tests/list/class-arguments.did 4 'given 4 1 1 1 1'
+# A use for each argument and result, however often it refers to the name, and with all that is inside.
+report tests/list/use-counts-twice.did 1 'given 1 4'
+report tests/list/use-counts-nested.did 4 'given 4 3 2 2 1'
+# Methods of main and of two imports.
+report tests/list/use-counts-imports.did 3 'given 3 9 4 0'
+# The init file's arguments do not count.
+report tests/list/init-own.did 4096 'given 1 1'
+# `(a) -> (c)`, `(opt b, d) -> (text)`, where a, b and c lead to each other and to d.
+report tests/list/uses-circle.did 4 'given 4 4 3 3 3'
+# 512 methods of a function that takes an a eight times, and a class that takes one.
+report tests/list/large-uses-4097.did 3 'given 3 4097 1 0'
+# 85 methods times 771, and a class argument; 32 times 4,062; 1,024 times 3,070.
+report tests/list/large-use-counts-65536.did 4 'given 4 65536 65535 65535 0'
+report tests/list/large-uses-many.did 1 'given 1 129984'
+report bench/uses-most.did 1 'given 1 3143680'
+
+# total SOURCE ..: counts add up to what the second reading counts from the other side, of each argument and result what it reaches.
+total() {
+    local source theirs ours
+    for source; do
+        python3 tools/mkbook.py "$source" >target/c/book
+        theirs=$(PYTHONPATH=tools python3 -c 'import sys, answers
+print(answers.reachable_together(answers.Book(sys.stdin.buffer.read())))' <target/c/book)
+        ours=$(target/c/questions target/c/book 0 0 |
+            awk '$1 == "use-counts" { for (i = 4; i <= NF; i++) sum += $i; print sum + 0 }')
+        if [ "$ours" != "$theirs" ]; then
+            printf 'questions, %s: %s uses where %s is right\n' "$source" "$ours" "$theirs" >&2
+            exit 1
+        fi
+        echo "questions, $source, $ours uses from both sides: right"
+    done
+}
+total tests/list/p01.did tests/list/use-counts-unlisted.did tests/list/use-counts-circle.did tests/list/use-counts-imports.did \
+    tests/list/use-counts-nested.did tests/list/large-use-counts-65536.did tests/list/large-use-counts.did bench/full.did
+
 # The second reading stops at 4,097 uses.
 right=$(python3 tools/answers.py bench/uses-most.did 1 3 4096)
 try questions bench/uses-most.did 0 "${right/needs 4097/needs 3143680}" 1 3 4096

@@ -2,7 +2,8 @@
  *
  * Marks are those of the book's list, values, uses and alias chain are NAME's and the projection is to METHOD, both by name number. PLACES are
  * the numbers lent for an answer, 4,096 if none are given. NAMES, NODES and DEFINITIONS are limits, the full ones if none are given.
- * `python3 tools/answers.py` with the same arguments prints what is right. */
+ * `python3 tools/answers.py` with the same arguments prints what is right. A line says more where numbers are written that are no entry, or where
+ * a count is not that of the entries of ludzepin_uses. */
 #include <stdio.h>
 #include <stdlib.h>
 
@@ -23,20 +24,60 @@ static void print_refusal(uint32_t refusal, uint32_t low) {
         printf(" refused %u -", refusal);
 }
 
+/* What stands in the lent lists beforehand. No entry is so many: a name, a method's position or a use's index. */
+enum { BEFORE = 40000 };
+
+static uint16_t out[LUDZEPIN_NODES];
+static uint32_t counts[LUDZEPIN_NODES];
+
+static void clear_lists(void) {
+    for (size_t i = 0; i < LUDZEPIN_NODES; i++)
+        counts[i] = out[i] = BEFORE;
+}
+
+/* Says so if more is written than so many numbers of each list. */
+static void print_kept(size_t in_out, size_t in_counts) {
+    int is_kept = 1;
+    for (size_t i = in_out; i < LUDZEPIN_NODES; i++)
+        is_kept &= out[i] == BEFORE;
+    for (size_t i = in_counts; i < LUDZEPIN_NODES; i++)
+        is_kept &= counts[i] == BEFORE;
+    if (!is_kept)
+        printf(" and more is written");
+}
+
 /* Entries of so many numbers each. */
-static void print_entries(uint32_t entries, uint32_t numbers, const uint16_t *out) {
+static void print_entries(uint32_t entries, uint32_t numbers) {
     printf(" given %u", entries);
     for (uint32_t i = 0; i < entries * numbers; i++)
         printf("%c%u", i % numbers ? '.' : ' ', (unsigned)out[i]);
+    print_kept(entries * numbers, 0);
 }
 
-static void print(const struct question *question, uint64_t answer, const uint16_t *out) {
+/* A count for each definition listed. How many entries a name's uses have is told whatever is lent. */
+static void print_counts(const struct asked *asked, uint32_t entries) {
+    printf(" given %u", entries);
+    for (uint32_t i = 0; i < entries; i++)
+        printf(" %u", (unsigned)counts[i]);
+    print_kept(0, entries);
+    for (uint32_t i = 0; i < entries; i++) {
+        uint32_t uses = ludzepin_uses_entries(ludzepin_uses(BOOK(asked), asked->list[i], NULL, 0));
+        if (counts[i] != uses)
+            printf(" but %u uses of %u", uses, (unsigned)asked->list[i]);
+    }
+}
+
+static void print(const struct question *question, const struct asked *asked) {
+    clear_lists();
+    uint64_t answer = question->ask(asked);
     int is_wide = question->with >= ENTRIES_OF_USES;
     uint32_t half = (uint32_t)answer;
     uint32_t refusal = question->with == NUMBER_OF_VALUES ? ludzepin_values_refusal(answer)
                        : is_wide                          ? ludzepin_uses_refusal(answer)
                                                           : ludzepin_refusal(half);
     printf("%s", question->word);
+    if (refusal)
+        print_kept(0, 0);
     if (refusal == LUDZEPIN_SHORT)
         print_refusal(refusal, is_wide ? ludzepin_uses_entries(answer) : ludzepin_entries(half));
     else if (refusal)
@@ -44,7 +85,9 @@ static void print(const struct question *question, uint64_t answer, const uint16
     else if (question->with == VERDICT)
         printf(" passed");
     else if (question->with == ENTRIES_OF_USES)
-        print_entries(ludzepin_uses_entries(answer), 3, out);
+        print_entries(ludzepin_uses_entries(answer), 3);
+    else if (question->with == COUNTS_OF_USES)
+        print_counts(asked, ludzepin_uses_entries(answer));
     else if (question->with == ALIAS_CHAIN)
         printf(" given %u %u", ludzepin_alias_names(answer), ludzepin_alias_last(answer));
     else if (question->with == NUMBER_OF_VALUES && ludzepin_values_many(answer))
@@ -52,13 +95,13 @@ static void print(const struct question *question, uint64_t answer, const uint16
     else if (question->with == NUMBER_OF_VALUES)
         printf(" given %u", ludzepin_values_number(answer));
     else
-        print_entries(ludzepin_entries(half), 1, out);
+        print_entries(ludzepin_entries(half), 1);
     printf("\n");
 }
 
 int main(int argc, char **argv) {
     static uint8_t book[LUDZEPIN_BYTES + 1]; /* a longer file is refused and never cut */
-    static uint16_t list[LUDZEPIN_DEFINITIONS], out[LUDZEPIN_NODES];
+    static uint16_t list[LUDZEPIN_DEFINITIONS];
     size_t places = argc > 4 ? strtoul(argv[4], NULL, 10) : LUDZEPIN_NODES;
     int is_called_right = argc == 4 || argc == 5 || argc == 8;
     FILE *file = is_called_right && places <= LUDZEPIN_NODES ? fopen(argv[1], "rb") : NULL;
@@ -70,13 +113,13 @@ int main(int argc, char **argv) {
     struct asked asked = {
         .book = book, .bytes = bytes, .limits = {LUDZEPIN_FULL}, .list = list,
         .name = (uint16_t)strtoul(argv[2], NULL, 10), .method = (uint16_t)strtoul(argv[3], NULL, 10),
-        .out = out, .places = places,
+        .out = out, .places = places, .counts = counts,
     };
     for (int i = 5; i < argc; i++)
         asked.limits[i - 5] = (uint32_t)strtoul(argv[i], NULL, 10);
     uint32_t listed = ludzepin_list(BOOK(&asked), list, LUDZEPIN_DEFINITIONS);
     asked.count = ludzepin_refusal(listed) ? 0 : ludzepin_entries(listed);
     for (const struct question *question = QUESTIONS; question < QUESTIONS + QUESTION_COUNT; question++)
-        print(question, question->ask(&asked), out);
+        print(question, &asked);
     return 0;
 }

@@ -20,7 +20,7 @@ extern "C" {
 #endif
 
 /* The most bytes, names, nodes and definitions of a book. As many places as definitions are always enough for a list, an init list, a draft
- * list, marks and emptiness, and as many as nodes for a projection; uses may need more. */
+ * list, marks, emptiness and use counts, and as many as nodes for a projection; uses may need more. */
 #define LUDZEPIN_BYTES 65536
 #define LUDZEPIN_NAMES 1024
 #define LUDZEPIN_NODES 4096
@@ -87,6 +87,11 @@ uint32_t ludzepin_project(const uint8_t *book, size_t bytes, uint32_t names, uin
 uint64_t ludzepin_uses(const uint8_t *book, size_t bytes, uint32_t names, uint32_t nodes, uint32_t definitions,
                        uint16_t name, uint16_t *out, size_t numbers);
 
+/* The number of definitions listed; how many uses each of them has stands in the first places of `out`, in the order of ludzepin_list, the others
+ * being as they were. What is listed may have no use, as a method's own function or the actor's own name. Or a refusal (those of the check, 17, 16,
+ * which counts definitions), with `out` as it was. */
+uint64_t ludzepin_use_counts(const uint8_t *book, size_t bytes, uint32_t names, uint32_t nodes, uint32_t definitions, uint32_t *out, size_t places);
+
 /* The number of names that the alias chain from a name crosses, that name counted, and the last of them, whose definition is no name: 1 and the
  * name itself where that is so of its own. Or a refusal (those of the check; 3, the name has no definition). No actor is needed. */
 uint64_t ludzepin_alias(const uint8_t *book, size_t bytes, uint32_t names, uint32_t nodes, uint32_t definitions, uint16_t name);
@@ -109,7 +114,7 @@ static inline uint32_t ludzepin_name(uint32_t answer) { return answer & 65535; }
 /* The entries: those given if it is no refusal, those needed if it is LUDZEPIN_SHORT. */
 static inline uint32_t ludzepin_entries(uint32_t answer) { return answer & 65535; }
 
-/* The same of an answer of ludzepin_uses; refusal and name of one of ludzepin_alias too. */
+/* The same of an answer of ludzepin_uses or ludzepin_use_counts; refusal and name of one of ludzepin_alias too. */
 static inline uint32_t ludzepin_uses_refusal(uint64_t answer) { return (uint32_t)(answer >> 32); }
 static inline uint32_t ludzepin_uses_name(uint64_t answer) { return (uint32_t)answer; }
 static inline uint32_t ludzepin_uses_entries(uint64_t answer) { return (uint32_t)answer; }

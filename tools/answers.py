@@ -3,7 +3,7 @@ r"""Answers the questions on a book, by the papers alone:
 
     python3 tools/answers.py BOOK-OR-SOURCE.did [NAME METHOD PLACES [NAMES NODES DEFINITIONS]]
 
-This is a second reading of document 01, of the Rust functions that it names and of requests 1, 3, 4, 13 and 14 of document 02, for the tests;
+This is a second reading of document 01, of the Rust functions that it names and of requests 1, 3, 4, 8, 13 and 14 of document 02, for the tests;
 tools/layout.py reads the bytes. It prints, one line each, what the program answer_batch prints of the book after its name:
 
     layout OUTCOME          whether the layout is whole, with the counts of names, nodes, definitions and files
@@ -19,6 +19,7 @@ tools/layout.py reads the bytes. It prints, one line each, what the program answ
     draft OUTCOME           the draft list
     empty OUTCOME           the names of definitions that have no value of finite height
     values OUTCOME          each name is asked for the number of its values: those that have one, with it
+    use-counts OUTCOME      how many uses each listed definition has, in the order of the list, and then `total` and their sum
     chains OUTCOME          the alias chain from each definition's body, in order, all files' definitions taken as one environment
     lookups OUTCOME         what stands at the chain's end from the body of each definition but the init file's, and from main's actor
     uses "NAME" OUTCOME     for each name of the table: its uses, METHOD.KIND.INDEX,
@@ -44,8 +45,8 @@ function), s.K (a service) or -.K; K are the names crossed, of a chain that neve
 actor.K, of what stands below main's class, where main has an actor; it is no entry. These two are of functions inside the crates, which C has
 not: chains is refused with 1, 24, 18 and 2, lookups with what the check is. Of a book with more
 than 514 names that lists none, so that no name has uses, only the first 8 names and the last 8 are asked about. A broken book is not asked
-about names. After list, marks, init, draft, empty, uses and project-all, if entries were given, it is asked again with one place fewer than
-they take:
+about names. After list, marks, init, draft, empty, use-counts, uses and project-all, if entries were given, it is asked again with one place fewer
+than they take:
 
     QUESTION-short needs N refused 16 -
 
@@ -62,7 +63,7 @@ with limits under these.
 import functools
 import math
 import sys
-from collections import namedtuple
+from collections import Counter, namedtuple
 
 import graphs
 import layout
@@ -164,6 +165,11 @@ def nodes(tree):
         found.append(left.pop())
         left += reversed(found[-1].kids)
     return found
+
+
+def references(tree):
+    """The names that a type refers to."""
+    return {node.value for node in nodes(tree) if node.kind == NAME}
 
 
 def label_of(names, parent, kid):
@@ -402,37 +408,81 @@ def marks(book, listed):
     for name in listed:
         if name not in env:
             raise Refused(3, name)
-        marked |= {node.value for node in nodes(env[name]) if node.kind == NAME} - seen
+        marked |= references(env[name]) - seen
         seen.add(name)
     return sorted(marked)
+
+
+def offered(book):
+    """What an actor offers, as lists of types: its class's arguments, then for each method in order its arguments and its results; with METHOD and
+    KIND."""
+    env, actor = with_actor(book)
+    actor = alias_end(env, actor)
+    if actor.kind == CLASS:
+        yield OF_CLASS, 0, actor.kids[:-1]
+    for position, method in enumerate(alias_end(env, below_class(actor)).kids):
+        function = alias_end(env, method)
+        yield position, 0, arguments_of(function)
+        yield position, 1, results_of(function)
+
+
+@functools.cache
+def types_offered(book):
+    """These types, each once, by id: a function may be that of many methods, whose types are the same trees."""
+    return {id(tree): tree for *_, trees in offered(book) for tree in trees}
+
+
+@functools.cache
+def chased(book):
+    """The names met from each of them."""
+    env, _ = with_actor(book)
+    return {at: chase_types(env, [tree]) for at, tree in types_offered(book).items()}
 
 
 @functools.cache
 def chase_def_use(book):
     """The uses of each name that has any; of those too many for the list lent, one more than it holds."""
-    env, actor = with_actor(book)
-    actor, rows, reached = alias_end(env, actor), {}, {}
-
-    def used(method, kind, trees):
+    met, rows = chased(book), {}
+    for method, kind, trees in offered(book):
         for index, tree in enumerate(trees):
-            if id(tree) not in reached:  # a function may be that of many methods
-                reached[id(tree)] = chase_types(env, [tree])
-            for name in reached[id(tree)]:
+            for name in met[id(tree)]:
                 row = rows.setdefault(name, [])
                 if len(row) <= MOST_USES:
                     row.append((method, kind, index))
-
-    if actor.kind == CLASS:
-        used(OF_CLASS, 0, actor.kids[:-1])
-    for position, method in enumerate(alias_end(env, below_class(actor)).kids):
-        function = alias_end(env, method)
-        used(position, 0, arguments_of(function))
-        used(position, 1, results_of(function))
     return rows
 
 
 def uses(book, name):
     return handed(chase_def_use(book).get(name, []), MOST_USES)
+
+
+def use_counts(book):
+    """Request 8: how many uses each listed definition has, in the order of the list. Together they have as many as one gets from the other side."""
+    listed, met, counts = definition_list(book), chased(book), Counter()
+    for at, times in Counter(id(tree) for *_, trees in offered(book) for tree in trees).items():
+        counts.update(dict.fromkeys(met[at], times))
+    found = [counts[name] for name in listed]
+    assert sum(found) == counts.total() == reachable_together(book)
+    return found
+
+
+def reachable(refers, tree):
+    """The names reachable from a type, by document 01's references: those that it refers to, and those that the definition of one refers to. This is
+    no walk, and has no order."""
+    found, more = set(), references(tree)
+    while more:
+        found |= more
+        more = set().union(*(refers[name] for name in more)) - found
+    return found
+
+
+def reachable_together(book):
+    """The other side: for every class argument of the actor, method argument and method result the number of definitions reachable from it, added
+    up."""
+    env, _ = with_actor(book)
+    refers = {name: references(tree) for name, tree in env.items()}
+    many = {at: len(reachable(refers, tree)) for at, tree in types_offered(book).items()}
+    return sum(many[id(tree)] for *_, trees in offered(book) for tree in trees)
 
 
 def alias(book, name):
@@ -658,6 +708,10 @@ def number_alone(lines, number):
     return f"given {number}"
 
 
+def counts_and_total(lines, counts):
+    return f"{numbers(lines, counts)} total {sum(counts)}"
+
+
 def ends_of_chains(lines, entries):
     return given([f"{end}.{count}" + ("" if name is None else f" {lines.name(name)}") for end, count, name in entries])
 
@@ -686,6 +740,7 @@ QUESTIONS = tuple(Question(*row) for row in (
     ("draft", OF_BOOK, "draft", draft_list, lambda lines, _: [], names, True),
     ("empty", OF_BOOK, "empty", emptiness, lambda lines, _: [], names, True),
     ("values", OF_BOOK, "values", all_values, lambda lines, _: [], names_and_values, False),
+    ("use-counts", OF_BOOK, "use-counts", use_counts, lambda lines, _: [], counts_and_total, True),
     ("chains", OF_BOOK, "chains", chains, lambda lines, _: [], ends_of_chains, False),
     ("lookups", OF_BOOK, "lookups", lookups, lambda lines, _: [], found_by_lookups, False),
     ("uses", OF_NAME, "uses", uses, lambda lines, number: [number], entries_of_uses, True),
@@ -863,6 +918,20 @@ def valuing(data):
         return "".join(f"{layout.quoted(book.names[name])} {number}\n" for name, number in all_values(book))
     except Refused as refused:
         return refusal(refused, book.names) + "\n"
+
+
+def reporting(data):
+    """What the program `uses_report` prints of a book, under the full limits."""
+    try:
+        book = Book(data)
+    except Refused as refused:
+        return refusal(refused, []) + "\n"
+    try:
+        counts = use_counts(book)
+        lines = [f"{layout.quoted(book.names[name])} {count}" for name, count in zip(definition_list(book), counts, strict=True)]
+    except Refused as refused:
+        return refusal(refused, book.names) + "\n"
+    return "\n".join([*lines, f"total {reachable_together(book)}"]) + "\n"
 
 
 def main():

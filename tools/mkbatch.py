@@ -25,6 +25,7 @@ A stated outcome of a question is
     // QUESTION: needs N         of a question with too short a list
     // alias TEXT: N TEXT        the names crossed and the last of them
     // values: TEXT N ..         each name with the number of its values, or `many`
+    // use-counts: N .. total N  the number of uses of each listed definition, and their sum
 Each three limits are a record of its own, whose name is NAME@NAMES-NODES-DEFINITIONS; stated is
     // NAMES NODES DEFINITIONS: within    every line is as under document 01's figures
     // NAMES NODES DEFINITIONS: over      all but layout and name are refused with 24
@@ -137,9 +138,11 @@ def entries(text):
 
 def given(word, listed):
     """Stated entries after `given` and their number, but for what is no entry of its own: the name of an unbound chain, the actor's lookup, and the
-    name before a number of values. An alias chain is one entry that begins with its number."""
+    name before a number of values. An alias chain is one entry that begins with its number; `total` and the sum are after numbers of uses."""
     if word == "alias":
         return " ".join(["given", *listed])
+    if word == "use-counts":
+        return " ".join([f"given {len(listed) - 2}", *listed])
     has_more = word in (*answers.INNER, "values")
     count = sum(not entry.startswith(("actor", '"')) for entry in listed) if has_more else len(listed)
     return " ".join([f"given {count}", *listed])

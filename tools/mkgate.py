@@ -4,6 +4,7 @@
     crates/answer_batch/stdin, stdout     the stored list (docs/TESTING.md), with the outcome of every question and the tally
     crates/list/stdin, stdout             P1 and its list
     crates/values/stdin, stdout           a book with odd names, and how many values its definitions have
+    crates/uses_report/stdin, stdout      another, and how many uses they have
 
 Books come from the sources by tools/mkbook.py. What the programs must write comes from the sources' first lines and
 from tools/layout.py and tools/answers.py, which read the bytes by the papers alone, and never from the programs;
@@ -56,15 +57,17 @@ def files():
         with open(os.path.join(folder, name), encoding="utf-8") as file:
             return bytes(mkbook.book(file.read()))
 
-    p1, names = book(SOURCES, "p01.did"), book(LIST_SOURCES, "values-names.did")
+    p1, valued, used = book(SOURCES, "p01.did"), book(LIST_SOURCES, "values-names.did"), book(LIST_SOURCES, "use-counts-names.did")
     records, lines = answer_batch()
     return {
         "crates/answer_batch/stdin": records,
         "crates/answer_batch/stdout": lines.encode(),
         "crates/list/stdin": p1,
         "crates/list/stdout": answers.listing(p1).encode(),
-        "crates/values/stdin": names,
-        "crates/values/stdout": answers.valuing(names).encode(),
+        "crates/values/stdin": valued,
+        "crates/values/stdout": answers.valuing(valued).encode(),
+        "crates/uses_report/stdin": used,
+        "crates/uses_report/stdout": answers.reporting(used).encode(),
     }
 
 

@@ -1,8 +1,8 @@
 #!/usr/bin/env python3
-r"""Tests the built programs `list` and `values`:  python3 tools/test_programs.py
+r"""Tests the built programs `list`, `values` and `uses_report`:  python3 tools/test_programs.py
 
-`tools/build.sh list values` builds them, and the gate runs each on a book; here they read every book of tests, books at the limits, bytes that
-are none, and files that cannot be read or written.
+`tools/build.sh list values uses_report` builds them, and the gate runs each on a book; here they read every book of tests, books at the limits,
+bytes that are none, and files that cannot be read or written.
 What they must write comes from tools/answers.py, which reads the bytes by the paper alone, and in part from the paper by hand.
 Without a program its tests are skipped.
 """
@@ -244,6 +244,76 @@ class Values(Program, unittest.TestCase):
         right = self.right(book)
         self.assertEqual(right.count(" 4294967295\n"), 233)
         self.assertGreater(len(right), 178_000)
+        self.writes(book, right)
+
+
+@if_built("uses_report")
+class UsesReport(Program, unittest.TestCase):
+    """Request 8 of document 02: a line for each listed definition, in the order of the list, and then their total."""
+
+    name, right, more_refusals = "uses_report", staticmethod(answers.reporting), {17}
+
+    def test_by_hand(self):
+        self.writes(book_of("tests", "list", "p01.did"), '"pair" 1\n"tree" 1\ntotal 2\n')
+        for source, right in {
+            "service : {}": "total 0\n", "type a = nat; service : { a : () -> () }": "total 0\n",
+            "type a = nat; service : { m : (a) -> (a) }": '"a" 2\ntotal 2\n',
+            "type a = nat; service : { m : (a, record { a; a }) -> () }": '"a" 2\ntotal 2\n',
+            "type a = nat; type f = func (a) -> (); service : { f : f; m : f }": '"a" 2\n"f" 0\ntotal 2\n',
+            "type a = opt b; type b = a; type z = nat; service : (z) -> { m : (b) -> (z) }": '"z" 2\n"a" 1\n"b" 1\ntotal 4\n',
+            'file "m" main type a = nat; service : { m : (a) -> () } file "i" service type b = a; service : { n : (b) -> () }':
+                '"a" 2\n"b" 1\ntotal 3\n',
+        }.items():
+            self.writes(mkbook.book(source), right, source)
+
+    def test_refusals(self):
+        for folder, name, refusal in (
+            ("check", "p03", '7 "a"'), ("check", "p06", '2 "b"'), ("list", "p04", "17 -"), ("check", "row-04-definition", "4 -"),
+            ("check", "p09-import", '14 "\\00a"'), ("list", "broken", "1 -"), ("check", "row-18-record", '18 "x"'),
+        ):
+            self.writes(book_of("tests", folder, name + ".did"), f"refused {refusal}\n", name)
+
+    def test_refused_as_list(self):
+        """What has no list is refused as the program `list` refuses it."""
+        for folder in (SOURCES, CHECK_SOURCES, LIST_SOURCES, LIMITS_SOURCES):
+            for name, text in mkbatch.sources(folder):
+                book = bytes(mkbook.book(text))
+                of_list = answers.listing(book)
+                if of_list.startswith("refused"):
+                    self.writes(book, of_list, f"{folder}/{name}")
+
+    def test_odd_names(self):
+        """Bytes outside 0x20 to 0x7E, the quote and the backslash are a backslash and two digits."""
+        source = r'''type "\00\1f\20!\"#[\\]}~\7f\80\ff" = nat; type "" = nat;
+                     service : { m : ("\00\1f\20!\"#[\\]}~\7f\80\ff", "") -> ("") }'''
+        self.writes(mkbook.book(source), '"\\00\\1f !\\22#[\\5c]}~\\7f\\80\\ff" 1\n"" 2\ntotal 3\n')
+
+    def test_many_uses(self):
+        """As many methods as there can be, of a function with as many arguments as there can be then, each of which reaches all 512 definitions."""
+        book = mkbook.book('''type "000" = func (repeat 2560 { "001", }) -> (); repeat 510 { type "###+1" = "###+2"; } type "511" = "000";
+                              service : { repeat 512 { "###" : "000"; } repeat 511 { "m###" : "000"; } }''')
+        right = "".join(f'"{number:03}" 2618880\n' for number in reversed(range(512))) + "total 1340866560\n"
+        self.assertEqual(self.right(bytes(book)), right)
+        self.writes(bytes(book), right)
+
+    def test_largest(self):
+        """As long as a book may be, with every definition listed, and longer."""
+        book = book_of("bench", "full.did")
+        self.assertEqual(len(book), MOST)
+        right = self.right(book)
+        self.assertEqual(right.count("\n"), 513)
+        self.writes(book, right)
+        self.writes(book + b"\0", BROKEN)
+        self.writes(book[:-1], BROKEN)
+        self.writes(book_of("tests", "layout", "length-65536.did"), "refused 17 -\n")
+
+    def test_longest_output(self):
+        """Long names, three characters for each byte."""
+        book = bytes(mkbook.book(r'''repeat 220 { type "\00" * 252 + "###" = nat; }
+                                     service : { m : (repeat 220 { "\00" * 252 + "###", }) -> () }'''))
+        right = self.right(book)
+        self.assertEqual(right.count(" 1\n"), 220)
+        self.assertGreater(len(right), 160_000)
         self.writes(book, right)
 
 

@@ -332,8 +332,8 @@ class Answers(unittest.TestCase):
         """By hand, what c/build.sh tries. Names: "" fork leaf pair put spare tree; a b c d init m main; "" r s t; "" a b c d m; "" f m000 m001 ..;
         "" a m; "" a b; "" n0000 .. \\ff; a000 .. a510 head m; a b c d init main."""
         p1 = {"check": "passed", "init-check": "passed", "list": "given 2 3 6", "marks": "given 1 6", "init": "given 0",
-              "draft": "given 2 3 6", "empty": "given 0", "values": "given many", "uses": "given 1 0.0.0", "alias": "given 1 6",
-              "project": "given 1 0"}
+              "draft": "given 2 3 6", "empty": "given 0", "values": "given many", "use-counts": "given 2 1 1", "uses": "given 1 0.0.0",
+              "alias": "given 1 6", "project": "given 1 0"}
         short, circle = "refused 16 needs", "refused 7 1"
         books = LIST_BOOKS | {"uses-most": MOST_USES}
         for (name, *asked), right in {
@@ -344,7 +344,8 @@ class Answers(unittest.TestCase):
                                                "project": "refused 15 65535"},
             ("p01", 6, 4, 3): p1,
             ("p01", 6, 4, 2): p1 | {"uses": f"{short} 1"},
-            ("p01", 6, 4, 0): p1 | {"list": f"{short} 2", "draft": f"{short} 2",
+            ("p01", 6, 4, 1): p1 | {"list": f"{short} 2", "draft": f"{short} 2", "use-counts": f"{short} 2", "uses": f"{short} 1"},
+            ("p01", 6, 4, 0): p1 | {"list": f"{short} 2", "draft": f"{short} 2", "use-counts": f"{short} 2",
                                     "marks": f"{short} 1", "uses": f"{short} 1", "project": f"{short} 1"},
             ("init-own", 0, 5, 4096): {"init": "given 3 3 2 1", "draft": "given 1 0", "marks": "given 0", "empty": "given 0",
                                        "values": "given many", "uses": "given 1 0.0.0", "alias": "given 1 0", "project": "given 1 0"},
@@ -353,7 +354,15 @@ class Answers(unittest.TestCase):
             ("class-arguments", 2, 5, 4096): {"init": "given 0", "draft": "given 4 4 2 3 1", "marks": "given 0", "empty": "given 0",
                                               "uses": "given 1 65535.0.1", "project": "given 1 0"},
             ("uses-most", 1, 3, 4096): {"init": "given 0", "draft": "given 1 1", "marks": "given 1 1", "empty": "given 0",
-                                        "uses": f"{short} 4097", "project": "given 1 3"},
+                                        "use-counts": "given 1 3143680", "uses": f"{short} 4097", "project": "given 1 3"},
+            ("p10", 0, 0, 0): {"list": "given 0", "use-counts": "given 0"},
+            ("p04", 0, 0, 0): {"list": "refused 17 -", "use-counts": "refused 17 -"},
+            ("uses-function", 1, 4, 3): {"use-counts": "given 3 1 1 0", "uses": "given 1 0.0.0"},
+            ("uses-function", 1, 4, 2): {"use-counts": f"{short} 3", "uses": f"{short} 1"},
+            ("large-use-counts-65536", 1, 0, 4): {"use-counts": "given 4 65536 65535 65535 0", "uses": f"{short} 4097"},
+            ("large-use-counts-65536", 1, 0, 3): {"use-counts": f"{short} 4"},
+            ("large-circle", 0, 512, 512): {"use-counts": "given 512" + 512 * " 1"},
+            ("large-circle", 0, 512, 511): {"use-counts": f"{short} 512"},
             ("alias-2", 1, 1, 0): {"list": "refused 17 -", "empty": "given 0", "uses": "refused 17 -", "alias": "given 2 2"},
             ("alias-2", 2, 1, 0): {"alias": "given 1 2"},
             ("alias-2", 0, 1, 0): {"alias": "refused 3 0"},
@@ -396,7 +405,7 @@ class Answers(unittest.TestCase):
 
     def test_numbered_limits(self):
         """P1 has 7 names, 10 nodes and 3 definitions. A limit too small is told before a name outside the table and a list too short."""
-        words = "check init-check list marks init draft empty values uses alias project".split()
+        words = "check init-check list marks init draft empty values use-counts uses alias project".split()
         for asked in ((6, 4, 4096), (65535, 65535, 4096), (6, 4, 0)):
             full = answers.numbered(LIST_BOOKS["p01"], *asked)
             for limits in ((7, 10, 3), (7, 4096, 512), (1024, 10, 512), (1024, 4096, 3), (1025, 4097, 513), (2**32 - 1,) * 3):
@@ -895,6 +904,206 @@ class Values(unittest.TestCase):
         self.assertGreater(min(tried.values()), 100, tried)
 
 
+def random_interfaces(count):
+    """Books with seven definitions and an actor: functions and services, by name and written, some of them below a class, some of an import."""
+    random = Random(8)
+
+    def tree(depth):
+        kind = random.choice(("opt", "record", "func", "service")) if depth and random.random() < 0.4 else random.choice(("name", "name", "nat"))
+        if kind == "name":
+            return random.choice("aabbccfghs")
+        return {"nat": lambda: "nat", "opt": lambda: f"opt {tree(depth - 1)}", "record": lambda: f"record {{ {types(depth, ';')} }}",
+                "func": lambda: f"func {function(depth)}", "service": lambda: f"service {{ {methods(depth, 'xyz')} }}"}[kind]()
+
+    def types(depth, between=","):
+        return f"{between} ".join(tree(depth - 1) for _ in range(random.choice((0, 1, 1, 2, 3))))
+
+    def function(depth):
+        return f"({types(depth)}) -> ({types(depth)})"
+
+    def methods(depth, names):
+        some = [name for name in names if random.random() < 0.6]
+        return " ".join(f"{name} : {random.choice(('f', 'g', 'h', function(depth), function(depth)))};" for name in some)
+
+    for _ in range(count):
+        bodies = {"f": f"func {function(2)}", "g": random.choice(("f", f"func {function(2)}")), "h": random.choice("fg"),
+                  "s": f"service {{ {methods(2, 'klmno')} }}", **{name: tree(2) for name in "abc"}}
+        rows = [f"type {name} = {body};" for name, body in random.sample([*bodies.items()], len(bodies))]
+        actor = random.choice(("s", f"{{ {methods(2, 'klmno')} }}", f"{{ {methods(2, 'klmno')} }}"))
+        if random.random() < 0.4:
+            actor = f"({types(2)}) -> {actor}"
+        split = random.randrange(len(rows)) if random.random() < 0.4 else len(rows)
+        more = f'file "i" service {" ".join(rows[split:])} service : {{ {methods(2, "pqr")} }}' if split < len(rows) else ""
+        yield mkbook.book(f'file "s" main {" ".join(rows[:split])} service : {actor} {more}')
+
+
+class UseCounts(unittest.TestCase):
+    """Request 8 of document 02: how many uses each listed definition has, and all together."""
+
+    def report(self, source):
+        book = answers.Book(mkbook.book(source))
+        counts = answers.use_counts(book)
+        listed = [book.names[name].decode() for name in answers.definition_list(book)]
+        return " ".join([*(f"{name}:{count}" for name, count in zip(listed, counts, strict=True)), f"={sum(counts)}"])
+
+    def test_by_hand(self):
+        """Each place alone, and what is no use."""
+        for source, right in {
+            # nothing listed
+            "service : {}": "=0", "service : { m : () -> () }": "=0", "service : () -> {}": "=0", "type a = nat; service : {}": "=0",
+            "type a = nat; type f = func (a) -> (a); service : (text) -> { m : (nat) -> (vec nat) }": "=0",
+            # a use for each argument and result from which a name is reached, not for each node
+            "type a = nat; service : { m : (a) -> () }": "a:1 =1", "type a = nat; service : { m : () -> (a) }": "a:1 =1",
+            "type a = nat; service : { m : (a) -> (a) }": "a:2 =2", "type a = nat; service : { m : (a, a) -> () }": "a:2 =2",
+            "type a = nat; service : { m : (record { a; a }) -> () }": "a:1 =1",
+            "type a = nat; service : { m : (nat, a, vec opt a, record { nat; a }) -> (text, variant { x : a; y }) }": "a:4 =4",
+            "type a = nat; service : { m : (a) -> (); n : () -> (a); o : (a) -> (a) }": "a:4 =4",
+            "type a = nat; type b = nat; service : { n : (b) -> (); m : (a, b) -> (b) }": "b:3 a:1 =4",
+            # the arguments of a class
+            "type a = nat; service : (a) -> {}": "a:1 =1", "type a = nat; service : (a) -> { m : (a) -> () }": "a:2 =2",
+            "type a = nat; service : (a, opt a) -> { m : (a) -> (a) }": "a:4 =4", "type a = nat; service : () -> { m : (a) -> () }": "a:1 =1",
+            "type a = nat; type f = func (a) -> (); service : (f) -> { m : f }": "a:2 f:1 =3",
+            # what definitions lead to
+            "type a = b; type b = c; type c = nat; service : { m : (a) -> (b); n : (c) -> () }": "c:3 b:2 a:1 =6",
+            "type a = record { b; c }; type b = opt c; type c = nat; service : { m : (a, b) -> (c) }": "c:3 b:2 a:1 =6",
+            "type a = nat; type b = a; service : { m : (a) -> () }": "a:1 =1",
+            # circles
+            "type a = opt a; service : { m : (a) -> () }": "a:1 =1", "type a = opt b; type b = opt a; service : { m : (a) -> (b) }": "b:2 a:2 =4",
+            "type a = opt a; type b = record { a; b }; service : (b) -> { m : (a) -> () }": "a:2 b:1 =3",
+            "type a = opt b; type b = opt c; type c = record { a; d }; type d = nat; service : { m : (d, c) -> (a) }": "d:3 b:2 a:2 c:2 =9",
+            # a method's own function, by name or by a chain of names
+            "type f = func () -> (); service : { m : f }": "f:0 =0", "type f = func (nat) -> (text); service : { m : f; n : f }": "f:0 =0",
+            "type f = func (a) -> (a); type a = nat; service : { m : f; n : f }": "a:4 f:0 =4",
+            "type f = func (a, a) -> (); type a = nat; service : { m : f; n : (a) -> (f) }": "a:4 f:1 =5",
+            "type g = f; type f = func (a) -> (); type a = nat; service : { m : g; n : f; o : (a) -> () }": "a:3 f:0 g:0 =3",
+            "type g = f; type f = func (a) -> (); type a = g; service : { m : g }": "a:1 f:1 g:1 =3",
+            "type f = func (f) -> (f); service : { m : f; n : f; o : f }": "f:6 =6",
+            # functions and services inside a type: their arguments are no argument of the actor's
+            "type a = nat; service : { m : (func (a, a) -> (a)) -> () }": "a:1 =1",
+            "type a = nat; type f = func (a) -> (); service : { m : (service { n : (a) -> (a); o : f }) -> () }": "a:1 f:1 =2",
+            "type a = nat; type f = func (a, a) -> (a); service : { m : (f) -> () }": "a:1 f:1 =2",
+            "type a = nat; type s = service { n : (a, a) -> (a) }; service : { m : (s) -> (s) }": "a:2 s:2 =4",
+            "type a = nat; type s = service { n : (a, a) -> (a) }; service : (s) -> { m : () -> () }": "a:1 s:1 =2",
+            # an actor by name refers to it, and is no use
+            "type s = service { m : (a) -> () }; type a = nat; service : s": "a:1 s:0 =1",
+            "type s = service { m : (s) -> (s) }; service : s": "s:2 =2", "type t = s; type s = service { m : (t) -> () }; service : t": "s:1 t:1 =2",
+            "type t = s; type s = service {}; service : t": "s:0 t:0 =0",
+            "type s = service { m : (s) -> () }; service : (s) -> s": "s:2 =2",
+            "type s = service { m : f; n : f }; type f = func (s) -> (); service : s": "f:2 s:2 =4",
+        }.items():
+            self.assertEqual(self.report(source), right, source)
+
+    def test_files(self):
+        """Definitions of main and of imports; the resolved actor, with the methods of service imports and a class's arguments once; an init file
+        is not read."""
+        for source, right in {
+            'file "m" main service : { m : (a) -> () } file "i" type type a = b; type b = nat; service : { n : (b, b) -> () }': "b:1 a:1 =2",
+            'file "m" main type a = nat; service : { m : (a) -> () } file "i" service service : { n : (a) -> (a) }': "a:3 =3",
+            'file "m" main type a = nat; file "i" service service : { n : (a) -> (a) }': "a:2 =2",
+            'file "m" main type a = nat; service : (a, nat, a) -> { m : (a) -> () } file "i" service service : { n : () -> (a) }': "a:4 =4",
+            'file "m" main type a = nat; service : (a) -> {} file "i" service service : {} file "j" service service : {}': "a:1 =1",
+            'file "m" main type s = service { m : (a) -> () }; type a = nat; service : s file "i" service service : { n : (a) -> () }': "a:2 =2",
+            'file "m" main type s = service { m : (a) -> (s) }; type a = nat; service : s file "i" service service : s2 type s2 = s3;'
+            ' file "j" type type s3 = service { n : (s3) -> () };': "a:2 s:1 s3:1 =4",
+            'file "m" main type f = func (a) -> (a); type a = nat; service : { m : f } file "i" service type g = f; service : { n : g; o : f }':
+                "a:6 f:0 g:0 =6",
+            'file "m" main type a = nat; service : { m : (a) -> () } file "i" init type b = opt b; args (a, b, record { a; b })': "a:1 =1",
+            'file "m" main type a = nat; service : { m : (a) -> () } file "i" init args (z)': "a:1 =1",
+        }.items():
+            self.assertEqual(self.report(source), right, source)
+
+    def test_refused(self):
+        """1, 24 and 18 come first, then what the check refuses, then 17; and 16, which counts definitions, where any is listed."""
+        fine, actor = "type a = nat; type b = opt a;", "service : { m : (b, b, b) -> () }"
+        for source, outcome in {
+            fine + actor: "given 2 3 3 total 6", fine + "service : {}": "given 0 total 0", fine: "refused 17 -", "": "refused 17 -",
+            f'file "m" main {fine} file "i" type {actor}': "refused 17 -", fine + "type a = nat;": 'refused 2 "a"',
+            fine + actor + "type d = z;": 'refused 3 "z"', fine + "type d = class () -> {};": "refused 4 -",
+            fine + "type d = func () -> () query oneway;": "refused 5 -", fine + "type d = func () -> (nat) oneway;": "refused 6 -",
+            fine + "type d = d;": 'refused 7 "d"', fine + "type d = service { m : a };": "refused 8 -", fine + "service : { m : b }": 'refused 9 "m"',
+            fine + "service : a": "refused 10 -", f'file "m" main {fine} file "i" service': 'refused 12 "i"',
+            f'file "m" main {fine} file "i" service service : () -> {{}}': 'refused 13 "i"',
+            f'file "m" main {fine} {actor} file "i" service {actor}': 'refused 14 "m"', fine + actor + "truncate 1": "refused 1 -",
+            fine + "type d = variant { x : a; x : b };": 'refused 18 "x"', fine + actor + "type d = variant { x : a; 120 : b };": "refused 18 -",
+        }.items():
+            found = answers.outcomes(mkbook.book(source))
+            self.assertEqual(found["use-counts"], outcome, source)
+            self.assertEqual(found.get("use-counts-short"), "needs 2 refused 16 -" if outcome.startswith("given 2") else None, source)
+            if outcome.startswith("refused"):
+                self.assertEqual(found["list"], outcome, source)
+        book = mkbook.book(fine + actor)
+        for limits, outcome in (((3, 8, 2), OVER), ((4, 7, 2), OVER), ((4, 8, 1), OVER), ((4, 8, 2), "given 2 3 3 total 6")):
+            self.assertEqual(answers.outcomes(book, limits)["use-counts"], outcome)
+        for places, outcome in {0: "refused 16 needs 2", 1: "refused 16 needs 2", 2: "given 2 3 3", 4096: "given 2 3 3"}.items():
+            self.assertIn(f"use-counts {outcome}", answers.numbered(book, 0, 0, places))
+        self.assertIn("use-counts given 0", answers.numbered(mkbook.book("service : {}"), 0, 0, 0))
+        self.assertIn("use-counts refused 17 -", answers.numbered(mkbook.book(fine), 0, 0, 0))
+
+    def test_program(self):
+        """What the program `uses_report` prints."""
+        for source, right in {
+            SOURCES["p01"]: '"pair" 1\n"tree" 1\ntotal 2\n', "service : { m : () -> () }": "total 0\n", "": "refused 17 -\n",
+            'type "\\00\\"" = text; type f = func (repeat 10 { "\\00\\"", }) -> (f); service : { m : f }': '"\\00\\22" 11\n"f" 1\ntotal 12\n',
+            "type a = b; service : {}": 'refused 3 "b"\n', "type a = record { x : b; x : b };": 'refused 18 "x"\n',
+            "service : {} truncate 1": "refused 1 -\n",
+        }.items():
+            self.assertEqual(answers.reporting(mkbook.book(source)), right, source)
+
+    def test_large(self):
+        """As many arguments, results, methods and definitions as there is room for."""
+        for source, right in {
+            "type f = func () -> (); service : (repeat 4092 { f, }) -> { m : f; }": "f:4092 =4092",
+            "type a = nat; service : { m : (repeat 4093 { a, }) -> () }": "a:4093 =4093",
+            "type a = nat; service : { m : (a) -> (repeat 4092 { a, }) }": "a:4093 =4093",
+            "type f = func (repeat 3094 { nat, }) -> (); service : { repeat 1000 { m### : f; } }": "f:0 =0",
+        }.items():
+            self.assertEqual(answers.Book(mkbook.book(source)).counts[1], 4096, source)
+            self.assertEqual(self.report(source), right, source)
+        # The largest total: 512 definitions, each reachable from every argument of the function of 1,024 methods, which is a method for each name.
+        book = answers.Book(mkbook.book(
+            "type f = func (repeat 2559 { a000, }) -> (); repeat 510 { type a### = a###+1; } type a510 = f;"
+            'service : { "" : f; f : f; repeat 511 { a### : f; m### : f; } }'))
+        self.assertEqual(book.counts, [1024, 4096, 512, 1])
+        self.assertEqual(answers.use_counts(book), [1024 * 2559] * 512)
+
+    def types_offered(self, book):
+        """The class's arguments, then for each method its arguments and results, with where they are."""
+        env, actor = answers.check(book)
+        actor = answers.alias_end(env, actor)
+        found = [((65535, 0, index), tree) for index, tree in enumerate(actor.kids[:-1])] if actor.kind == 25 else []
+        for position, method in enumerate(answers.alias_end(env, actor.kids[-1] if actor.kind == 25 else actor).kids):
+            function = answers.alias_end(env, method)
+            arguments = function.value % 65536
+            found += [((position, int(place >= arguments), place - arguments * (place >= arguments)), tree)
+                      for place, tree in enumerate(function.kids)]
+        return found
+
+    def test_sides(self):
+        """Of stored and of random books: a listed definition's number is that of the entries of its uses, which are those of the types that reach
+        it; and the sum is that of how many definitions each type reaches."""
+        tried, larger = collections.Counter(), 0
+        stored = [book for name, book in [*LIST_BOOKS.items(), *CHECK_BOOKS.items()] if len(book) < 3000]
+        for book in checked([*stored, *random_interfaces(1500)]):
+            env, actor = answers.check(book)
+            if actor is None:
+                self.assertEqual(asked(answers.use_counts, book), (17, None))
+                continue
+            refers = {name: references(tree) for name, tree in env.items()}
+            reaches = [(place, reached(refers, references(tree))) for place, tree in self.types_offered(book)]
+            listed, counts = answers.definition_list(book), answers.use_counts(book)
+            self.assertEqual(len(counts), len(listed))
+            for name, count in zip(listed, counts):
+                self.assertEqual(answers.uses(book, name), [place for place, names in reaches if name in names])
+                self.assertEqual(len(answers.uses(book, name)), count)
+                tried["none" if not count else "one" if count == 1 else "more"] += 1
+            self.assertEqual(sum(counts), sum(len(names) for _, names in reaches))
+            self.assertLessEqual(set().union(*(names for _, names in reaches)), set(listed))
+            tried["class" if self.types_offered(book)[:1] and self.types_offered(book)[0][0][0] == 65535 else "service"] += 1
+            larger += len(set(counts)) > 2
+        self.assertGreater(min(tried.values()), 100, tried)
+        self.assertGreater(larger, 100)
+
+
 class Limits(unittest.TestCase):
     """24, by request 14 of document 02: directly after 1 and before all else, in drafts too; layout and name take no limits."""
 
@@ -920,8 +1129,8 @@ class Limits(unittest.TestCase):
         self.assertEqual(answers.outcomes(book, (6, 10, 3)) | {"name": None}, {
             "layout": "whole 7 10 3 1", "name": None,
             **{question: OVER for question in (
-                "check init-check list marks marks-back marks-outside marks-highest init draft empty values chains lookups uses-outside "
-                "alias-outside alias-highest values-outside values-highest project-outside project-highest project-none project-all "
+                "check init-check list marks marks-back marks-outside marks-highest init draft empty values use-counts chains lookups "
+                "uses-outside alias-outside alias-highest values-outside values-highest project-outside project-highest project-none project-all "
                 "project-every").split()},
             **{f'{word} "{name}"': OVER for word in ("uses", "alias", "project", "twice")
                for name in ("", *"fork leaf pair put spare tree".split())}})
@@ -1375,6 +1584,11 @@ class ListSources(unittest.TestCase):
             '// values: "a" 2 "b" many "\\00" 4294967295\n// values-outside: refused 3 1024\n':
                 {"values": 'given 3 "a" 2 "b" many "\\00" 4294967295', "values-outside": "refused 3 1024"},
             '// values: repeat 2 { "a#" 1# }\n': {"values": 'given 2 "a0" 10 "a1" 11'}, '// values: none\n': {"values": "given 0"},
+            '// use-counts: 3 0 total 3\n// use-counts-short: needs 2\n':
+                {"use-counts": "given 2 3 0 total 3", "use-counts-short": "needs 2 refused 16 -"},
+            '// use-counts: total 0\n': {"use-counts": "given 0 total 0"},
+            '// use-counts: repeat 2 { 1# } total 21\n': {"use-counts": "given 2 10 11 total 21"},
+            '// use-counts: refused 17 -\n': {"use-counts": "refused 17 -"},
         }.items():
             self.assertEqual(mkbatch.stated(head + lines), found, lines)
         for text in (head, head + "// uses-short: needs 3\n", head + "// check-short: needs 3\n",
@@ -1390,7 +1604,7 @@ class ListSources(unittest.TestCase):
             "layout whole 2 2 0 1\n", 'name given 4 "" "m" "" ""\n',
             "check passed\n", "init-check passed\n", "list given 0\n", "marks given 0\n", "marks-back given 0\n",
             "marks-outside refused 3 1024\n", "marks-highest refused 3 65535\n", "init given 0\n", "draft given 0\n", "empty given 0\n",
-            "values given 0\n", "chains given 0\n", "lookups given 0 actor.0\n",
+            "values given 0\n", "use-counts given 0 total 0\n", "chains given 0\n", "lookups given 0 actor.0\n",
             'uses "" given 0\n', 'alias "" refused 3 ""\n', 'project "" refused 15 ""\n', 'twice "" refused 15 ""\n',
             'uses "m" given 0\n', 'alias "m" refused 3 "m"\n', 'project "m" given 1 0\n', 'twice "m" refused 15 "m"\n',
             "uses-outside given 0\n", "alias-outside refused 3 1024\n", "alias-highest refused 3 65535\n",
@@ -1399,8 +1613,8 @@ class ListSources(unittest.TestCase):
             "project-all-short needs 1 refused 16 -\n", 'project-every refused 15 ""\n')))
         self.assertEqual(replay.lines("a", answers.outcomes(b"")), [
             "a layout refused 1 -\n", 'a name given 2 "" ""\n',
-            *(f"a {word} refused 1 -\n"
-              for word in "check init-check list marks marks-back marks-outside marks-highest init draft empty values chains lookups".split())])
+            *(f"a {word} refused 1 -\n" for word in (
+                "check init-check list marks marks-back marks-outside marks-highest init draft empty values use-counts chains lookups").split())])
 
     def test_tally(self):
         """By hand: P10's lines, those of a broken book, and P10's when a limit is passed, and a service of P10's method
@@ -1408,19 +1622,19 @@ class ListSources(unittest.TestCase):
         lines = list(replay.printed([("a", answers.outcomes(LIST_BOOKS["p10"])), ("b", answers.outcomes(b"")),
                                      ("c", answers.outcomes(LIST_BOOKS["p10"], (2, 1, 0))),
                                      ("d", answers.outcomes(CHECK_BOOKS["order-hash-alone"]))]))
-        refused = {1: 14, 3: 8, 15: 6, 16: 1, 18: 31, 24: 31}
+        refused = {1: 15, 3: 8, 15: 6, 16: 1, 18: 32, 24: 32}
         given = {"layout": 3, "name": 4, "check": 1, "init-check": 1, "project": 2}
-        words = "layout name check init-check list marks init draft empty values chains lookups uses alias project".split()
-        self.assertEqual(lines[-35:], [
+        words = "layout name check init-check list marks init draft empty values use-counts chains lookups uses alias project".split()
+        self.assertEqual(lines[-36:], [
             *(f"tally refused {number} {refused.get(number, 0)}\n" for number in (*range(1, 19), 24)),
             *(f"tally given {word} {given.get(word, 0)}\n" for word in words),
             "tally incomplete\n"])
-        self.assertFalse(lines[-36].startswith("tally "))
+        self.assertFalse(lines[-37].startswith("tally "))
         tally = answers.Tally()
         for question, word in (("marks", "marks"), ("marks-back", "marks"), ("uses-outside", "uses"), ('uses "a"', "uses"),
                                ('twice "-"', "project"), ("project-all", "project"), ("init", "init"), ("name", "name"),
                                ('alias "a"', "alias"), ("alias-highest", "alias"), ("chains", "chains"), ("lookups", "lookups"),
-                               ("values", "values"), ("values-outside", "values"), ("values-highest", "values")):
+                               ("values", "values"), ("values-outside", "values"), ("values-highest", "values"), ("use-counts", "use-counts")):
             before = tally.given[word]
             tally.add(question, "given 1 x")
             tally.add(question, "given 0")
@@ -1455,7 +1669,7 @@ class Replay(unittest.TestCase):
     def test_tally(self):
         """Every refusal and every answer with entries is in the list."""
         tally = [line for line in self.lines.splitlines() if line.startswith("tally ")]
-        self.assertEqual(len(tally), 19 + 15 + 1)
+        self.assertEqual(len(tally), 19 + 16 + 1)
         self.assertEqual(tally[-1], "tally complete")
         for line in tally[:-1]:
             self.assertGreater(int(line.split()[-1]), 0, line)
@@ -1466,7 +1680,7 @@ class Replay(unittest.TestCase):
         for _, _, _, _, outcomes in self.sources:
             for question, outcome in outcomes.items():
                 words = outcome.split()
-                found[question.split()[0]].add(int(words[1]) if words[0] == "refused" else words[0] if words[1:] != ["0"] else "none")
+                found[question.split()[0]].add(int(words[1]) if words[0] == "refused" else words[0] if words[1:2] != ["0"] else "none")
         check = {1, 18, 24, *NAMED, *NAMELESS}
         given = {"given", "none"}
         self.assertEqual(found, {
@@ -1475,7 +1689,7 @@ class Replay(unittest.TestCase):
             "list": {17, *check, *given}, "marks": {*check, *given}, "marks-back": {*check, *given},
             "marks-outside": check, "marks-highest": check,
             "init": {11, *check, *given}, "draft": {1, 2, 3, 17, 18, 24, *given}, "empty": {*check, *given},
-            "values": {*check, *given}, "values-outside": check - {1}, "values-highest": check - {1},
+            "values": {*check, *given}, "values-outside": check - {1}, "values-highest": check - {1}, "use-counts": {17, *check, *given},
             "chains": {1, 2, 18, 24, *given}, "lookups": {*check, *given},
             "alias": {"given", *check} - {1}, "alias-outside": check - {1}, "alias-highest": check - {1},
             "uses": {16, 17, *check, *given} - {1}, "project": {15, 17, "given", *check} - {1}, "twice": {15, 17, *check} - {1},
@@ -1523,8 +1737,8 @@ class Replay(unittest.TestCase):
                 self.assertEqual(mkbook.book(layout.text(book)), book, name)
             if not name.startswith("limits/"):
                 self.assertEqual(limits, FULL, name)
-        self.assertLess(len(self.records), 5_500_000)  # a book of 4,096 nodes has 49,000
-        self.assertLess(len(self.lines), 7_300_000)
+        self.assertLess(len(self.records), 5_550_000)  # a book of 4,096 nodes has 49,000
+        self.assertLess(len(self.lines), 7_500_000)
 
     def test_layouts_and_checks(self):
         """Every book of tests/layout and of tests/check is there, with what its source says of the layout or of the two checks, and with
@@ -1596,8 +1810,8 @@ class Replay(unittest.TestCase):
             return found, {which: sum(words.values()) for which, words in told.items()}
 
         self.assertEqual(joined(rust), (right, {
-            "the Rust's": 43, "the oracle's own, the names crossed": 5, "the oracle's own, how many values": 1, "the oracle's own, 16": 6,
-            "the oracle's own, 3 for a number outside": 2, "the oracle's own, its reader of books": 2, "the oracle's own, layout broken": 15}))
+            "the Rust's": 44, "the oracle's own, the names crossed": 5, "the oracle's own, how many values": 1, "the oracle's own, 16": 7,
+            "the oracle's own, 3 for a number outside": 2, "the oracle's own, its reader of books": 2, "the oracle's own, layout broken": 16}))
         silent = [line if not line.startswith("a list ") else "a list unanswered ring\n" for line in rust if " list-short" not in line]
         self.assertEqual(joined(silent)[0], right)
         self.assertEqual(joined(silent)[1]["unanswered ring"], 2)
@@ -1628,7 +1842,7 @@ class Replay(unittest.TestCase):
         self.assertIn('a draft refused 18 "x"\n', right)
         self.assertIn("b draft refused 18 -\n", right)
         self.assertEqual({which: sum(words.values()) for which, words in told.items()}, {
-            "the oracle's own, its reader of books": 4, "the oracle's own, 18": 35 + 31})
+            "the oracle's own, its reader of books": 4, "the oracle's own, 18": 36 + 32})
 
     def test_joined_limits(self):
         """Each book of a batch is asked under its own limits, and 24 is no line of the Rust's."""
@@ -1636,13 +1850,13 @@ class Replay(unittest.TestCase):
         right = list(replay.printed(replay.answered(data)))
         self.assertIn("7-10-3 list given 2 \"pair\" \"tree\"\n", right)
         self.assertIn("6-10-3 list refused 24 -\n", right)
-        self.assertIn("tally refused 24 51\n", right)
+        self.assertIn("tally refused 24 52\n", right)
         told = collections.defaultdict(collections.Counter)
         found = list(replay.printed(replay.joined(data, "".join(line for line in right if not line.startswith("tally ")), told)))
         self.assertEqual(found, right)
         self.assertEqual({which: sum(words.values()) for which, words in told.items()}, {
-            "the Rust's": 86, "the oracle's own, the names crossed": 10, "the oracle's own, how many values": 2, "the oracle's own, 16": 12,
-            "the oracle's own, 3 for a number outside": 4, "the oracle's own, its reader of books": 6, "the oracle's own, 24": 51})
+            "the Rust's": 88, "the oracle's own, the names crossed": 10, "the oracle's own, how many values": 2, "the oracle's own, 16": 14,
+            "the oracle's own, 3 for a number outside": 4, "the oracle's own, its reader of books": 6, "the oracle's own, 24": 52})
 
 
 class Batch(unittest.TestCase):

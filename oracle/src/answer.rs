@@ -4,7 +4,7 @@
 #[path = "bench.rs"]
 pub mod bench;
 
-use crate::analysis::{chase_actor, chase_def_use, chase_types, infer_rec, project_methods};
+use crate::analysis::{chase_actor, chase_def_use, chase_type, chase_types, infer_rec, project_methods};
 use crate::book::{self, number_of, quoted, Batch, Book, Limits, Node};
 use crate::numbers::numbers;
 use crate::rows;
@@ -13,7 +13,7 @@ use crate::syntax::{
 };
 use crate::typing;
 use candid::types::{Field, FuncMode, Function, Label, Type, TypeEnv, TypeInner};
-use std::collections::{BTreeMap, HashMap, HashSet};
+use std::collections::{BTreeMap, BTreeSet, HashMap, HashSet};
 use std::io::{Read, Write};
 use std::panic::{catch_unwind, AssertUnwindSafe};
 use std::rc::Rc;
@@ -365,6 +365,23 @@ fn chain<'a>(env: &'a TypeEnv, mut t: &'a Type) -> (Vec<&'a str>, End<'a>) {
     (crossed, End::Ends(t))
 }
 
+/// How many names the class arguments of an actor and the arguments and results of its methods lead to, each for itself, added up.
+fn led_to(env: &TypeEnv, actor: &Type) -> crate::Result<usize> {
+    let actor = env.trace_type(actor)?;
+    let mut types = if let TypeInner::Class(args, _) = actor.as_ref() { args.clone() } else { vec![] };
+    for (_, method) in env.as_service(&actor)? {
+        let function = env.as_func(method)?;
+        types.extend(function.args.iter().chain(&function.rets).cloned());
+    }
+    let mut total = 0;
+    for ty in &types {
+        let mut names = vec![];
+        chase_type(&mut BTreeSet::new(), &mut names, env, ty)?;
+        total += names.len();
+    }
+    Ok(total)
+}
+
 /// A type and its methods numbered, so that a use tells which of two methods of one name it is of.
 fn numbered(t: &Type) -> Type {
     let types = |list: &[Type]| list.iter().map(numbered).collect();
@@ -417,6 +434,21 @@ impl Texts<'_> {
             return Err(Fail::Unanswered("uses-differ".into()));
         }
         Ok(rows)
+    }
+
+    /// How many uses each listed name has, the length of its row, and their sum. That has to be what `chase_type` comes to from the other side: how
+    /// many names each class argument and each argument and result of a method leads to.
+    fn use_counts(&self, checked: &Checked, rows: &BTreeMap<String, Vec<String>>) -> Found<(Vec<String>, String)> {
+        let (env, actor) = (&checked.env, checked.actor()?);
+        let listed = chase_actor(env, actor).map_err(|e| self.row(e))?;
+        let counts: Vec<usize> = listed.iter().map(|name| rows.get(*name).map_or(0, |row| row.len())).collect();
+        let total: usize = counts.iter().sum();
+        let other = led_to(env, actor).map_err(|e| self.row(e))?;
+        let mut after = format!(" total {total}");
+        if other != total {
+            after += &format!(" but {other} from the other side");
+        }
+        Ok((counts.iter().map(|count| count.to_string()).collect(), after))
     }
 
     /// A listed name that is unbound is 3 by document 01, before `infer_rec` is asked: it panics there.
@@ -635,7 +667,7 @@ fn own_call(word: &str, checked: Checked) -> Option<()> {
             infer_rec(&env, &list.unwrap_or_default()).ok().map(drop)
         }
         "empty" => env.replace_empty().ok(),
-        "uses" => chase_def_use(&env, actor.as_ref()?).ok().map(drop),
+        "use-counts" | "uses" => chase_def_use(&env, actor.as_ref()?).ok().map(drop),
         "alias" => env.0.keys().try_for_each(|name| env.rec_find_type(name).map(drop)).ok(),
         "project" => {
             let names = env.as_service(actor.as_ref()?).ok()?.iter().map(|method| method.0.clone()).collect();
@@ -664,7 +696,7 @@ const DRAFT: &str = "draft";
 
 /// The questions that the Rust is asked, in the order of their lines, and whether each is asked again, with one place fewer than the entries
 /// that were given.
-const QUESTIONS: [(&str, Of, bool); 27] = [
+const QUESTIONS: [(&str, Of, bool); 28] = [
     ("check", Of::Book, false),
     ("init-check", Of::Book, false),
     ("list", Of::Book, true),
@@ -676,6 +708,7 @@ const QUESTIONS: [(&str, Of, bool); 27] = [
     (DRAFT, Of::Book, true),
     ("empty", Of::Book, true),
     ("values", Of::Book, false),
+    ("use-counts", Of::Book, true),
     ("chains", Of::Book, false),
     ("lookups", Of::Book, false),
     ("uses", Of::Name, true),
@@ -772,8 +805,15 @@ impl Saying<'_> {
 
     /// Says the outcome of a question, and of the same with too short a list: by construction 16 and the entries given.
     fn say(&mut self, word: &str, name: Option<usize>, outcome: Found<Vec<String>>) {
+        self.say_with(word, name, outcome.map(|entries| (entries, String::new())));
+    }
+
+    /// With what is said after the entries.
+    fn say_with(&mut self, word: &str, name: Option<usize>, outcome: Found<(Vec<String>, String)>) {
         let of = self.of(name);
-        self.lines.push((format!("{word}{of}"), given(self.book, &outcome)));
+        let after = outcome.as_ref().map_or(String::new(), |found| found.1.clone());
+        let outcome = outcome.map(|found| found.0);
+        self.lines.push((format!("{word}{of}"), given(self.book, &outcome) + &after));
         let entries = outcome.map_or(0, |entries| entries.len());
         if entries > 0 && QUESTIONS.iter().any(|question| question.0 == word && question.2) {
             self.lines.push((format!("{word}-short{of}"), format!("needs {entries} refused 16 -")));
@@ -825,10 +865,12 @@ fn lines_of(texts: &Texts) -> Vec<Line> {
     saying.say(DRAFT, None, guarded(STEPS, || texts.draft()));
     saying.say("empty", None, guarded(STEPS, || texts.emptiness(known.clone()?)));
     saying.tell("values", None, guarded(STEPS, || texts.values(known.clone()?)));
+    let uses = guarded(STEPS, || texts.uses(known.clone()?));
+    let use_counts = guarded(STEPS, || texts.use_counts(known.clone()?, uses.as_ref().map_err(|fail| fail.clone())?));
+    saying.say_with("use-counts", None, use_counts);
     saying.tell("chains", None, guarded(STEPS, || texts.chains()));
     saying.tell("lookups", None, guarded(STEPS, || texts.lookups(known.clone()?)));
 
-    let uses = guarded(STEPS, || texts.uses(known.clone()?));
     let uses_of = |name: &str| {
         let row = uses.as_ref().map_err(|fail| fail.clone())?.get(name).cloned().unwrap_or_default();
         if row.len() > MOST_USES {

@@ -15,8 +15,8 @@ use std::time::{Duration, Instant};
 const MOST_TIME: Duration = Duration::from_secs(1);
 const FEWEST: usize = 5;
 
-/// Numbers in the list that is lent for uses: enough for the books that are timed.
-const USES: usize = 3 * 65536;
+/// Numbers in the list that is lent for the uses of a name: enough for the books that are timed.
+const USES: usize = 3 << 22;
 
 // What is timed of the Rust
 
@@ -69,13 +69,13 @@ fn used(checked: crate::Result<Checked>) -> usize {
 
 // And of ours
 
-/// The uses of each name, from bytes each time; gives the entries of all.
-fn our_uses(bytes: &[u8], names: usize, out: &mut [u16]) -> usize {
-    let of = |name| match ours::uses(bytes, FULL, name as u16, out) {
+/// The uses of each of these names, from bytes each time; gives the entries of all.
+fn our_uses(bytes: &[u8], names: &[u16], out: &mut [u16]) -> usize {
+    let of = |name: &u16| match ours::uses(bytes, FULL, *name, out) {
         Answer::Given(count) => count,
         refused => panic!("uses of {name}: {refused:?}"),
     };
-    (0..names).map(of).sum()
+    names.iter().map(of).sum()
 }
 
 // Timing
@@ -154,25 +154,32 @@ fn verdict_of<T>(outcome: &Found<T>) -> Option<Answer> {
     }
 }
 
-/// Holds our uses of each name against a row of the Rust's, and gives the entries of all.
-fn compared_uses(bytes: &[u8], own: &Texts, checked: &Checked, rows: &BTreeMap<String, Vec<String>>) -> usize {
+/// Holds our counts of uses against the lengths of the Rust's rows, and our uses of each listed name against its row. Gives these names, and the
+/// entries of all.
+fn compared_uses(bytes: &[u8], own: &Texts, checked: &Checked, rows: &BTreeMap<String, Vec<String>>) -> (Vec<u16>, usize) {
     let actor = checked.actor.as_ref().expect("an actor");
     let methods = checked.env.as_service(actor).ok().expect("a service");
-    let mut out = vec![0; USES];
-    let mut entries = 0;
-    for (number, name) in own.names.iter().enumerate() {
-        let Answer::Given(count) = ours::uses(bytes, FULL, number as u16, &mut out) else {
-            panic!("the uses of {name}");
-        };
+    let (mut list, mut counts, mut out) = ([0; DEFINITIONS], [0; DEFINITIONS], vec![0; USES]);
+    let listed = ours::list(bytes, FULL, &mut list);
+    assert_eq!(ours::use_counts(bytes, FULL, &mut counts), listed, "the counts' length");
+    let Answer::Given(listed) = listed else {
+        panic!("the list");
+    };
+    let none = vec![];
+    for (number, count) in list[..listed].iter().zip(counts) {
+        let name = &own.names[*number as usize];
+        let row = rows.get(name).unwrap_or(&none);
+        assert_eq!(count as usize, row.len(), "the number of uses of {name}");
+        assert_eq!(ours::uses(bytes, FULL, *number, &mut out), Answer::Given(row.len()), "the uses of {name}");
         let text = |entry: &[u16]| {
             let method = methods.get(entry[0] as usize).map_or("init", |method| method.0.as_str());
             format!("{method}.{}{}", ["arg", "ret"][entry[1] as usize], entry[2])
         };
-        let found: Vec<String> = out[..3 * count].chunks(3).map(text).collect();
-        assert_eq!(&found, rows.get(name).unwrap_or(&vec![]), "the uses of {name}");
-        entries += count;
+        assert!(out.chunks(3).map(text).zip(row).all(|(own, text)| own == *text), "the uses of {name}");
     }
-    entries
+    let entries = counts[..listed].iter().map(|count| *count as usize).sum();
+    assert_eq!(rows.values().map(|row| row.len()).sum::<usize>(), entries, "the uses of what is not listed");
+    (list[..listed].to_vec(), entries)
 }
 
 /// A book as both sides have it before the clock runs.
@@ -240,15 +247,20 @@ impl<'a> Asked<'a> {
         self.four("list", Some(names.len()), ours, |texts| listed(built_check(texts)), |merged, _| listed(check(merged)))
     }
 
-    /// The uses of all names, where there is an actor.
-    fn uses(&self, out: &'a mut [u16]) -> Vec<Question<'a>> {
+    /// The uses of all names, where there is an actor: ours are counts. And ours of one name after another.
+    fn uses(&self, counts: &'a mut [u32; DEFINITIONS], out: &'a mut [u16]) -> Vec<Question<'a>> {
         let bytes = self.bytes;
         let Some((checked, rows)) = self.found.as_ref().ok().and_then(|checked| Some((checked, uses(checked)?))) else {
             return vec![];
         };
-        let (entries, names) = (compared_uses(bytes, self.own, checked, &rows), self.own.names.len());
-        let ours = move || our_uses(black_box(bytes), names, black_box(&mut *out));
-        self.four("uses", Some(entries), ours, |texts| used(built_check(texts)), |merged, _| used(check(merged)))
+        let (names, entries) = compared_uses(bytes, self.own, checked, &rows);
+        let ours = move || ours::use_counts(black_box(bytes), FULL, black_box(&mut counts[..]));
+        let mut questions =
+            self.four("uses", Some(entries), ours, |texts| used(built_check(texts)), |merged, _| used(check(merged)));
+        let listed = names.len();
+        let each = move || our_uses(black_box(bytes), black_box(&names), black_box(&mut *out));
+        questions.push(question("our uses of each".into(), Some(listed), each));
+        questions
     }
 }
 
@@ -268,11 +280,11 @@ fn lines_of_book(bytes: &[u8], of_uses: bool, samples: usize, length: Duration) 
     assert_eq!(ours::check(bytes, FULL), verdict, "the check's answers");
     let (merged, init) = (own.merged().ok(), own.init());
     let asked = Asked { bytes, own: &own, found: &found, merged: merged.as_ref(), init: &init };
-    let (mut out, mut room) = ([0; DEFINITIONS], vec![0; USES]);
+    let (mut out, mut counts, mut room) = ([0; DEFINITIONS], [0; DEFINITIONS], vec![0; USES]);
     let mut questions = asked.init_check();
     stacker::grant(u64::MAX);
     if of_uses {
-        questions = asked.uses(&mut room);
+        questions = asked.uses(&mut counts, &mut room);
     } else {
         questions.extend(asked.check().into_iter().chain(asked.list(&mut out)));
     }
@@ -313,7 +325,7 @@ pub fn run(samples: u64, length: u64) -> i32 {
     timed(false, samples, length)
 }
 
-/// The same of the uses of all names.
+/// The same of the uses of all names, and of each.
 pub fn run_uses(samples: u64, length: u64) -> i32 {
     timed(true, samples, length)
 }

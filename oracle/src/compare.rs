@@ -143,7 +143,7 @@ impl Counts {
         let words: Vec<&str> = outcome.splitn(3, ' ').collect();
         match words[..] {
             ["needs", _, refusal] => self.count(word, refusal),
-            ["given", "0"] => self.entries.entry(word.into()).or_default().0 += 1,
+            ["given", "0", ..] => self.entries.entry(word.into()).or_default().0 += 1,
             ["given", _, _] => self.entries.entry(word.into()).or_default().1 += 1,
             ["refused", number, _] => {
                 let number = number.parse().expect("a number");

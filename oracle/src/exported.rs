@@ -51,14 +51,22 @@ impl Said<'_> {
             Answer::Given(count) => count,
             Answer::Refused(number, low) => return self.refused(number, low),
         };
-        let mut text = format!("given {count}");
+        let (mut text, mut total) = (format!("given {count}"), 0);
         for entry in entries.chunks(question.numbers()) {
             text.push(' ');
             match (question, entry) {
+                (Question::UseCounts, [low, high]) => {
+                    let uses = u32::from(*high) << 16 | u32::from(*low);
+                    text += &uses.to_string();
+                    total += u64::from(uses);
+                }
                 (_, [method, kind, index]) => text += &format!("{method}.{kind}.{index}"),
                 (Question::Project(_), _) => text += &entry[0].to_string(),
                 _ => text += &self.name(entry[0] as usize),
             }
+        }
+        if matches!(question, Question::UseCounts) {
+            text += &format!(" total {total}");
         }
         text
     }

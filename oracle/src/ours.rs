@@ -18,6 +18,7 @@ extern "C" {
         asked: *const u16, count: usize, out: *mut u16, places: usize,
     ) -> u32;
     fn ludzepin_uses(book: *const u8, bytes: usize, names: u32, nodes: u32, definitions: u32, name: u16, out: *mut u16, numbers: usize) -> u64;
+    fn ludzepin_use_counts(book: *const u8, bytes: usize, names: u32, nodes: u32, definitions: u32, out: *mut u32, places: usize) -> u64;
     fn ludzepin_alias(book: *const u8, bytes: usize, names: u32, nodes: u32, definitions: u32, name: u16) -> u64;
     fn ludzepin_values(book: *const u8, bytes: usize, names: u32, nodes: u32, definitions: u32, name: u16) -> u64;
 }
@@ -58,7 +59,7 @@ fn at(list: &[u16]) -> *const u16 {
     if list.is_empty() { std::ptr::null() } else { list.as_ptr() }
 }
 
-fn at_mut(list: &mut [u16]) -> *mut u16 {
+fn at_mut<T>(list: &mut [T]) -> *mut T {
     if list.is_empty() { std::ptr::null_mut() } else { list.as_mut_ptr() }
 }
 
@@ -77,6 +78,11 @@ pub fn list(book: &[u8], limits: Limits, out: &mut [u16]) -> Answer {
 /// Three numbers for an entry.
 pub fn uses(book: &[u8], limits: Limits, name: u16, out: &mut [u16]) -> Answer {
     Question::Uses(name).ask(book, limits, out)
+}
+
+/// The definitions listed; a number in the list for each.
+pub fn use_counts(book: &[u8], [names, nodes, definitions]: Limits, out: &mut [u32]) -> Answer {
+    of_whole(unsafe { ludzepin_use_counts(book.as_ptr(), book.len(), names, nodes, definitions, at_mut(out), out.len()) })
 }
 
 /// What is given is one number, which `crossed` takes apart.
@@ -105,6 +111,8 @@ pub enum Question<'a> {
     /// Of a book and nothing else, and answered with names.
     OfBook(unsafe extern "C" fn(*const u8, usize, u32, u32, u32, *mut u16, usize) -> u32),
     Marks(&'a [u16]),
+    /// The list is one of 32 bits: each entry is two numbers here, and the first stands where such a list may begin.
+    UseCounts,
     Uses(u16),
     Project(&'a [u16]),
 }
@@ -117,21 +125,28 @@ pub const VERDICTS: [(&str, Verdict); 2] = [("check", check), ("init-check", ini
 
 const LIST: Question = Question::OfBook(ludzepin_list);
 
-pub const OF_BOOK: [(&str, Question); 4] = [
+pub const OF_BOOK: [(&str, Question); 5] = [
     ("list", LIST),
     ("init", Question::OfBook(ludzepin_init_list)),
     ("draft", Question::OfBook(ludzepin_draft_list)),
     ("empty", Question::OfBook(ludzepin_emptiness)),
+    ("use-counts", Question::UseCounts),
 ];
 
 impl Question<'_> {
-    pub fn ask(&self, book: &[u8], [names, nodes, definitions]: Limits, out: &mut [u16]) -> Answer {
+    pub fn ask(&self, book: &[u8], limits: Limits, out: &mut [u16]) -> Answer {
+        let [names, nodes, definitions] = limits;
         let (at_book, bytes, at_out, places) = (book.as_ptr(), book.len(), at_mut(out), out.len());
         unsafe {
             match *self {
                 Question::OfBook(ask) => of_half(ask(at_book, bytes, names, nodes, definitions, at_out, places)),
                 Question::Marks(list) => {
                     of_half(ludzepin_marks(at_book, bytes, names, nodes, definitions, at(list), list.len(), at_out, places))
+                }
+                Question::UseCounts => {
+                    let (before, whole, _) = out.align_to_mut();
+                    assert!(before.is_empty(), "a list of 32 bits");
+                    use_counts(book, limits, whole)
                 }
                 Question::Uses(name) => of_whole(ludzepin_uses(at_book, bytes, names, nodes, definitions, name, at_out, places)),
                 Question::Project(asked) => {
@@ -143,7 +158,11 @@ impl Question<'_> {
 
     /// The numbers of an entry.
     pub fn numbers(&self) -> usize {
-        if matches!(self, Question::Uses(_)) { 3 } else { 1 }
+        match self {
+            Question::Uses(_) => 3,
+            Question::UseCounts => 2,
+            _ => 1,
+        }
     }
 
     /// Entries that there is always room for; in uses those that answer_batch has room for.

@@ -1,11 +1,12 @@
--- A node of a book: its row, its tree, and those below it; the names of rows; and the methods of services. Assumes nothing.
+-- A node of a book: its row, its tree, and those below it; the names of rows; the methods of services; and where chains end. Assumes nothing.
 --     Rooted, Readable           a book's nodes with a table of roots, and trees of it; what a scope has
 --     untabled                   a book's nodes, where no table is asked for
 --     here-..                    a node
 --     next-at                    where a walk over sibling trees goes on
 --     row_names, names-name, ..   the names that rows refer to, one after the other
 --     services-some, ..          the methods of services, by their nodes
-use mathlib.Core.Path.{◌≡◌, refl, sym, ap, ◌∙◌}
+--     ends-nowhere, end-below, ..   the end of a chain, by the table of alias ends
+use mathlib.Core.Path.{◌≡◌, refl, sym, ap, subst, ◌∙◌}
 use mathlib.Core.List.{List, [], ◌∷◌}
 use Prim.Native.Nat.{ℕ, suc, ◌+◌, ◌-◌, ◌≤◌, ◌<◌}
 use native.Mathlib.Numerals.{add-one}
@@ -13,8 +14,10 @@ use native.Mathlib.Omega.{arith}
 use borrow.Author.Tests.{eq-eqb, ne_eqb}
 use lib.ListN.{length, get_or, drop, drop_of_length-le}
 use lib.Seq.{drop-cons}
+use Rattle.std.specs.Prelude.{Option, Some, None, IfSome}
 use Rattle.format.specs.Forest.{Forest, end, beside}
 use Rattle.format.specs.Node.{Node}
+use Rattle.format.specs.Book.{Definition}
 use Rattle.format.specs.Encode.{Row}
 use Rattle.format.specs.Layout.{row_at, run, siblings}
 use Rattle.format.specs.Whole.{Whole, Within, WholeAt, WholeIn, tree_at}
@@ -32,8 +35,11 @@ use Rattle.syntax.specs.Interfaces.{methods_in}
 use Rattle.syntax.proofs.Stored.{tree-kids}
 use Rattle.environment.proofs.Trees.{node-trees, node-some, no-ends}
 use Rattle.listing.proofs.Leaves.{Leafy, fits-leafy}
-use Rattle.environment.specs.Tables.{Roots}
+use Rattle.judgement.specs.Aliases.{End, unbound, circle, ends, alias_end}
+use Rattle.environment.specs.Tables.{Roots, EndAt, Chains, Ended, end_node}
+use Rattle.environment.proofs.ChainEnds.{served-at, end-whole, end-at, end-inside}
 use Rattle.environment.specs.declared.scope.BookScope.{BookScope}
+use Rattle.analysis.specs.Entries.{OfferIn}
 
 -- All nodes of a book, and a table of roots.
 pub record Rooted (ns roots : List ℕ) : Type 0 where
@@ -128,6 +134,42 @@ module _ (ns services : List ℕ) {k : ℕ} where
       let s : ℕ = get_or services k 0 in
       ap (methods_in ns) (drop-cons services k 0 h ∙ ap (λ (j : ℕ). s ∷ drop j services) (sym (add-one k)))
       ∙ ap (λ (f : Forest Node). beside f (methods_in ns (drop (k + 1) services))) (tree-kids w ∙ ap (λ (z : Row). siblings ns (s + 1) (s + z.size)) (sym is))
+
+-- the service of an interface
+abbrev pub offer-ended : {ns ends' services : List ℕ} {nodes from until : ℕ} (x : OfferIn ns ends' nodes from until services) {k : ℕ} → k < length services → Ended ns ends' (get_or services k 0)
+offer-ended {nodes = nodes} x {k} h = record { names = x.names; count = nodes; nodes = x.book; table = x.table; inside = x.service k h }
+
+-- ---- Where a chain ends
+module _ (ns : List ℕ) where
+  pub ends-nowhere : (x : End) → EndAt ns None x → (n : ℕ) × (x ≡ unbound n)
+  ends-nowhere (unbound n) q = (n, refl)
+  ends-nowhere circle q = absurd q
+  ends-nowhere (ends t) q = let z = q.1 in cc
+
+  pub ends-there : (e : ℕ) (x : End) → EndAt ns (Some e) x → x ≡ ends (tree_at ns e)
+  ends-there e (unbound n) q = cc
+  ends-there e circle q = absurd q
+  ends-there e (ends t) q = let z = q.1 in let n : q.0 ≡ e = cc in ap ends (q.2 ∙ ap (tree_at ns) n)
+
+-- by the table of alias ends, of the chain from a node
+module _ {ns ends' : List ℕ} {service : ℕ} (s : Ended ns ends' service) {node : ℕ} (h : node < s.count) {e : Option ℕ} (is : e ≡ end_node ns ends' node) where
+  end-all : (P : ℕ → Type 0) → ((f : ℕ) → Some f ≡ end_node ns ends' node → P f) → IfSome e P
+  end-all P p = go e is
+    where
+      go : (o : Option ℕ) → o ≡ end_node ns ends' node → IfSome o P
+      go None z = tt
+      go (Some f) z = p f z
+
+  pub end-whole-at : IfSome e (λ f. WholeAt ns f)
+  end-whole-at = end-all (WholeAt ns) (λ f z. end-whole (served-at s node h) z)
+
+  pub end-below : {n : ℕ} → s.count ≤ n → IfSome e (λ f. f < n)
+  unfolding served-at
+  end-below {n} u = end-all (λ f. f < n) (λ f z. omega (arith, end-inside (served-at s node h) z))
+
+  pub end-reached : (ds : List Definition) → Chains ns ends' s.names ds → EndAt ns e (alias_end ds (tree_at ns node))
+  unfolding served-at
+  end-reached ds c = subst (λ (z : Option ℕ). EndAt ns z (alias_end ds (tree_at ns node))) (sym is) (end-at (served-at s node h) ds c)
 
 -- ---- A walk over sibling trees goes on to the node after the one that it gave
 pub next-at : {ns : List ℕ} {e : ℕ} {s : Siblings} → Over ns e s → {n : ℕ} {node : read.Node} {t : Siblings} → NextTree s n node t → t.at ≡ s.at + node.size

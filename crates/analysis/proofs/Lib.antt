@@ -1,3 +1,3 @@
 -- Laws that the proofs of several modules cite. What callers cite stands under the module that it serves: chase, def_use, hand, project,
--- reaching and recursive.
+-- reaching, recursive and use_counts.
 pub mod BookNodes

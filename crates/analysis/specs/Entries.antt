@@ -2,7 +2,7 @@
 --     uses_by              the entries of the sites that pass a test
 --     put_all, Puts        entries in a lent slice
 --     HitsIn, Tested      a test of types, by the numbers that the code has for nodes
---     EndTested, Served, Offered   what is known of a chain's end, of a service and of an interface
+--     EndTested, Served, ..   what is known of a chain's end, of a service and of an interface
 use Rattle.std.specs.Prelude.{◌≡◌, Option, Some, Bool, cond, List, [], ◌∷◌, map, ℕ, suc, ◌+◌, ◌*◌, ◌/◌, ◌≤◌, ◌<◌, ltb, length, get_or}
 use Rattle.std.proofs.lemmas.List.Edits.{sets}
 use Rattle.format.specs.Forest.{Forest, breadth}
@@ -106,16 +106,20 @@ pub record Served (ns ends' near : List ℕ) (service : ℕ) : Type 0 where
   pub used : Test
   pub known : Known ns ends' near ended.names ended.count definitions used
 
--- An interface in a book of some definitions: a class's arguments, which are the trees from node `from` up to node `until`, and services.
-pub record Offered (ns ends' near : List ℕ) (from until : ℕ) (services : List ℕ) : Type 0 where
+-- An interface in a book: a class's arguments, which are the trees from node `from` up to node `until`, and services.
+pub record OfferIn (ns ends' : List ℕ) (nodes from until : ℕ) (services : List ℕ) : Type 0 where
   pub names : ℕ
-  pub nodes : ℕ
   pub book : Nodes ns names nodes
   pub table : EndNodes ends' nodes
   pub arguments : Whole ns from until
   pub inside : until ≤ nodes
   pub few : length services ≤ 16
   pub service : (k : ℕ) → k < length services → get_or services k 0 < nodes
+
+-- The same in a book of some definitions, with a test.
+pub record Offered (ns ends' near : List ℕ) (from until : ℕ) (services : List ℕ) : Type 0 where
+  pub nodes : ℕ
+  pub offer : OfferIn ns ends' nodes from until services
   pub definitions : List Definition
   pub used : Test
-  pub known : Known ns ends' near names nodes definitions used
+  pub known : Known ns ends' near offer.names nodes definitions used

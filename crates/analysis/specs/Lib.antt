@@ -6,3 +6,4 @@ pub mod Reaching
 pub mod Places
 pub mod Entries
 pub mod Projecting
+pub mod Tallies

@@ -9,3 +9,4 @@ mod places;
 pub mod project;
 pub mod reaching;
 pub mod recursive;
+pub mod use_counts;

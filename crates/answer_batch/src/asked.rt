@@ -52,6 +52,7 @@ impl Asking<'_> {
         self.ask_again(b"draft", None, Question::DraftList);
         self.ask_again(b"empty", None, Question::Emptiness);
         self.ask_values(names);
+        self.ask_use_counts();
         self.ask_inner();
         self.ask_of_names(names, listed);
     }

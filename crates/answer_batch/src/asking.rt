@@ -10,7 +10,8 @@ use refusals::{Answer, Count, Refusal, Verdict};
 pub(crate) const ROOM: usize = 12288;
 
 // The questions whose answers are lists, with what they are asked with. A new one is a variant with its arms, a place in the tally with its
-// word, and the line that asks it. An alias chain and a number of values are no lists, and are asked on their own.
+// word, and the line that asks it. An alias chain and a number of values are no lists, and a uses report has wider numbers: they are asked on their
+// own.
 #[derive(Clone, Copy)]
 pub(crate) enum Question<'a> {
     MainList,
@@ -145,6 +146,39 @@ impl Asking<'_> {
         }
     }
 
+    // How many uses each listed definition has, and all together; then, where any is listed, once more with one place less.
+    pub(crate) fn ask_use_counts(&mut self) {
+        let mut out = [0; Limits::DEFINITIONS];
+        self.begin_word(b"use-counts");
+        let found = match questions::use_counts(self.book, self.limits, &mut out) {
+            Err(why) => return self.refuse(why),
+            Ok(found) => found,
+        };
+        let counts = out.get(..found.listed).unwrap_or(&[]);
+        self.lines.count(b"given ", found.listed);
+        for count in counts {
+            self.lines.count(b" ", *count as usize);
+        }
+        self.lines.count(b" total ", found.total as usize);
+        self.lines.write(b"\n");
+        self.tally.give_entries(Given::UseCounts, found.listed);
+        let Some(places) = counts.len().checked_sub(1) else {
+            return;
+        };
+        self.begin(b"use-counts", b"-short", None);
+        match questions::use_counts(self.book, self.limits, &mut out[..places]) {
+            Err(why) => self.refuse_short(why),
+            Ok(found) => self.lines.count(b"given ", found.listed),
+        }
+    }
+
+    // What a list too short is refused with, after the entries needed.
+    fn refuse_short(&mut self, why: Refusal) {
+        self.lines.count(b"needs ", why.needed() as usize);
+        self.lines.write(b" ");
+        self.refuse(why);
+    }
+
     // Asks a question into a lent list. Answers the numbers that were given.
     fn ask_into<'o>(
         &mut self,
@@ -203,11 +237,7 @@ impl Asking<'_> {
         };
         self.begin(word, b"-short", about);
         match question.reply(self.book, self.limits, &mut out[..places]) {
-            Err(why) => {
-                self.lines.count(b"needs ", why.needed() as usize);
-                self.lines.write(b" ");
-                self.refuse(why);
-            }
+            Err(why) => self.refuse_short(why),
             Ok(entries) => self.lines.count(b"given ", entries),
         }
         &out[..end]

@@ -15,6 +15,7 @@ pub(crate) enum Given {
     DraftList,
     Emptiness,
     Values,
+    UseCounts,
     Chains,
     Lookups,
     Uses,
@@ -23,7 +24,7 @@ pub(crate) enum Given {
 }
 
 impl Given {
-    const COUNT: usize = 15;
+    const COUNT: usize = 16;
 
     // Each with its word, in the order in which they are printed.
     const ALL: [(Given, &'static [u8]); Given::COUNT] = [
@@ -37,6 +38,7 @@ impl Given {
         (Given::DraftList, b"draft"),
         (Given::Emptiness, b"empty"),
         (Given::Values, b"values"),
+        (Given::UseCounts, b"use-counts"),
         (Given::Chains, b"chains"),
         (Given::Lookups, b"lookups"),
         (Given::Uses, b"uses"),

@@ -4,7 +4,7 @@ use Rattle.refusals.specs.declared.Count.TheVariants.{Exactly, Many}
 use Rattle.refusals.specs.declared.Refusal.{Refusal}
 use Rattle.refusals.specs.Verdict.{Verdict}
 use Rattle.refusals.specs.Refusal.{number_of, name_of, needed_of}
-use Rattle.refusals.specs.Handed.{Answer, AliasAnswer, CountAnswer}
+use Rattle.refusals.specs.Handed.{Answer, AliasAnswer, CountAnswer, UseCountsAnswer}
 
 -- 0 where it passes; else the refusal's number in the high 16 bits, and in the low ones the number of its name, 65,535 for none.
 unfoldable pub coded : Verdict → ℕ
@@ -37,6 +37,11 @@ coded_answer a = coded_by small a
 
 abbrev pub coded_uses : Answer → ℕ
 coded_uses a = coded_by wide a
+
+-- What is coded of a uses report, as uses are: how many definitions are listed.
+unfoldable pub listed_of : UseCountsAnswer → Answer
+listed_of (Ok c) = Ok c.listed
+listed_of (Err r) = Err r
 
 -- Of an alias chain, in 64 bits too: of the low 32 the high half has the names crossed, the low half the last of them. A refusal is as that of
 -- uses.

@@ -4,9 +4,9 @@
 
 ghost use Rattle.std.specs.Prelude.{◌≡◌, ℕ, ◌≤◌, ◌<◌, ◌/◌, ◌%◌};
 ghost use Rattle.refusals.specs.Refusal.{needed_of};
-ghost use Rattle.codes.specs.Coded.{coded, low_of, coded_by, coded_answer, coded_uses, coded_alias, coded_count, Below, small, wide, SaysAnswer, ReadVerdict, ReadAnswer, ReadUses, ReadAlias, ReadCount};
+ghost use Rattle.codes.specs.Coded.{coded, low_of, coded_by, coded_answer, coded_uses, coded_alias, coded_count, listed_of, Below, small, wide, SaysAnswer, ReadVerdict, ReadAnswer, ReadUses, ReadAlias, ReadCount};
 
-use refusals::{AliasAnswer, Answer, Count, CountAnswer, Refusal, Verdict};
+use refusals::{AliasAnswer, Answer, Count, CountAnswer, Refusal, UseCountsAnswer, Verdict};
 
 // A refusal's number stands above what it tells: a name's number, or the entries needed. The C interface asks for one number, so this is no enum.
 const BELOW: u64 = 65536;
@@ -70,6 +70,19 @@ pub fn uses_code(a: Answer) -> u64
     ensures read { ReadUses a result }
 {
     by_unit::<BELOW_USES>(a)
+}
+
+// The same for a uses report: how many definitions are listed. The total is the sum of what stands in the lent list.
+#[tactic(auto, unfolding(crate::specs::Coded::listed_of))]
+pub fn use_counts_code(a: UseCountsAnswer) -> u64
+    requires { Below wide (listed_of a) }
+    ensures answer { result ≡ coded_uses (listed_of a) }
+    ensures read { ReadUses (listed_of a) result }
+{
+    match a {
+        Ok(c) => uses_code(Ok(c.listed)),
+        Err(why) => uses_code(Err(why)),
+    }
 }
 
 // The same for an alias chain: the names crossed stand above the last of them.

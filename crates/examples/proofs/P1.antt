@@ -1,15 +1,17 @@
 -- P1 of document 01, as it is read from its bytes, is a book and a draft as demand 3 speaks of. Assumes nothing.
 --     p1-answers, p1-listed, p1-marked           the demand's sentences hold of it; its list is pair and tree, and tree is marked
 --     p1-in-three, p1-in-one                     what stands in lent lists of three places and of one
+--     p1-counts, p1-counts-in-three, p1-total    each has one use, and together they have two, from the other side too
 --     p1-read, p1-labels, p1-list, p1-marks      its bytes, its labels, and what is answered, by computation
 --     p1-draft                                   the sentences hold of it as a draft
 --     p1-within, p1-over                         limits that take it, and limits that do not
 use mathlib.Core.Path.{◌≡◌, refl, sym, ap, ap₂, subst, ◌∙◌}
 use mathlib.Core.List.Memᴰ
 use mathlib.Core.List.{List, [], ◌∷◌, ◌++◌, map}
-use Prim.Native.Nat.{ℕ}
+use Prim.Native.Nat.{ℕ, ◌≤◌}
 use native.Mathlib.Omega.{arith}
-use lib.ListN.{take-append-drop}
+use lib.ListN.{length, take-append-drop}
+use Rattle.std.specs.List.{sum}
 use Rattle.format.specs.Forest.{end}
 use Rattle.format.specs.Book.{trees}
 use Rattle.format.specs.Layout.{whole, layout}
@@ -18,13 +20,14 @@ use Rattle.format.specs.declared.Limits.{Limits}
 use Rattle.format.specs.Within.{full, size_of, Within, Over}
 use Rattle.format.specs.Admission.{Source, ◌under◌, admitted, on_bytes}
 use Rattle.format.proofs.Within.{over-says}
-use Rattle.format.proofs.Admission.{admitted-says, admitted-whole}
+use Rattle.format.proofs.Admission.{admitted-fits, admitted-says, admitted-whole}
 use Rattle.format.proofs.Raising.{full-admits}
 use Rattle.format.proofs.Repeats.{labels-say}
 use Rattle.refusals.specs.declared.Refusal.TheVariants.{Short, OverLimit}
 use Rattle.std.specs.Prelude.{Ok, Err}
 use Rattle.refusals.specs.Verdict.{passes}
-use Rattle.refusals.specs.Handed.{Answer, HandedAs}
+use Rattle.refusals.specs.Handed.{Answer, HandedAs, UseCountsAnswer, UseCountsAs}
+use Rattle.refusals.proofs.Outcomes.{same-given}
 use Rattle.judgement.specs.Actor.{main_actor}
 use Rattle.judgement.specs.Resolve.{resolve_actor}
 use Rattle.judgement.specs.Check.{check}
@@ -35,6 +38,8 @@ use Rattle.refusals.specs.Outcome.{refused, given}
 use Rattle.listing.specs.List.{list}
 use Rattle.listing.specs.Marks.{marks_over}
 use Rattle.listing.specs.DraftList.{draft_definitions}
+use Rattle.listing.specs.UseCounts.{use_counts, TotalOf, CountsDelivered, CountsSent}
+use Rattle.listing.proofs.UseCounts.{use-counts-say, counts-sent, counts-computed}
 use Rattle.listing.proofs.Examples.{drafted}
 use Rattle.listing.specs.Demand3.{Answers, DraftAnswers, Delivers, Sent, SentDraft}
 use Rattle.listing.proofs.Demand3.{sent-bytes, sent-draft-bytes}
@@ -98,6 +103,27 @@ p1-marks = refl
 
 pub p1-marked : p1-answers.marked ≡ 6 ∷ []
 p1-marked = let e = sym p1-answers.marks_given.0 ∙ ap (marks_over p1) p1-listed ∙ p1-marks in cc
+
+-- ---- Its uses: each name has one, by the argument of put
+pub p1-counts : use_counts p1 ≡ given (1 ∷ 1 ∷ [])
+unfolding counts-computed samples-computed
+p1-counts = refl
+
+pub p1-counts-sent : CountsSent p1-source p1
+p1-counts-sent = counts-sent p1-source p1 p1-admitted p1-passes has-actor
+
+pub p1-counted : p1-counts-sent.counts ≡ 1 ∷ 1 ∷ []
+p1-counted = same-given (sym ((use-counts-say p1 (admitted-fits p1-source p1-admitted) p1-counts-sent.counts).1 p1-counts-sent.is-given) ∙ p1-counts)
+
+pub p1-counts-in-three : {x y z : ℕ} {new : List ℕ} {r : UseCountsAnswer} → UseCountsAs (on_bytes use_counts p1-source) (x ∷ y ∷ z ∷ []) new r →
+    (r ≡ Ok (record { listed = 2; total = 2 })) × (new ≡ 1 ∷ 1 ∷ z ∷ [])
+p1-counts-in-three {x} {y} {z} {new} {r} h =
+    let room : length p1-counts-sent.counts ≤ 3 = omega (arith, ap length p1-counted) in
+    let d = subst (λ (l : List ℕ). CountsDelivered l (x ∷ y ∷ z ∷ []) new r) p1-counted (p1-counts-sent.enough h room) in
+    (d.answer, sym (take-append-drop 2 new) ∙ ap₂ ◌++◌ d.front d.rest)
+
+pub p1-total : TotalOf p1 2
+p1-total = subst (λ (l : List ℕ). TotalOf p1 (sum l)) p1-counted p1-counts-sent.total
 
 -- ---- As a draft: it has an actor, and no name is defined twice
 main-actor : main_actor p1 ≡ end → ⊥

@@ -11,13 +11,14 @@ ghost use Rattle.listing.specs.InitList.{init_list};
 ghost use Rattle.listing.specs.DraftList.{draft_list};
 ghost use Rattle.listing.specs.Marks.{marks_over};
 ghost use Rattle.listing.specs.Uses.{uses};
+ghost use Rattle.listing.specs.UseCounts.{use_counts};
 ghost use Rattle.listing.specs.Alias.{alias};
 ghost use Rattle.listing.specs.Project.{project};
 ghost use Rattle.listing.specs.Empty.{emptiness};
 ghost use Rattle.listing.specs.Values.{values};
 ghost use Rattle.refusals.specs.Handed.{alias_answer, count_answer};
 ghost use Rattle.codes.specs.Coded.{coded, coded_alias, coded_count, ReadVerdict, ReadAlias, ReadCount};
-ghost use Rattle.exports.specs.Handed.{limits_of, CodedAs, UsesCodedAs};
+ghost use Rattle.exports.specs.Handed.{limits_of, CodedAs, UsesCodedAs, UseCountsCodedAs};
 
 use format::Limits;
 
@@ -158,6 +159,21 @@ pub extern "C" fn ludzepin_uses(
 {
     let limits = limits_of(names, nodes, definitions);
     codes::uses_code(questions::uses(book, limits, name, out))
+}
+
+// How many uses each listed definition has, in the order of the list; 512 places are always enough.
+#[unsafe(no_mangle)]
+pub extern "C" fn ludzepin_use_counts(
+    book: &[u8],
+    names: u32,
+    nodes: u32,
+    definitions: u32,
+    out: &mut [u32],
+) -> u64
+    ensures { UseCountsCodedAs (on_bytes use_counts (book.now under limits_of names nodes definitions)) out.old out.new result }
+{
+    let limits = limits_of(names, nodes, definitions);
+    codes::use_counts_code(questions::use_counts(book, limits, out))
 }
 
 // How many names the alias chain of a name crosses, and the last of these.

@@ -1,6 +1,7 @@
 -- What a caller has in hand after a call that hands an outcome over. Assumes nothing.
 --     gives, fit-unbound               a list that is long enough; a name that is unbound, in lists of any length
 --     handed-delivers, uses-delivers   what is given is delivered where it fits
+--     counts-delivered, counts-kept    the same of numbers that are told with their sum
 --     handed-unbound, handed-kept,
 --     handed-gives                     what an answer tells of the outcome, and of the lent list
 use mathlib.Core.Path.{◌≡◌, refl, sym, ap, ◌∙◌}
@@ -18,9 +19,10 @@ use Rattle.refusals.specs.declared.Refusal.TheVariants.{Unbound, Short}
 use Rattle.std.specs.Prelude.{Ok, Err}
 use Rattle.refusals.specs.Lists.{flat}
 use Rattle.refusals.specs.Outcome.{Outcome, refused, given, fit}
-use Rattle.refusals.specs.Handed.{Answer, answer_of, left_in, HandedAs, Use, numbers, uses_left, UsesAs}
+use Rattle.refusals.specs.Handed.{Answer, answer_of, left_in, HandedAs, Use, numbers, uses_left, UsesAs, UseCountsAnswer, use_counts_answer, UseCountsAs}
 use Rattle.refusals.proofs.Outcomes.{given-refused, fit-said, fit-given}
 use Rattle.listing.specs.Demand3.{Gives, Delivered, Kept, Delivers}
+use Rattle.listing.specs.UseCounts.{CountsDelivered, CountsKept}
 
 -- ---- An outcome in so many places
 module _ {A : Type 0} (o : Outcome (List A)) where
@@ -99,6 +101,22 @@ uses-delivers o {es} is = record { enough = enough; short = short }
     short {old} h few =
         let e = lacks o is (length old / 3) (omega (arith, flat-length es)) in
         record { answer = h.answer ∙ ap answer_of e; same = h.left ∙ ap (λ (x : Outcome (List Use)). uses_left x old) e }
+
+-- The lent list is handed over as with any list.
+module _ (o : Outcome (List ℕ)) {l : List ℕ} (is : o ≡ given l) {old new : List ℕ} {r : UseCountsAnswer} (h : UseCountsAs o old new r) where
+  as-any : HandedAs o old new (answer_of (fit (length old) o))
+  as-any = record { answer = refl; left = h.left }
+
+  pub counts-delivered : length l ≤ length old → CountsDelivered l old new r
+  unfolding use_counts_answer
+  counts-delivered room =
+      let d = (handed-delivers o is).enough as-any room in
+      record { answer = h.answer ∙ ap use_counts_answer ((gives o is).1 (length old) room); front = d.front; rest = d.rest; long = d.long }
+
+  pub counts-kept : length old < length l → CountsKept (length l) old new r
+  unfolding use_counts_answer
+  counts-kept few =
+      record { answer = h.answer ∙ ap use_counts_answer (lacks o is (length old) few); same = ((handed-delivers o is).short as-any few).same }
 
 -- ---- What an answer tells of an outcome that was handed over
 module _ {o : Outcome (List ℕ)} {old new : List ℕ} {r : Answer} (h : HandedAs o old new r) where

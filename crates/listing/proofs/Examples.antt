@@ -75,7 +75,7 @@ init-listed = init_list
 abbrev pub plain : Kind → Forest Node → Forest Node
 plain κ kids = tree (record { kind = κ; label = unlabelled }) kids end
 
-abbrev field : Label → Kind → Forest Node → Forest Node
+abbrev pub field : Label → Kind → Forest Node → Forest Node
 field l κ next = tree (record { kind = κ; label = labelled l }) end next
 
 -- A type that is the name with that number.
@@ -86,7 +86,7 @@ abbrev pub type : ℕ → ℕ → Forest Node → Definition
 type file n t = record { name = n; file = file; body = t }
 
 -- service : { m : (arguments) -> () }
-abbrev service : ℕ → Forest Node → Forest Node
+abbrev pub service : ℕ → Forest Node → Forest Node
 service m arguments = plain ServT (tree (record { kind = FuncT (breadth arguments) []; label = labelled (Named m) }) arguments end)
 
 -- The names a, b and z have the numbers 1, 2 and 3; files and methods have the empty name. There is an import of types beside main.

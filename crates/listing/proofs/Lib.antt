@@ -20,6 +20,8 @@ pub mod Marks
 pub mod Uses
 pub mod Alias
 pub mod DefUse
+pub mod Totals
+pub mod UseCounts
 pub mod Project
 pub mod Capped
 pub mod Numbers

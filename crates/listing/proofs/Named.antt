@@ -33,6 +33,7 @@ use Rattle.listing.specs.InitList.{init_list, InitListRow}
 use Rattle.listing.specs.DraftList.{draft_definitions, draft_list, DraftRow}
 use Rattle.listing.specs.Marks.{marks_over, MarksRow}
 use Rattle.listing.specs.Uses.{uses, UsesRow}
+use Rattle.listing.specs.UseCounts.{use_counts}
 use Rattle.listing.specs.Alias.{alias, AliasRow}
 use Rattle.listing.specs.Values.{values, ValuesRow}
 use Rattle.listing.specs.Project.{project, ProjectRow}
@@ -51,6 +52,7 @@ use Rattle.listing.proofs.InitList.{init-list-in-row}
 use Rattle.listing.proofs.DraftList.{draft-in-row}
 use Rattle.listing.proofs.Marks.{marks-in-row}
 use Rattle.listing.proofs.Uses.{uses-in-row}
+use Rattle.listing.proofs.UseCounts.{refused-alike, bytes-refused-alike}
 use Rattle.listing.proofs.Alias.{alias-in-row}
 use Rattle.listing.proofs.Values.{values-in-row}
 use Rattle.listing.proofs.Project.{listed-times, project-in-row}
@@ -111,6 +113,9 @@ module _ (b : Book) (fits : Fits b) (places : ℕ) where
   pub list-names : {r : Refusal} → fit places (list b) ≡ refused r → NamesPlace names r
   list-names e = list-row-names (list-in-row b fits places e)
 
+  pub use-counts-names : {r : Refusal} → fit places (use_counts b) ≡ refused r → NamesPlace names r
+  use-counts-names {r} e = list-names ((refused-alike b places r).0 e)
+
   pub init-list-names : {r : Refusal} → fit places (init_list b) ≡ refused r → NamesPlace names r
   init-list-names e = init-list-row-names (init-list-in-row b fits places e)
 
@@ -148,6 +153,9 @@ values-names b fits n e = values-row-names b fits n (values-in-row b fits n e)
 module _ (bs : Source) (places : ℕ) {r : Refusal} where
   pub list-bytes-names : fit places (on_bytes list bs) ≡ refused r → InRow bs (λ b. NamesPlace (length b.names)) r
   list-bytes-names = asked-row bs places list (λ b. NamesPlace (length b.names)) (λ b fits. list-names b fits places)
+
+  pub use-counts-bytes-names : fit places (on_bytes use_counts bs) ≡ refused r → InRow bs (λ b. NamesPlace (length b.names)) r
+  use-counts-bytes-names e = list-bytes-names ((bytes-refused-alike bs places r).0 e)
 
   pub init-list-bytes-names : fit places (on_bytes init_list bs) ≡ refused r → InRow bs (λ b. NamesPlace (length b.names)) r
   init-list-bytes-names = asked-row bs places init_list (λ b. NamesPlace (length b.names)) (λ b fits. init-list-names b fits places)

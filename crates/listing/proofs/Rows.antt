@@ -27,6 +27,7 @@ use Rattle.listing.specs.List.{list, ListRow}
 use Rattle.listing.specs.InitList.{init_list, InitListRow}
 use Rattle.listing.specs.Marks.{marks_over, MarksRow}
 use Rattle.listing.specs.Uses.{uses, UsesRow}
+use Rattle.listing.specs.UseCounts.{use_counts}
 use Rattle.listing.specs.Alias.{alias, AliasRow}
 use Rattle.listing.specs.Values.{values, ValuesRow}
 use Rattle.listing.specs.Project.{project, ProjectRow}
@@ -44,6 +45,7 @@ use Rattle.listing.proofs.List.{list-after}
 use Rattle.listing.proofs.InitList.{init-says}
 use Rattle.listing.proofs.Marks.{marks-unbound, marks-after}
 use Rattle.listing.proofs.Uses.{uses-after}
+use Rattle.listing.proofs.UseCounts.{given-alike}
 use Rattle.listing.proofs.Alias.{alias-unbound, alias-after}
 use Rattle.listing.proofs.Values.{values-unbound, values-after}
 use Rattle.listing.proofs.Project.{project-absent, project-after}
@@ -96,6 +98,10 @@ module _ (b : Book) (fits : Fits b) (places : ℕ) where
   list-refuses (listed.checked x) = checked-unanswered places list list-after b fits x
   list-refuses (listed.no_actor x) = refused-unanswered places (list b) (actor-lacks b _ x.0 x.1)
   list-refuses (listed.short x) = short-unanswered places (list b) x
+
+  -- the numbers of uses have the list's rows
+  pub use-counts-refuses : {r : Refusal} → ListRow b places r → Unanswered places (use_counts b)
+  use-counts-refuses x counts g = let p = (given-alike b places).0 g in list-refuses x p.0 p.1
 
   pub init-list-refuses : {r : Refusal} → InitListRow b places r → Unanswered places (init_list b)
   init-list-refuses (inits.checked x) = λ l g. init-row-refuses b fits x ((init-says b fits l).0 (fit-given places (init_list b) g)).0

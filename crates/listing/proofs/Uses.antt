@@ -11,7 +11,7 @@
 --     uses-given, uses-say, ..       so the question is answered with the row
 --     own-name                       the name of a method's own function is by itself no use
 --     uses-in-row, uses-numbers      a refusal lies in its row; the rows that there are
---     uses-few, uses-most            no more entries than so many
+--     sites-few, uses-few, ..        no more arguments and results, and no more entries, than so many
 --     uses-bytes-in-row, ..          all on bytes
 use mathlib.Core.Path.{◌≡◌, refl, sym, ap, subst, ◌∙◌}
 use mathlib.Core.Logic.{◌↔◌, ◌⊎◌, inl, inr, ⊎_elim}
@@ -237,7 +237,7 @@ sites-reach ds actor s m n r =
 -- ---- What passes a test
 
 module _ {A : Type 0} where
-  kept-cons : (test : A → Bool) (P : List A → Type 0) (a : A) (l : List A) → (T (test a) → P (a ∷ kept test l)) → ((T (test a) → ⊥) → P (kept test l)) → P (kept test (a ∷ l))
+  pub kept-cons : (test : A → Bool) (P : List A → Type 0) (a : A) (l : List A) → (T (test a) → P (a ∷ kept test l)) → ((T (test a) → ⊥) → P (kept test l)) → P (kept test (a ∷ l))
   unfolding kept
   kept-cons test P a l = go (test a)
     where
@@ -349,16 +349,15 @@ uses-kept ds n (s ∷ all) = go (is_listed n (chase_types ds s.type)) (uses-kept
     go true e = ap (λ (l : List Use). s.entry ∷ l) e
     go false e = e
 
+-- It is listed just where it is reachable.
+pub walk-says : (ds : List Definition) {f : Forest Node} → WalkLists ds f → (n : ℕ) → T (is_listed n (chase_types ds f)) ↔ Reachable ds f n
+unfolding is_listed
+walk-says ds w n = let i = member-says n w.1 in rw w.2 (λ t. (w.3 n).0 (i.0 t), λ r. i.1 ((w.3 n).1 r))
+
 module _ (ds : List Definition) (actor : Forest Node) (walks : EachSite (WalkLists ds) (sites ds actor)) where
   pub uses-row : (n : ℕ) → RowOf ds (sites ds actor) n (uses_of ds actor n)
-  unfolding uses_of is_listed
-  uses-row n = record { used = λ s. is_listed n (chase_types ds s.type); says = tells; row-is = uses-kept ds n (sites ds actor) }
-    where
-      tells : (s : Site) → Memᴰ s (sites ds actor) → T (is_listed n (chase_types ds s.type)) ↔ Reachable ds s.type n
-      tells s m =
-          let w = walks s m in
-          let i = member-says n w.1 in
-          rw w.2 (λ t. (w.3 n).0 (i.0 t), λ r. i.1 ((w.3 n).1 r))
+  unfolding uses_of
+  uses-row n = record { used = λ s. is_listed n (chase_types ds s.type); says = λ s m. walk-says ds (walks s m) n; row-is = uses-kept ds n (sites ds actor) }
 
   pub unreachable-none : (n : ℕ) → (Reachable ds actor n → ⊥) → uses_of ds actor n ≡ []
   unreachable-none n h = row-none (uses-row n) (λ s m r. h (sites-reach ds actor s m n r))
@@ -469,26 +468,30 @@ uses-numbers {b} (checked {r = r} x) = mathlib.Core.List.Memᴰ.tail (mathlib.Co
 uses-numbers (no_actor x) = mathlib.Core.List.Memᴰ.head refl
 uses-numbers (short x) = mathlib.Core.List.Memᴰ.tail (mathlib.Core.List.Memᴰ.head refl)
 
--- ---- How many entries there are at most
+-- ---- How many arguments and results there are at most, and entries
 -- 4,097 and 4,096 times 4,096: some four times the most that there are
+pub sites-few : (b : Book) → Fits b → check b ≡ passes → (resolve_actor b ≡ end → ⊥) → length (sites (main_definitions b) (resolve_actor b)) ≤ 16781313
+sites-few b fits passed some =
+    let x = passed-interface b passed some in
+    let once = passed-once b passed some fits in
+    let methods = interface-methods (main_definitions b) once x.1 in
+    let slim = resolved-slim b fits in
+    omega (
+      arith,
+      sites-length (main_definitions b) once x.1 (passed-functions b passed some fits x.1),
+      slim.1,
+      results-few b fits x.0 (subst Slim methods slim.0),
+      methods-few b fits passed,
+      ap breadth methods,
+    )
+
 pub uses-few : (b : Book) → Fits b → (n : ℕ) (l : List Use) → uses b n ≡ given l → length l ≤ 16781313
 unfolding uses
 uses-few b fits n l e =
     let p = after-given (and_then (check b) (needs_actor (resolve_actor b))) _ e in
     let q = both-pass (check b) (needs_actor (resolve_actor b)) p.0 in
     let some = passed-actor (resolve_actor b) q.1 in
-    let x = passed-interface b q.0 some in
-    let methods = interface-methods (main_definitions b) (passed-once b q.0 some fits) x.1 in
-    let slim = resolved-slim b fits in
-    omega (
-      arith,
-      ap length (same-given p.1),
-      uses-room b fits q.0 some x.1 n,
-      slim.1,
-      results-few b fits x.0 (subst Slim methods slim.0),
-      methods-few b fits q.0,
-      ap breadth methods,
-    )
+    omega (arith, ap length (same-given p.1), row-length (row b fits q.0 some n), sites-few b fits q.0 some)
 
 uses-short : (b : Book) (n : ℕ) {places k : ℕ} → UsesRow b n places (Short k) → ShortRow places (uses b n) (UsesOf b n) k
 uses-short b n (checked x) = absurd (check-short b x)

@@ -111,17 +111,25 @@ pub record DraftAnswers (b : Book) : Type 0 where
 
 -- ---- What a caller has in hand
 
--- So many entries are told. Their numbers stand at the front of the lent list, and the places beyond keep their contents.
-pub record Delivered (count : ℕ) (entries old new : List ℕ) (r : Answer) : Type 0 where
-  pub answer : r ≡ Ok count
+-- This is said. Numbers stand at the front of the lent list, and the places beyond keep their contents.
+pub record InFront {R : Type 0} (said : R) (entries old new : List ℕ) (r : R) : Type 0 where
+  pub answer : r ≡ said
   pub front : take (length entries) new ≡ entries
   pub rest : drop (length entries) new ≡ drop (length entries) old
   pub long : length new ≡ length old
 
--- A refusal is told, and the lent list keeps its contents.
-pub record Kept (why : Refusal) (old new : List ℕ) (r : Answer) : Type 0 where
-  pub answer : r ≡ Err why
+-- This is said, and the lent list keeps its contents.
+pub record AsItWas {R : Type 0} (said : R) (old new : List ℕ) (r : R) : Type 0 where
+  pub answer : r ≡ said
   pub same : new ≡ old
+
+-- So many entries are told, and their numbers are in front.
+abbrev pub Delivered : ℕ → (entries old new : List ℕ) → Answer → Type 0
+Delivered count = InFront (Ok count)
+
+-- A refusal is told.
+abbrev pub Kept : Refusal → (old new : List ℕ) → Answer → Type 0
+Kept why = AsItWas (Err why)
 
 -- Whatever is promised of a call (the lent list before it, after it, and the answer): these entries are delivered where their numbers fit,
 -- and else 16 is told with the entries needed.

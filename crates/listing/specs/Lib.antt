@@ -13,6 +13,7 @@ pub mod InitList
 pub mod DraftList
 pub mod Marks
 pub mod Uses
+pub mod UseCounts
 pub mod Alias
 pub mod Project
 pub mod Empty

@@ -4,7 +4,7 @@
 --     stops, answered                a question on bytes: refused before it, or that on the book
 --     handed-refused, handed-as, ..  what is handed over then
 --     init-stops, init-goes          the init check
-use mathlib.Core.Path.{◌≡◌, sym, ap, subst, ◌∙◌}
+use mathlib.Core.Path.{◌≡◌, refl, sym, ap, subst, ◌∙◌}
 use mathlib.Core.List.{List}
 use Prim.Native.Nat.{ℕ}
 use Rattle.refusals.specs.declared.Refusal.{Refusal}
@@ -14,7 +14,8 @@ use Rattle.refusals.specs.declared.Count.{Count}
 use Rattle.refusals.specs.declared.Crossed.{Crossed}
 use Rattle.refusals.specs.Verdict.{Verdict, and_then}
 use Rattle.refusals.specs.Outcome.{Outcome, refused, given, after, asked, judged, fit}
-use Rattle.refusals.specs.Handed.{Answer, Use, answer_of, left_in, HandedAs, uses_left, UsesAs, alias_answer, count_answer}
+use Rattle.refusals.proofs.Handed.{hands-refused}
+use Rattle.refusals.specs.Handed.{HandsOver, use_counts_answer, UseCountsAs, Answer, Use, answer_of, HandedAs, uses_left, UsesAs, alias_answer, count_answer}
 use Rattle.format.specs.Forest.{end}
 use Rattle.format.specs.Book.{Book}
 use Rattle.format.specs.Layout.{Layout, broken, whole, layout}
@@ -101,11 +102,15 @@ module _ {A : Type 0} (question : Book → Outcome A) (bs : Source) where
 
 -- ---- What is handed over
 pub handed-refused : {o : Outcome (List ℕ)} {r : Refusal} (old : List ℕ) → o ≡ refused r → HandedAs o old old (Err r)
-unfolding fit answer_of left_in
-handed-refused old e = record { answer = rw e; left = rw e }
+unfolding answer_of
+handed-refused old e = hands-refused answer_of e refl
 
-pub handed-as : {o p : Outcome (List ℕ)} {old new : List ℕ} {r : Answer} → o ≡ p → HandedAs p old new r → HandedAs o old new r
-handed-as {old = old} {new = new} {r = r} e x = subst (λ q. HandedAs q old new r) (sym e) x
+pub counts-refused : {o : Outcome (List ℕ)} {r : Refusal} (old : List ℕ) → o ≡ refused r → UseCountsAs o old old (Err r)
+unfolding use_counts_answer
+counts-refused old e = hands-refused use_counts_answer e refl
+
+pub handed-as : {R : Type 0} {answering : Outcome (List ℕ) → R} {o p : Outcome (List ℕ)} {old new : List ℕ} {r : R} → o ≡ p → HandsOver answering p old new r → HandsOver answering o old new r
+handed-as {answering = answering} {old = old} {new = new} {r = r} e x = subst (λ q. HandsOver answering q old new r) (sym e) x
 
 pub uses-refused : {o : Outcome (List Use)} {r : Refusal} (old : List ℕ) → o ≡ refused r → UsesAs o old old (Err r)
 unfolding fit answer_of uses_left

@@ -6,5 +6,6 @@ pub mod Checked
 pub mod Answers
 pub mod Drafts
 pub mod Uses
+pub mod UseCounts
 pub mod Alias
 pub mod Values

@@ -12,6 +12,7 @@ pub mod init_list;
 pub mod list;
 pub mod marks;
 pub mod project;
+pub mod use_counts;
 pub mod uses;
 pub mod values;
 

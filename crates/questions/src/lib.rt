@@ -6,7 +6,7 @@
 #![tactic(auto)]
 
 ghost use Rattle.std.specs.Prelude.{◌≡◌};
-ghost use Rattle.refusals.specs.Handed.{HandedAs, UsesAs, alias_answer, count_answer};
+ghost use Rattle.refusals.specs.Handed.{HandedAs, UsesAs, UseCountsAs, alias_answer, count_answer};
 ghost use Rattle.format.specs.Admission.{◌under◌, on_bytes};
 ghost use Rattle.judgement.specs.Check.{check_bytes, init_check_bytes};
 ghost use Rattle.listing.specs.List.{list};
@@ -14,6 +14,7 @@ ghost use Rattle.listing.specs.InitList.{init_list};
 ghost use Rattle.listing.specs.DraftList.{draft_list};
 ghost use Rattle.listing.specs.Marks.{marks_over};
 ghost use Rattle.listing.specs.Uses.{uses};
+ghost use Rattle.listing.specs.UseCounts.{use_counts};
 ghost use Rattle.listing.specs.Alias.{alias};
 ghost use Rattle.listing.specs.Project.{project};
 ghost use Rattle.listing.specs.Empty.{emptiness};
@@ -21,7 +22,7 @@ ghost use Rattle.listing.specs.Values.{values};
 
 use format::Limits;
 use passed::CheckedBook;
-use refusals::{AliasAnswer, Answer, CountAnswer, Verdict};
+use refusals::{AliasAnswer, Answer, CountAnswer, UseCountsAnswer, Verdict};
 
 // `CheckedBook::pass(book, limits)?`, written out: the borrow checker has no rule yet for a `?` on a `CheckedBook`, which holds references, facts and
 // a list with a model.
@@ -86,6 +87,13 @@ pub fn uses(book: &[u8], limits: Limits, name: u16, out: &mut [u16]) -> Answer
     ensures { UsesAs (on_bytes (λ b. uses b name) (book.now under limits)) out.old out.new result }
 {
     pass!(book, limits).uses(name, out)
+}
+
+// How many uses each listed definition has, in the order of the list, and their sum: the refusals of the list. 16 counts definitions.
+pub fn use_counts(book: &[u8], limits: Limits, out: &mut [u32]) -> UseCountsAnswer
+    ensures { UseCountsAs (on_bytes use_counts (book.now under limits)) out.old out.new result }
+{
+    pass!(book, limits).use_counts(out)
 }
 
 // How many names the alias chain of a name crosses, itself among them, and the last of these, whose definition is no name: the check's refusals,

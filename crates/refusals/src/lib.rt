@@ -158,6 +158,16 @@ pub enum Count {
 // What the question about the values of a name answers.
 pub type CountAnswer = Result<Count, Refusal>;
 
+// A uses report: how many definitions are listed, for each of which a number of uses stands in the lent list, and the sum of these.
+#[derive(Clone, Copy, PartialEq, Eq, Debug)]
+pub struct UseCounts {
+    pub listed: usize,
+    pub total: u64,
+}
+
+// What the question about the uses of all listed definitions answers.
+pub type UseCountsAnswer = Result<UseCounts, Refusal>;
+
 // Hands a list over into a lent one; 16 where that is shorter.
 pub fn hand(list: &[u16], out: &mut [u16]) -> Answer
     requires { length list.now < 4294967296 }

@@ -22,8 +22,8 @@ use Rattle.format.proofs.Trees.{beside-end, breadth-count, after-beside}
 use Rattle.format.proofs.References.{kind-alone}
 use Rattle.format.proofs.Rows.{Opened, opens, kids-whole, siblings-none, siblings-opens, count-siblings}
 use Rattle.format.proofs.Stored.{tree-opens}
-use Rattle.judgement.specs.Aliases.{End, unbound, circle, ends, alias_end}
-use Rattle.environment.specs.Tables.{EndAt, Ended, end_node}
+use Rattle.judgement.specs.Aliases.{End, ends, alias_end}
+use Rattle.environment.specs.Tables.{EndAt, end_node}
 use Rattle.syntax.specs.Interfaces.{methods_in}
 use Rattle.syntax.proofs.Stored.{siblings-join}
 use Rattle.refusals.specs.Handed.{Use}
@@ -36,8 +36,8 @@ use Rattle.book.specs.declared.read.Node as read
 use Rattle.book.specs.Reading.{as_row}
 use Rattle.book.specs.Walks.{Over, NextTree}
 use Rattle.book.proofs.Walking as walks
-use Rattle.analysis.proofs.BookNodes.{next-at, services-none, services-some}
-use Rattle.environment.proofs.ChainEnds.{served-at, end-whole, end-at, end-inside}
+use Rattle.analysis.proofs.BookNodes.{next-at, services-none, services-some, ends-nowhere, ends-there, end-reached, offer-ended}
+use Rattle.environment.proofs.ChainEnds.{served-at, end-inside}
 use Rattle.analysis.proofs.def_use.Entries.{puts-none, puts-long, puts-places, puts-then, Leads, leads-start, leads-on, leads-end, uses-none, uses-append}
 
 -- ---- Parts
@@ -117,14 +117,7 @@ node-sites m {ns} {e} w = rw (tree-opens w) (kind-sites m (row_at ns e).kind (ro
 module _ (ns : List ℕ) (m : ℕ) where
   end-none : (x : End) → EndAt ns None x → end_sites m x ≡ []
   unfolding end_sites
-  end-none (unbound n) q = refl
-  end-none circle q = absurd q
-  end-none (ends t) q = let z = q.1 in cc
-
-  end-some : (e : ℕ) (x : End) → EndAt ns (Some e) x → x ≡ ends (tree_at ns e)
-  end-some e (unbound n) q = cc
-  end-some e circle q = absurd q
-  end-some e (ends t) q = let z = q.1 in let n : q.0 ≡ e = cc in ap ends (q.2 ∙ ap (tree_at ns) n)
+  end-none x q = ap (end_sites m) (ends-nowhere ns x q).1
 
   module _ (places k : ℕ) (old : List ℕ) where
     pub end-puts-none : {e : Option ℕ} → e ≡ None → {near : List ℕ} (x : EndTested ns near e) → Puts places k (uses_by x.used (end_sites m x.reached)) old old k
@@ -135,7 +128,7 @@ module _ (ns : List ℕ) (m : ℕ) where
       whole-here = subst (λ (q : Option ℕ). IfSome q (λ f. WholeAt ns f)) z h
 
       reaches : {near : List ℕ} (x : EndTested ns near o) → x.reached ≡ ends (tree_at ns e)
-      reaches x = end-some e x.reached (subst (λ (q : Option ℕ). EndAt ns q x.reached) z x.is)
+      reaches x = ends-there ns e x.reached (subst (λ (q : Option ℕ). EndAt ns q x.reached) z x.is)
 
       pub end-puts-other : (r.kind ≡ 23 → ⊥) → {near : List ℕ} (x : EndTested ns near o) → Puts places k (uses_by x.used (end_sites m x.reached)) old old k
       end-puts-other n x =
@@ -149,26 +142,13 @@ module _ (ns : List ℕ) (m : ℕ) where
           rw (reaches x, node-sites m whole-here, eq-eqb (row_at ns e).kind 23 (sym (ap (λ (z : Row). z.kind) is) ∙ n)) (p record { used = x.used; hits = x.hits e z })
 
 -- ---- At the end of a chain
-module _ {ns ends' : List ℕ} {service : ℕ} (s : Ended ns ends' service) {node : ℕ} (h : node < s.count) {e : Option ℕ} (is : e ≡ end_node ns ends' node) where
-  pub end-whole-at : IfSome e (λ f. WholeAt ns f)
-  end-whole-at = go e is
-    where
-      go : (o : Option ℕ) → o ≡ end_node ns ends' node → IfSome o (λ f. WholeAt ns f)
-      go None z = tt
-      go (Some f) z = end-whole (served-at s node h) z
-
 module _ {ns ends' near : List ℕ} {service : ℕ} (x : Served ns ends' near service) {node : ℕ} (h : node < x.ended.count) {e : Option ℕ} (is : e ≡ end_node ns ends' node) where
-  end-reached : EndAt ns e (alias_end x.definitions (tree_at ns node))
-  unfolding served-at
-  end-reached =
-      subst (λ (z : Option ℕ). EndAt ns z (alias_end x.definitions (tree_at ns node))) (sym is) (end-at (served-at x.ended node h) x.definitions x.known.chains)
-
   end-hits : (f : ℕ) → e ≡ Some f → HitsIn x.used ns near f (f + (row_at ns f).size)
   unfolding served-at
   end-hits f z = hits-in x.known.hits (omega arith) (x.ended.nodes.tree f (end-inside (served-at x.ended node h) (sym z ∙ is))).ends
 
   abbrev end-tested : EndTested ns near e
-  end-tested = record { reached = alias_end x.definitions (tree_at ns node); is = end-reached; used = x.used; hits = end-hits }
+  end-tested = record { reached = alias_end x.definitions (tree_at ns node); is = end-reached x.ended h is x.definitions x.known.chains; used = x.used; hits = end-hits }
 
 -- ---- The sites of methods
 module _ (ds : List Definition) where
@@ -275,13 +255,10 @@ module _ {ns ends' near : List ℕ} {service until first k : ℕ} {old mid : Lis
 -- ---- The loop of `put_uses`, at service s: the methods before position m are put
 module _ {ns ends' near services : List ℕ} {from until : ℕ} (x : Offered ns ends' near from until services) where
   abbrev offered-arguments : Tested ns near from until
-  offered-arguments = record { used = x.used; hits = hits-in x.known.hits (omega arith) x.inside }
-
-  abbrev pub offered-ended : {s : ℕ} → s < length services → Ended ns ends' (get_or services s 0)
-  offered-ended {s} h = record { names = x.names; count = x.nodes; nodes = x.book; table = x.table; inside = x.service s h }
+  offered-arguments = record { used = x.used; hits = hits-in x.known.hits (omega arith) x.offer.inside }
 
   abbrev offered-service : {s : ℕ} → s < length services → Served ns ends' near (get_or services s 0)
-  offered-service h = record { ended = offered-ended h; definitions = x.definitions; used = x.used; known = x.known }
+  offered-service h = record { ended = offer-ended x.offer h; definitions = x.definitions; used = x.used; known = x.known }
 
 pub record ServicesLeft (ns ends' near services : List ℕ) (from until k : ℕ) (old mid : List ℕ) (at m s : ℕ) : Type 0 where
   pub passed : s ≤ length services

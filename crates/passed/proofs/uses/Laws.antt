@@ -1,5 +1,7 @@
 -- The uses of a name in a book that passed, as the code has them. Assumes nothing.
---     outside, uses-lacks       a number outside the table, and 17
+--     names-small, outside      a name with a definition is in the table; a number outside it
+--     uses-lacks                17
+--     offer-in, sites-are       what the interface offers
 --     uses-handed               the entries that are put are those of the question
 --     hands-short, hands-given  what is handed over
 use mathlib.Core.Path.{◌≡◌, refl, sym, ap, ap₂, subst, ◌∙◌}
@@ -29,7 +31,7 @@ use Rattle.listing.specs.Uses.{kept, entry_of, uses}
 use Rattle.refusals.specs.Outcome.{Outcome, refused, given, fit}
 use Rattle.listing.proofs.Uses.{passed-walks, uses-row, uses-answered, uses-undefined}
 use Rattle.analysis.specs.Reaching.{ReachAs, NearAs, NearestAs}
-use Rattle.analysis.specs.Entries.{uses_by, Offered, Puts}
+use Rattle.analysis.specs.Entries.{uses_by, OfferIn, Offered, Puts}
 use Rattle.syntax.specs.declared.interface.Interface.{Interface}
 use Rattle.analysis.proofs.def_use.Entries.{puts-all}
 use Rattle.std.specs.Prelude.{Ok, Err}
@@ -53,7 +55,7 @@ module _ {bs : List ℕ} {c : Contents} {a : Admitted bs c} {roots ends' : List 
   abbrev ds : List Definition
   ds = main_definitions b
 
-  names-small : (m : ℕ) → Defined ds m → m < 1024
+  pub names-small : (m : ℕ) → Defined ds m → m < 1024
   unfolding found_at
   names-small m d = go (dec_lt m 1024)
     where
@@ -77,19 +79,30 @@ module _ {bs : List ℕ} {c : Contents} {a : Admitted bs c} {roots ends' : List 
     abbrev i : Interface
     i = p.interface
 
-    offers : InterfaceAs rows (count (trees b)) ds (resolve_actor b) i
+    abbrev offers : InterfaceAs rows (count (trees b)) ds (resolve_actor b) i
     offers = x.offers some
 
+    abbrev pub offer-in : OfferIn rows ends' (count (trees b)) i.from i.until i.services
+    offer-in = record {
+      names = _;
+      book = x.all.nodes;
+      table = x.checked.ended;
+      arguments = offers.arguments.whole;
+      inside = offers.arguments.inside;
+      few = offers.few;
+      service = λ k h. (offers.service k 0 h).0;
+    }
+
+    abbrev pub offered_sites : List Site
+    offered_sites = class_sites 0 (siblings rows i.from i.until) ++ method_sites ds 0 (methods_in rows i.services)
+
+    pub sites-are : sites ds (resolve_actor b) ≡ offered_sites
+    unfolding sites
+    sites-are =
+        let same = followed ds (resolve_actor b) offers.serves in
+        ap₂ (λ (f g : Forest Node). class_sites 0 f ++ method_sites ds 0 g) (same.0 ∙ sym offers.arguments.are) (same.1 ∙ sym offers.methods)
+
     module _ {n : ℕ} (few : n < 1024) {flags near : List ℕ} (reach : ReachAs ds n flags) (table : NearAs rows flags (count (trees b)) near) where
-      abbrev offered_sites : List Site
-      offered_sites = class_sites 0 (siblings rows i.from i.until) ++ method_sites ds 0 (methods_in rows i.services)
-
-      sites-are : sites ds (resolve_actor b) ≡ offered_sites
-      unfolding sites
-      sites-are =
-          let same = followed ds (resolve_actor b) offers.serves in
-          ap₂ (λ (f g : Forest Node). class_sites 0 f ++ method_sites ds 0 g) (same.0 ∙ sym offers.arguments.are) (same.1 ∙ sym offers.methods)
-
       uses-are : uses b n ≡ given (uses_by (used_by flags) offered_sites)
       unfolding uses_by
       uses-are =
@@ -104,19 +117,7 @@ module _ {bs : List ℕ} {c : Contents} {a : Admitted bs c} {roots ends' : List 
           (row.row-is ∙ ap (map entry_of) (kept-same row.used test (sites ds (resolve_actor b)) same) ∙ ap (λ (l : List Site). map entry_of (kept test l)) sites-are)
 
       pub offered : Offered rows ends' near i.from i.until i.services
-      offered = record {
-        names = _;
-        nodes = _;
-        book = x.all.nodes;
-        table = x.checked.ended;
-        arguments = offers.arguments.whole;
-        inside = offers.arguments.inside;
-        few = offers.few;
-        service = λ k h. (offers.service k 0 h).0;
-        definitions = ds;
-        used = used_by flags;
-        known = record { chains = x.chains; hits = used-hits reach few names-small x.all.nodes table };
-      }
+      offered = record { nodes = _; offer = offer-in; definitions = ds; used = used_by flags; known = record { chains = x.chains; hits = used-hits reach few names-small x.all.nodes table } }
 
       -- so what is handed over is the question's
       pub uses-handed : {old new : List ℕ} {r : Answer} → UsesHanded rows ends' near i old new r → UsesAs (uses b n) old new r

@@ -3,7 +3,8 @@ use Prim.Native.Nat.{◌<◌}
 use mathlib.Core.Path.{◌∙◌}
 use native.Mathlib.Omega.{arith}
 use Rattle.book.proofs.Walking.{here, last, over-next}
-use Rattle.analysis.proofs.def_use.Methods.{methods-few, end-whole-at, methods-on, methods-counted, methods-puts}
+use Rattle.analysis.proofs.BookNodes.{end-whole-at}
+use Rattle.analysis.proofs.def_use.Methods.{methods-few, methods-on, methods-counted, methods-puts}
 use Rattle.analysis.proofs.def_use.Searched.put_methods.Goals as goal
 
 pub put_end-requires : goal.put_end-requires

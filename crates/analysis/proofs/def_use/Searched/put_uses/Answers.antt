@@ -13,7 +13,7 @@ loop-s-preserved c =
     let e = c.put_methods-m.ensures in
     record {
       same = e.same ∙ l.same;
-      left = services-on l.left c.loop-s-test.true (o.book.tree _ (o.service c.loop-s.s-index c.loop-s-test.true)).whole e.position e.most e.adds;
+      left = services-on l.left c.loop-s-test.true (o.offer.book.tree _ (o.offer.service c.loop-s.s-index c.loop-s-test.true)).whole e.position e.most e.adds;
     }
 
 pub returns-clause-puts : goal.returns-clause-puts

@@ -1,0 +1,2 @@
+-- Laws of the list.
+pub mod Laws

@@ -1,0 +1,3 @@
+-- Laws of the uses of listed names.
+pub mod Handing
+pub mod Laws

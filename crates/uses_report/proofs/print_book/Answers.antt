@@ -1,0 +1,10 @@
+-- `print_book` meets its contract: what is printed of a book that passed, or the line of its refusal. Assumes nothing.
+use mathlib.Core.Path.{sym}
+use Rattle.uses_report.proofs.Room.{passed-laid, refusal-laid}
+use Rattle.uses_report.proofs.print_book.Goals as goal
+
+pub returns-in-Ok : goal.returns-in-Ok
+returns-in-Ok c = passed-laid _ c.full.ensures c.in-Ok.ensures.passed c.print_passed.ensures
+
+pub returns-in-Err : goal.returns-in-Err
+returns-in-Err c = refusal-laid _ c.full.ensures (sym c.in-Err.ensures.verdict) c.refusal.ensures

@@ -1,0 +1,2 @@
+-- What the contracts cite.
+pub mod Printed
