@@ -23,7 +23,8 @@ use Rattle.listing.proofs.UseCounts.{counts-length, use-counts-given, use-counts
 use Rattle.print.specs.declared.Text.{Text}
 use Rattle.print.specs.Laid.{Lays}
 use Rattle.print.proofs.Lays.{nothing, then}
-use Rattle.uses_report.specs.Printed.{Entry, report, line, lines, ReportAs}
+use Rattle.uses_report.specs.Printed.{Entry, report, line, lines}
+use Rattle.uses_report.specs.Told.{ReportAs}
 use Rattle.uses_report.proofs.Shown.{report-given, report-refused}
 
 -- ---- The lines so far, where these names and numbers are left: at the start, after one more, and at the end

@@ -33,7 +33,8 @@ use Rattle.print.specs.Laid.{Lays, LaysWithin}
 use Rattle.print.specs.Refused.{refusal_of}
 use Rattle.print.proofs.Laws.{decimal-length, quoted-length, name-length}
 use Rattle.print.proofs.Lays.{alias, within, wider}
-use Rattle.uses_report.specs.Printed.{Entry, entry_of, report, total, line, lines, last_line, text_of, printed, ReportAs}
+use Rattle.uses_report.specs.Printed.{Entry, entry_of, report, total, line, lines, last_line, text_of, printed}
+use Rattle.uses_report.specs.Told.{ReportAs}
 use Rattle.uses_report.proofs.Shown.{listed, shown, refused-shown}
 
 -- ---- The lines

@@ -1,2 +1,3 @@
 -- What the contracts cite.
 pub mod Printed
+pub mod Told

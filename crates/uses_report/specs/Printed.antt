@@ -1,8 +1,6 @@
 -- What is printed for the bytes of a book (document 02, request 8), under full limits. Definitions; assumes nothing.
-use Rattle.std.specs.Prelude.{◌≡◌, List, [], ◌∷◌, ◌++◌, map, ℕ, ◌≤◌, length, take, sum, Ok, Err, IfOk}
-use Rattle.std.specs.List.{zip}
+use Rattle.std.specs.Prelude.{List, [], ◌∷◌, ◌++◌, map, ℕ, sum}
 use Rattle.refusals.specs.Outcome.{Outcome, refused, given, asked}
-use Rattle.refusals.specs.Handed.{UseCountsAnswer}
 use Rattle.format.specs.Book.{Book}
 use Rattle.format.specs.Layout.{name_in}
 use Rattle.format.specs.Within.{full}
@@ -52,13 +50,3 @@ text_of book (given es) = lines book es ++ last_line (total es)
 
 unfoldable pub printed : List ℕ → List ℕ
 printed book = text_of book (on_bytes report (book under full))
-
--- ---- How it is handed over: names in one list and numbers in another, so many of each, and their sum
-abbrev pub told : UseCountsAnswer → (names counts : List ℕ) → Outcome (List Entry)
-told (Err r) names counts = refused r
-told (Ok u) names counts = given (zip (take u.listed names) (take u.listed counts))
-
-pub record ReportAs (o : Outcome (List Entry)) (names counts : List ℕ) (r : UseCountsAnswer) : Type 0 where
-  pub is : o ≡ told r names counts
-  pub sum-is : IfOk r (λ u. u.total ≡ sum (take u.listed counts))
-  pub within : IfOk r (λ u. (u.listed ≤ length names) × (u.listed ≤ length counts))

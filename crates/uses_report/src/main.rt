@@ -9,7 +9,8 @@ ghost use Rattle.format.specs.Within.{full};
 ghost use Rattle.format.specs.Admission.{◌under◌};
 ghost use Rattle.passed.specs.Checked.{book_of};
 ghost use Rattle.print.specs.Laid.{Lays, LaysWithin};
-ghost use Rattle.uses_report.specs.Printed.{line, lines, last_line, report, text_of, printed, ReportAs};
+ghost use Rattle.uses_report.specs.Printed.{line, lines, last_line, report, text_of, printed};
+ghost use Rattle.uses_report.specs.Told.{ReportAs};
 
 use book::admitted::AdmittedBook;
 use book::tables::NameIndex;
