@@ -1,6 +1,7 @@
 /* Measures the stack and the time of the functions in include/ludzepin.h:  measure BOOK ..
  *
- * Marks are asked over the definition list, values, uses, alias chain and projection of the first name listed, of name 0 where none is.
+ * Marks are asked over the definition list, values, uses, alias chain, projection and methods that change of the first name listed, of name 0 where
+ * none is.
  * Prints a line for each book and function: the answer, the stack in KiB and the time in microseconds. A call runs on a stack of its own
  * that was filled before; what is no longer as it was has been used. Built code touches each page of a frame, so that this is right to a
  * page. The time is the least of the calls made within a fifth of a second, so it is that of a warm cache. */

@@ -33,39 +33,48 @@ def answer_lines(name, text, book):
 
 
 def of_batch(lines):
-    """Input and output of a program that reads records."""
-    return lambda name, text, book: (mkbatch.record(name, book), lines(name, text, book))
+    """Arguments, input and output of a program that reads records."""
+    return lambda name, text, book: ([], mkbatch.record(name, book), lines(name, text, book))
 
 
 def of_book(lines):
-    """Input and output of a program that reads a book."""
-    return lambda name, text, book: (book, lines(book))
+    """Of a program that reads a book."""
+    return lambda name, text, book: ([], book, lines(book))
 
 
-# Of each program: the folders of its books, and its input and output.
+def of_names(lines):
+    """Of a program that reads a book and is asked for names: for all that the book has, but for those that no argument can be."""
+    def run(name, text, book):
+        names = [name for name in answers.Book(book).names if b"\0" not in name]
+        return ["-", *names], book, lines(book, names)
+    return run
+
+
+# Of each program: the folders of its books, and its arguments, input and output.
 PROGRAMS = {
     "list": ([LIST_SOURCES, CHECK_SOURCES], of_book(answers.listing)),
     "values": ([LIST_SOURCES, CHECK_SOURCES], of_book(answers.valuing)),
     "uses_report": ([LIST_SOURCES, CHECK_SOURCES], of_book(answers.reporting)),
+    "methods": ([LIST_SOURCES, CHECK_SOURCES], of_names(answers.naming)),
     "answer_batch": ([SOURCES, CHECK_SOURCES, LIST_SOURCES], of_batch(answer_lines)),
 }
 
 
-def output(path, data, kib):
+def output(path, arguments, data, kib):
     def limit():
         resource.setrlimit(resource.RLIMIT_STACK, (kib * 1024, kib * 1024))
-    done = subprocess.run(["setarch", "-R", path], input=data, capture_output=True, preexec_fn=limit, env={})
+    done = subprocess.run(["setarch", "-R", path, *arguments], input=data, capture_output=True, preexec_fn=limit, env={})
     return None if done.returncode else done.stdout  # what was stopped has written nothing, which may be right
 
 
-def least(path, data, right):
+def least(path, arguments, data, right):
     """By halving: the program works under `high` and fails under `low`."""
-    if output(path, data, MOST) != right:
+    if output(path, arguments, data, MOST) != right:
         return None
     low, high = 16, MOST
     while high - low > 1:
         middle = (low + high) // 2
-        if output(path, data, middle) == right:
+        if output(path, arguments, data, middle) == right:
             high = middle
         else:
             low = middle
@@ -82,8 +91,8 @@ def measure(program):
         for name, text in mkbatch.sources(folder):
             source = f"{os.path.basename(folder)}/{name}"
             if is_large(name):
-                data, right = run(name, text, bytes(mkbook.book(text)))
-                found[source] = least(path, data, right.encode())
+                arguments, data, right = run(name, text, bytes(mkbook.book(text)))
+                found[source] = least(path, arguments, data, right.encode())
                 print(f"{program} {source}:", f"{found[source]} KiB" if found[source] else f"wrong under {MOST} KiB")
     if all(found.values()):
         print(f"{program}, most: {max(found.values())} KiB, {max(found, key=found.get)}")

@@ -13,7 +13,7 @@ struct asked {
     uint32_t limits[3]; /* of names, nodes and definitions */
     const uint16_t *list; /* so many names, for marks */
     size_t count;
-    uint16_t name, method; /* for values, uses and alias, and for a projection to it alone */
+    uint16_t name, method; /* for values, uses and alias, and for a projection to it alone; for the methods that change with either */
     uint16_t *out;
     size_t places;
     uint32_t *counts; /* for use counts: as many places, but no more than are ever needed */
@@ -32,6 +32,10 @@ static uint64_t ask_emptiness(const struct asked *a) { return ludzepin_emptiness
 static uint64_t ask_values(const struct asked *a) { return ludzepin_values(BOOK(a), a->name); }
 static uint64_t ask_use_counts(const struct asked *a) {
     return ludzepin_use_counts(BOOK(a), a->counts, a->places < LUDZEPIN_DEFINITIONS ? a->places : LUDZEPIN_DEFINITIONS);
+}
+static uint64_t ask_methods(const struct asked *a) {
+    const uint16_t both[] = {a->name, a->method};
+    return ludzepin_methods(BOOK(a), both, 2, a->out, a->places);
 }
 static uint64_t ask_uses(const struct asked *a) { return ludzepin_uses(BOOK(a), a->name, a->out, a->places); }
 static uint64_t ask_alias(const struct asked *a) { return ludzepin_alias(BOOK(a), a->name); }
@@ -55,6 +59,7 @@ static const struct question {
     {"empty", ask_emptiness, ENTRIES},
     {"values", ask_values, NUMBER_OF_VALUES},
     {"use-counts", ask_use_counts, COUNTS_OF_USES},
+    {"methods", ask_methods, ENTRIES},
     {"uses", ask_uses, ENTRIES_OF_USES},
     {"alias", ask_alias, ALIAS_CHAIN},
     {"project", ask_project, ENTRIES},

@@ -206,6 +206,73 @@ print(answers.reachable_together(answers.Book(sys.stdin.buffer.read())))' <targe
 total tests/list/p01.did tests/list/use-counts-unlisted.did tests/list/use-counts-circle.did tests/list/use-counts-imports.did \
     tests/list/use-counts-nested.did tests/list/large-use-counts-65536.did tests/list/large-use-counts.did bench/full.did
 
+# Methods that change with either of two names: with both, with one, which may be asked twice, and with none; room for all, for just as many, for one
+# fewer and for none; methods of imports; arguments of a class alone; numbers outside; 17, also of numbers outside alone, and the check before.
+ask tests/list/methods-two.did 1 2 3
+ask tests/list/methods-two.did 2 1 2
+ask tests/list/methods-two.did 1 2 0
+ask tests/list/methods-two.did 1 1 2
+ask tests/list/methods-two.did 1 1 1
+ask tests/list/methods-two.did 2 65535 2
+ask tests/list/methods-two.did 1024 65535 0
+ask tests/list/methods-twice.did 2 1 2
+ask tests/list/methods-imports.did 0 1 3
+ask tests/list/methods-imports.did 1 1 2
+ask tests/list/import-merged.did 0 3 4096
+ask tests/list/methods-class.did 1 2 0
+ask tests/list/methods-class-method.did 2 1 1
+ask tests/list/methods-own-function.did 1 2 0
+ask tests/list/methods-own-function-reached.did 1 2 2
+ask tests/list/methods-unlisted.did 2 3 0
+ask tests/list/methods-no-actor.did 1 2 0
+ask tests/list/methods-no-actor.did 1024 65535 4096
+ask tests/list/none-actor-03.did 1 65535 0
+ask tests/list/large-methods-1024.did 0 1 1024
+ask tests/list/large-methods-1024.did 1 1022 1023
+ask tests/list/large-methods-1024.did 1022 1023 1
+ask tests/list/large-use-counts.did 1024 511 64
+
+# The same by hand: change SOURCE NAME NAME PLACES OUTCOME.
+change() {
+    local line
+    python3 tools/mkbook.py "$1" >target/c/book
+    line=$(target/c/questions target/c/book "$2" "$3" "$4" | grep '^methods ')
+    if [ "$line" != "methods $5" ]; then
+        printf 'questions, %s with %s, %s and %s places:\n%s\nwhere\nmethods %s\nis right\n' "$1" "$2" "$3" "$4" "$line" "$5" >&2
+        exit 1
+    fi
+    echo "questions, $1, methods of $2 and $3 with $4 places, $5: right"
+}
+# Pair and tree, which `put` takes; spare, which nothing does.
+change tests/list/p01.did 3 6 1 'given 1 0'
+change tests/list/p01.did 3 3 4096 'given 1 0'
+change tests/list/p01.did 6 5 0 'refused 16 needs 1'
+change tests/list/p01.did 5 65535 0 'given 0'
+change tests/list/p10.did 0 1 0 'given 0'
+change tests/list/p04.did 1 1 4096 'refused 17 -'
+change tests/list/p03.did 1 1 4096 'refused 7 1'
+# `m : (a) -> (); n : () -> (b); o : (a) -> (b); p : (nat) -> (text)`.
+change tests/list/methods-two.did 1 2 3 'given 3 0 1 2'
+change tests/list/methods-two.did 2 1 4096 'given 3 0 1 2'
+change tests/list/methods-two.did 2 1 2 'refused 16 needs 3'
+change tests/list/methods-two.did 1 1 2 'given 2 0 2'
+change tests/list/methods-two.did 2 1024 2 'given 2 1 2'
+change tests/list/methods-two.did 0 3 0 'given 0'
+# The name of a method's own function is no use; where its own arguments lead to it it is one.
+change tests/list/methods-own-function.did 1 1 0 'given 0'
+change tests/list/methods-own-function-reached.did 1 1 2 'given 2 1 2'
+change tests/list/methods-own-function-reached.did 2 3 1 'given 1 1'
+# What arguments of a class lead to.
+change tests/list/methods-class.did 1 2 0 'given 0'
+change tests/list/methods-class-method.did 1 2 1 'given 1 1'
+# Main has two methods, its imports one and two.
+change tests/list/methods-imports.did 0 1 3 'given 3 0 2 3'
+change tests/list/methods-imports.did 1 1 1 'given 1 2'
+# As many methods as there can be, and the last of them.
+change tests/list/large-methods-1024.did 1 1 1024 "given 1024 $(seq -s ' ' 0 1023)"
+change tests/list/large-methods-1024.did 1 1022 1023 'refused 16 needs 1024'
+change tests/list/large-methods-1024.did 1022 0 1 'given 1 1023'
+
 # The second reading stops at 4,097 uses.
 right=$(python3 tools/answers.py bench/uses-most.did 1 3 4096)
 try questions bench/uses-most.did 0 "${right/needs 4097/needs 3143680}" 1 3 4096
@@ -226,6 +293,7 @@ within tests/list/init-own.did 7 12 4
 within tests/list/p03.did 3 2 2
 within tests/list/alias-2.did 3 2 2
 within tests/list/values-opts.did 3 35 2
+within tests/list/methods-two.did 7 13 2
 within tests/layout/limit-all.did 1024 4096 512
 # Limits above the figures count as these, however large they are.
 ask tests/list/p01.did 6 4 4096 1025 4097 513

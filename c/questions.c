@@ -1,11 +1,13 @@
 /* Asks a book every question, and prints each answer on a line:  questions BOOK NAME METHOD [PLACES [NAMES NODES DEFINITIONS]]
  *
- * Marks are those of the book's list, values, uses and alias chain are NAME's and the projection is to METHOD, both by name number. PLACES are
- * the numbers lent for an answer, 4,096 if none are given. NAMES, NODES and DEFINITIONS are limits, the full ones if none are given.
- * `python3 tools/answers.py` with the same arguments prints what is right. A line says more where numbers are written that are no entry, or where
- * a count is not that of the entries of ludzepin_uses. */
+ * Marks are those of the book's list, values, uses and alias chain are NAME's, the projection is to METHOD, both by name number, and the methods
+ * are those that change with either of the two. PLACES are the numbers lent for an answer, 4,096 if none are given. NAMES, NODES and DEFINITIONS
+ * are limits, the full ones if none are given. `python3 tools/answers.py` with the same arguments prints what is right. A line says more where
+ * numbers are written that are no entry, where a count is not that of the entries of ludzepin_uses, or where a long list that has all names is
+ * answered otherwise than these. */
 #include <stdio.h>
 #include <stdlib.h>
+#include <string.h>
 
 #include "ask.h"
 
@@ -67,6 +69,24 @@ static void print_counts(const struct asked *asked, uint32_t entries) {
     }
 }
 
+/* Asks for the methods that change with all names once, and with a long list that begins with more numbers outside every table than 16 bits count,
+ * and ends with all names over and over. */
+enum { LONG = 100000, OUTSIDE = 70000 };
+
+static void print_long_list(const struct asked *asked) {
+    static uint16_t all[LUDZEPIN_NAMES], many[LONG], before[LUDZEPIN_NODES];
+    for (size_t i = 0; i < LUDZEPIN_NAMES; i++)
+        all[i] = (uint16_t)i;
+    for (size_t i = 0; i < LONG; i++)
+        many[i] = (uint16_t)(i < OUTSIDE ? LUDZEPIN_NAMES + i % (65536 - LUDZEPIN_NAMES) : i % LUDZEPIN_NAMES);
+    clear_lists();
+    uint32_t once = ludzepin_methods(BOOK(asked), all, LUDZEPIN_NAMES, out, asked->places);
+    memcpy(before, out, sizeof out);
+    clear_lists();
+    if (ludzepin_methods(BOOK(asked), many, LONG, out, asked->places) != once || memcmp(before, out, sizeof out))
+        printf(" but others for a long list");
+}
+
 static void print(const struct question *question, const struct asked *asked) {
     clear_lists();
     uint64_t answer = question->ask(asked);
@@ -96,6 +116,8 @@ static void print(const struct question *question, const struct asked *asked) {
         printf(" given %u", ludzepin_values_number(answer));
     else
         print_entries(ludzepin_entries(half), 1);
+    if (question->ask == ask_methods)
+        print_long_list(asked);
     printf("\n");
 }
 

@@ -20,7 +20,7 @@ extern "C" {
 #endif
 
 /* The most bytes, names, nodes and definitions of a book. As many places as definitions are always enough for a list, an init list, a draft
- * list, marks, emptiness and use counts, and as many as nodes for a projection; uses may need more. */
+ * list, marks, emptiness and use counts, and as many as nodes for a projection and for methods that change; uses may need more. */
 #define LUDZEPIN_BYTES 65536
 #define LUDZEPIN_NAMES 1024
 #define LUDZEPIN_NODES 4096
@@ -80,6 +80,12 @@ uint32_t ludzepin_emptiness(const uint8_t *book, size_t bytes, uint32_t names, u
 
 /* The same of positions of methods, ascending: those that take the `count` asked names (a refusal of the check, 17, 15, 16). */
 uint32_t ludzepin_project(const uint8_t *book, size_t bytes, uint32_t names, uint32_t nodes, uint32_t definitions,
+                          const uint16_t *asked, size_t count, uint16_t *out, size_t places);
+
+/* The same of those that have a use of any of the `count` asked names, as an argument or a result (a refusal of the check, 17, 16). A number that
+ * is no listed definition's, in the table or not, adds none, an argument of the actor's class is no method's, and the name of a method's own function
+ * is by itself no use. A name may be asked more than once, and more numbers than there are names. */
+uint32_t ludzepin_methods(const uint8_t *book, size_t bytes, uint32_t names, uint32_t nodes, uint32_t definitions,
                           const uint16_t *asked, size_t count, uint16_t *out, size_t places);
 
 /* The number of entries of a name's uses; each is three numbers of `out`: a method's position or LUDZEPIN_OF_CLASS, 0 for an argument and 1

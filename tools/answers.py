@@ -3,7 +3,7 @@ r"""Answers the questions on a book, by the papers alone:
 
     python3 tools/answers.py BOOK-OR-SOURCE.did [NAME METHOD PLACES [NAMES NODES DEFINITIONS]]
 
-This is a second reading of document 01, of the Rust functions that it names and of requests 1, 3, 4, 8, 13 and 14 of document 02, for the tests;
+This is a second reading of document 01, of the Rust functions that it names and of requests 1, 3, 4, 8, 10, 13 and 14 of document 02, for the tests;
 tools/layout.py reads the bytes. It prints, one line each, what the program answer_batch prints of the book after its name:
 
     layout OUTCOME          whether the layout is whole, with the counts of names, nodes, definitions and files
@@ -20,6 +20,7 @@ tools/layout.py reads the bytes. It prints, one line each, what the program answ
     empty OUTCOME           the names of definitions that have no value of finite height
     values OUTCOME          each name is asked for the number of its values: those that have one, with it
     use-counts OUTCOME      how many uses each listed definition has, in the order of the list, and then `total` and their sum
+    methods OUTCOME         each name alone is asked for the methods that change with it: those that have some, with their positions
     chains OUTCOME          the alias chain from each definition's body, in order, all files' definitions taken as one environment
     lookups OUTCOME         what stands at the chain's end from the body of each definition but the init file's, and from main's actor
     uses "NAME" OUTCOME     for each name of the table: its uses, METHOD.KIND.INDEX,
@@ -36,17 +37,23 @@ tools/layout.py reads the bytes. It prints, one line each, what the program answ
     project-none OUTCOME    when nothing is asked for,
     project-all OUTCOME     when all names are whose own projection is given, the last name first,
     project-every OUTCOME   and when every name of the table is, the last name first
+    methods-outside OUTCOME the positions of the methods that change with a number outside every table,
+    methods-highest OUTCOME with the highest number,
+    methods-none OUTCOME    when nothing is asked,
+    methods-all OUTCOME     with any of all names, the last name first,
+    methods-even OUTCOME    with any of those of even number, the last first and each asked twice,
+    methods-odd OUTCOME     and with any of the others, the last first
 
 OUTCOME is `passed` of a check, `whole` and the counts of a layout, `given`, the number of entries and these, or `refused`, the number
 and the name or `-`. A number that was asked with and is outside the book's table is named as it is, without quotes. An alias is given as the
 number of names and the last one. An entry of values is a name and the number of its values, or `many`; a name without definition, which is refused
-with 3, has none. An entry of chains is ends.K, circle.K or unbound.K and the name without definition, one of lookups f.K (a
-function), s.K (a service) or -.K; K are the names crossed, of a chain that never ends as many as there are definitions. After the lookups comes
-actor.K, of what stands below main's class, where main has an actor; it is no entry. These two are of functions inside the crates, which C has
-not: chains is refused with 1, 24, 18 and 2, lookups with what the check is. Of a book with more
-than 514 names that lists none, so that no name has uses, only the first 8 names and the last 8 are asked about. A broken book is not asked
-about names. After list, marks, init, draft, empty, use-counts, uses and project-all, if entries were given, it is asked again with one place fewer
-than they take:
+with 3, has none. One of methods is a name and the positions of the methods that change with it; a name with which none does has none. An entry of
+chains is ends.K, circle.K or unbound.K and the name without definition, one of lookups f.K (a function), s.K (a service) or -.K; K are the names
+crossed, of a chain that never ends as many as there are definitions. After the lookups comes actor.K, of what stands below main's class, where main
+has an actor; it is no entry. These two are of functions inside the crates, which C has not: chains is refused with 1, 24, 18 and 2, lookups with what
+the check is. Of a book with more than 514 names that lists none, so that no name has uses, there are lines about the first 8 names and the last 8
+alone. A broken book is not asked about names. After list, marks, init, draft, empty, use-counts, uses, project-all and methods-all, if entries were
+given, it is asked again with one place fewer than they take:
 
     QUESTION-short needs N refused 16 -
 
@@ -56,8 +63,8 @@ Then each is `refused 18` if a label is repeated anywhere in the book: two child
 methods of one service with equal names. It names the later one's label if it is spelled, of the lowest node that has such an earlier sibling.
 
 QUESTIONS below is the table of them all; a new question is a row there. With the numbers of a NAME and of a METHOD and the PLACES lent, in
-numbers, it prints what c/questions.c has to: each question once, uses and alias chain of NAME and a projection to METHOD, names by number;
-with limits under these.
+numbers, it prints what c/questions.c has to: each question once, uses and alias chain of NAME, a projection to METHOD and the methods that change
+with either of the two, names by number; with limits under these.
 """
 
 import functools
@@ -485,6 +492,32 @@ def reachable_together(book):
     return sum(many[id(tree)] for *_, trees in offered(book) for tree in trees)
 
 
+@functools.cache
+def changing(book):
+    """The names that each method changes with, in order: those reachable from the arguments and results of its function, which are all that is inside
+    that function. Its own name is one of them only if it is reachable from there. A class's arguments are of no method."""
+    env, actor = with_actor(book)
+    refers, found = {name: references(tree) for name, tree in env.items()}, {}
+    functions = [alias_end(env, method) for method in alias_end(env, below_class(actor)).kids]
+    for function in functions:
+        if id(function) not in found:  # a function may be that of many methods
+            found[id(function)] = reachable(refers, function)
+    return [found[id(function)] for function in functions]
+
+
+def methods(book, asked):
+    """Request 10: the positions of the methods with a use of any asked name. Nothing here asks how often a name is asked, or whether it is one."""
+    asked = set(asked)
+    return [position for position, names in enumerate(changing(book)) if not asked.isdisjoint(names)]
+
+
+def all_methods(book):
+    """What is given where each name of the table is asked alone; of those with which no method changes it is nothing."""
+    with_actor(book)
+    found = [(name, methods(book, [name])) for name in range(len(book.names))]
+    return [(name, positions) for name, positions in found if positions]
+
+
 def alias(book, name):
     """How many names the chain from a name crosses, and the last of them, whose definition is no name; 3."""
     env, _ = check(book)
@@ -704,6 +737,10 @@ def names_and_values(lines, entries):
     return given([f"{lines.name(name)} {number}" for name, number in entries])
 
 
+def names_and_methods(lines, entries):
+    return given([" ".join([lines.name(name), *map(str, positions)]) for name, positions in entries])
+
+
 def number_alone(lines, number):
     return f"given {number}"
 
@@ -741,6 +778,7 @@ QUESTIONS = tuple(Question(*row) for row in (
     ("empty", OF_BOOK, "empty", emptiness, lambda lines, _: [], names, True),
     ("values", OF_BOOK, "values", all_values, lambda lines, _: [], names_and_values, False),
     ("use-counts", OF_BOOK, "use-counts", use_counts, lambda lines, _: [], counts_and_total, True),
+    ("methods", OF_BOOK, "methods", all_methods, lambda lines, _: [], names_and_methods, False),
     ("chains", OF_BOOK, "chains", chains, lambda lines, _: [], ends_of_chains, False),
     ("lookups", OF_BOOK, "lookups", lookups, lambda lines, _: [], found_by_lookups, False),
     ("uses", OF_NAME, "uses", uses, lambda lines, number: [number], entries_of_uses, True),
@@ -756,12 +794,21 @@ QUESTIONS = tuple(Question(*row) for row in (
     ("project-highest", OF_WHOLE, "project", project, lambda lines, _: [[HIGHEST]], numbers, False),
     ("project-none", OF_WHOLE, "project", project, lambda lines, _: [[]], numbers, False),
     ("project-all", OF_WHOLE, "project", project, lambda lines, _: [lines.projected()[::-1]], numbers, True),
-    ("project-every", OF_WHOLE, "project", project, lambda lines, _: [[*range(len(lines.book.names))][::-1]], numbers, False),
+    ("project-every", OF_WHOLE, "project", project, lambda lines, _: [lines.every()[::-1]], numbers, False),
+    ("methods-outside", OF_WHOLE, "methods", methods, lambda lines, _: [[OUTSIDE]], numbers, False),
+    ("methods-highest", OF_WHOLE, "methods", methods, lambda lines, _: [[HIGHEST]], numbers, False),
+    ("methods-none", OF_WHOLE, "methods", methods, lambda lines, _: [[]], numbers, False),
+    ("methods-all", OF_WHOLE, "methods", methods, lambda lines, _: [lines.every()[::-1]], numbers, True),
+    ("methods-even", OF_WHOLE, "methods", methods, lambda lines, _: [[name for name in lines.every()[::2][::-1] for _ in range(2)]],
+     numbers, False),
+    ("methods-odd", OF_WHOLE, "methods", methods, lambda lines, _: [lines.every()[1::2][::-1]], numbers, False),
 ))
 ROWS = {row.word: row for row in QUESTIONS}
 UNLIMITED = ("layout", "name")
 LIMITED = [row for row in QUESTIONS if row.word not in UNLIMITED]  # those that take limits
-OF_ONE_NAME = ROWS["values-outside"]._replace(word="values", asked=ROWS["alias"].asked)  # as C asks; answer_batch asks about all names in one line
+# As C asks; answer_batch asks about each name, all in one line.
+ASKED_BY_C = {"values": ROWS["values-outside"]._replace(word="values", asked=ROWS["alias"].asked),
+              "methods": ROWS["methods-none"]._replace(word="methods", asked=lambda lines, numbers: [numbers])}
 INNER = ("chains", "lookups")  # those of functions inside the crates
 BROKEN = {row.word: 'given 2 "" ""' if row.word == "name" else "refused 1 -" for row in QUESTIONS if row.of == OF_BOOK}
 
@@ -782,6 +829,10 @@ class Lines:
 
     def listed(self):
         return self.answers["list"] or []
+
+    def every(self):
+        """The numbers of all names."""
+        return [*range(len(self.book.names))]
 
     def projected(self):
         """The names whose projection is given."""
@@ -866,8 +917,8 @@ class Tally:
 
 def numbered(data, name, method, places, limits=FULL):
     """What c/questions.c prints of a book. How many uses are needed it knows up to MOST_USES alone."""
-    about = {"uses": name, "alias": name, "values": name, "project": method}
-    rows = [OF_ONE_NAME if row.word == "values" else row for row in LIMITED if row.word == row.counted and row.word not in INNER]
+    about = {"uses": name, "alias": name, "values": name, "project": method, "methods": [name, method]}
+    rows = [ASKED_BY_C.get(row.word, row) for row in LIMITED if row.word == row.counted and row.word not in INNER]
     try:
         lines = Lines(Book(data), limits)
     except Refused:
@@ -932,6 +983,25 @@ def reporting(data):
     except Refused as refused:
         return refusal(refused, book.names) + "\n"
     return "\n".join([*lines, f"total {reachable_together(book)}"]) + "\n"
+
+
+def naming(data, asked):
+    """What the program `methods` prints of a book when it is asked for these names, which are bytes; under the full limits."""
+    try:
+        book = Book(data)
+    except Refused as refused:
+        return refusal(refused, []) + "\n"
+    try:
+        env, actor = with_actor(book)
+        leading, more = set(), {number for number, name in enumerate(book.names) if name in asked}
+        while more:  # the names whose definitions lead to an asked one
+            leading |= more
+            more = {name for name, tree in env.items() if not leading.isdisjoint(references(tree))} - leading
+        changing = {position for position, _, trees in offered(book) for tree in trees if not leading.isdisjoint(references(tree))}
+    except Refused as refused:
+        return refusal(refused, book.names) + "\n"
+    methods = alias_end(env, below_class(actor)).kids
+    return "".join(f"{layout.quoted(book.names[method.label])}\n" for position, method in enumerate(methods) if position in changing)
 
 
 def main():

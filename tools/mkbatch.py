@@ -26,6 +26,7 @@ A stated outcome of a question is
     // alias TEXT: N TEXT        the names crossed and the last of them
     // values: TEXT N ..         each name with the number of its values, or `many`
     // use-counts: N .. total N  the number of uses of each listed definition, and their sum
+    // methods: TEXT N .. TEXT ..  each name with the positions of the methods that change with it alone
 Each three limits are a record of its own, whose name is NAME@NAMES-NODES-DEFINITIONS; stated is
     // NAMES NODES DEFINITIONS: within    every line is as under document 01's figures
     // NAMES NODES DEFINITIONS: over      all but layout and name are refused with 24
@@ -138,13 +139,18 @@ def entries(text):
 
 def given(word, listed):
     """Stated entries after `given` and their number, but for what is no entry of its own: the name of an unbound chain, the actor's lookup, and the
-    name before a number of values. An alias chain is one entry that begins with its number; `total` and the sum are after numbers of uses."""
+    name before a number of values. An alias chain is one entry that begins with its number; `total` and the sum are after numbers of uses; an entry
+    of methods is a name, and goes on with positions."""
     if word == "alias":
         return " ".join(["given", *listed])
     if word == "use-counts":
         return " ".join([f"given {len(listed) - 2}", *listed])
-    has_more = word in (*answers.INNER, "values")
-    count = sum(not entry.startswith(("actor", '"')) for entry in listed) if has_more else len(listed)
+    if word == "methods":
+        count = sum(entry.startswith('"') for entry in listed)
+    elif word in (*answers.INNER, "values"):
+        count = sum(not entry.startswith(("actor", '"')) for entry in listed)
+    else:
+        count = len(listed)
     return " ".join([f"given {count}", *listed])
 
 

@@ -5,6 +5,7 @@
     crates/list/stdin, stdout             P1 and its list
     crates/values/stdin, stdout           a book with odd names, and how many values its definitions have
     crates/uses_report/stdin, stdout      another, and how many uses they have
+    crates/methods/stdin, args, stdout    P1, `-` and some names, and the methods that change with these
 
 Books come from the sources by tools/mkbook.py. What the programs must write comes from the sources' first lines and
 from tools/layout.py and tools/answers.py, which read the bytes by the papers alone, and never from the programs;
@@ -58,6 +59,8 @@ def files():
             return bytes(mkbook.book(file.read()))
 
     p1, valued, used = book(SOURCES, "p01.did"), book(LIST_SOURCES, "values-names.did"), book(LIST_SOURCES, "use-counts-names.did")
+    # The first and the last name are each used by a method alone, and by one together; a fourth method uses neither, and the book has no z.
+    changed, names = book(LIST_SOURCES, "methods-two.did"), ["a", "z", "b"]
     records, lines = answer_batch()
     return {
         "crates/answer_batch/stdin": records,
@@ -68,6 +71,9 @@ def files():
         "crates/values/stdout": answers.valuing(valued).encode(),
         "crates/uses_report/stdin": used,
         "crates/uses_report/stdout": answers.reporting(used).encode(),
+        "crates/methods/stdin": changed,
+        "crates/methods/args": "".join(f"{word}\n" for word in ["-", *names]).encode(),
+        "crates/methods/stdout": answers.naming(changed, [name.encode() for name in names]).encode(),
     }
 
 

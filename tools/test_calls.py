@@ -822,7 +822,8 @@ class Crates(unittest.TestCase):
         loops = calls.have_to_be_loops(found)
         self.assertLessEqual({*calls.LOOPS, "environment::scope::Scope::follow", "environment::scope::Scope::note", "environment::look_up",
                               "environment::root_of", "passed::alias::last_crossed", "analysis::chase::chase_actor",
-                              "analysis::use_counts::count_uses",
+                              "analysis::use_counts::count_uses", "analysis::reaching::find_nearest", "analysis::def_use::Searched::methods",
+                              "analysis::methods::method_names",
                               "inhabitants::empty::empty_names", "inhabitants::filling::fill", "inhabitants::counting::NodeValues::count"}, loops)
         self.assertNotIn("environment::merge::Comparison::same_trees", loops)
         known = {"book::read::Node::at", "book::read::half", "book::walks::SiblingsIterator::next", "syntax::actor::service_at"}

@@ -1,8 +1,8 @@
 #!/usr/bin/env python3
-r"""Tests the built programs `list`, `values` and `uses_report`:  python3 tools/test_programs.py
+r"""Tests the built programs `list`, `values`, `uses_report` and `methods`:  python3 tools/test_programs.py
 
-`tools/build.sh list values uses_report` builds them, and the gate runs each on a book; here they read every book of tests, books at the limits,
-bytes that are none, and files that cannot be read or written.
+`tools/build.sh list values uses_report methods` builds them, and the gate runs each on a book; here they read every book of tests, books at the
+limits, bytes that are none, and files that cannot be read or written.
 What they must write comes from tools/answers.py, which reads the bytes by the paper alone, and in part from the paper by hand.
 Without a program its tests are skipped.
 """
@@ -41,10 +41,13 @@ def if_built(name):
 
 
 class Program:
-    """What is asked of each program: `name`, and `right`, what it must write of the bytes of a book."""
+    """What is asked of each program: `name`, and `right`, what it must write of the bytes of a book. `standard_input` are the arguments for a book that
+    is read from there, and `more` what stands behind a file's name."""
+
+    standard_input, more = [], []
 
     def writes(self, data, expected, what=None):
-        found = subprocess.run([path_of(self.name)], input=data, capture_output=True, env={})
+        found = subprocess.run([path_of(self.name), *self.standard_input, *self.more], input=data, capture_output=True, env={})
         self.assertEqual((found.stdout.decode(), found.stderr, found.returncode), (expected, b"", 0), what)
 
     def test_nothing(self):
@@ -75,7 +78,7 @@ class Program:
     def test_in_pieces(self):
         """Input that comes in pieces is read to its end."""
         book = book_of("tests", "list", "p01.did")
-        with subprocess.Popen([path_of(self.name)], stdin=subprocess.PIPE, stdout=subprocess.PIPE, env={}) as run:
+        with subprocess.Popen([path_of(self.name), *self.standard_input, *self.more], stdin=subprocess.PIPE, stdout=subprocess.PIPE, env={}) as run:
             for at in range(0, len(book), 50):
                 run.stdin.write(book[at:at + 50])
                 run.stdin.flush()
@@ -100,12 +103,12 @@ class Program:
             for data in (book, b"", book + b"\0", book_of("bench", "full.did")):
                 with open(path, "wb") as file:
                     file.write(data)
-                self.runs([path], self.right(data).encode(), "")
+                self.runs([path, *self.more], self.right(data).encode(), "")
             # A name may have 4,095 bytes; what does not fit the program's buffer is not shown.
             long = folder + "/" * (4095 - len(folder) - len("book")) + "book"
             with open(path, "wb") as file:
                 file.write(book)
-            self.runs([long], self.right(book).encode(), "")
+            self.runs([long, *self.more], self.right(book).encode(), "")
             self.runs(["/" + long], b"", f"{self.name}: /{long}: File name too long\n")
             self.runs(["//" + long], b"", f"{self.name}: the file's name: File name too long\n")
 
@@ -117,13 +120,15 @@ class Program:
             self.runs([folder], b"", f"{self.name}: {folder}: Is a directory\n")
             self.runs([os.path.join(folder, "")[:-1] + "/x/y"], b"", f"{self.name}: {folder}/x/y: No such file or directory\n")
             with open(missing, "wb") as write_only:
-                self.runs([], b"", f"{self.name}: standard input: Bad file descriptor\n", stdin=write_only)
+                self.runs(self.standard_input, b"", f"{self.name}: standard input: Bad file descriptor\n", stdin=write_only)
             descriptor = os.open(folder, os.O_RDONLY)
-            self.runs([], b"", f"{self.name}: standard input: Is a directory\n", stdin=descriptor)
+            self.runs(self.standard_input, b"", f"{self.name}: standard input: Is a directory\n", stdin=descriptor)
             os.close(descriptor)
         self.runs([""], b"", f"{self.name}: : No such file or directory\n")
         found = subprocess.run([path_of(self.name), b"\xff"], env={}, capture_output=True)
         self.assertEqual((found.stdout, found.stderr, found.returncode), (b"", self.name.encode() + b": \xff: Not UTF-8\n", 0))
+
+    def test_usage(self):
         for arguments in (["a", "b"], ["", "", ""]):
             self.runs(arguments, b"", f"usage: {self.name} [FILE]\n")
 
@@ -135,14 +140,14 @@ class Program:
             with ours, theirs:
                 ours.sendall(book[:size])
                 theirs.setsockopt(socket.SOL_SOCKET, socket.SO_RCVTIMEO, struct.pack("ll", 0, 100_000))
-                self.runs([], b"", f"{self.name}: standard input: Resource temporarily unavailable\n", stdin=theirs)
+                self.runs(self.standard_input, b"", f"{self.name}: standard input: Resource temporarily unavailable\n", stdin=theirs)
 
     def test_failed_write(self):
         book = os.path.join(ROOT, "crates", self.name, "stdin")
         with open("/dev/full", "wb") as full:
-            self.runs([book], None, f"{self.name}: standard output: No space left on device\n", stdout=full)
+            self.runs([book, *self.more], None, f"{self.name}: standard output: No space left on device\n", stdout=full)
         with open(os.devnull, "rb") as read_only:
-            self.runs([book], None, f"{self.name}: standard output: Bad file descriptor\n", stdout=read_only)
+            self.runs([book, *self.more], None, f"{self.name}: standard output: Bad file descriptor\n", stdout=read_only)
 
 
 @if_built("list")
@@ -315,6 +320,146 @@ class UsesReport(Program, unittest.TestCase):
         self.assertEqual(right.count(" 1\n"), 220)
         self.assertGreater(len(right), 160_000)
         self.writes(book, right)
+
+
+@if_built("methods")
+class Methods(Program, unittest.TestCase):
+    """Request 10 of document 02: a line for each method that changes with the definitions of the names, in the order of their positions."""
+
+    name, more_refusals = "methods", {17}
+    standard_input, more = ["-"], ["tree", "a", "", b"\xff"]
+
+    def right(self, data):
+        return answers.naming(data, [b"tree", b"a", b"", b"\xff"])
+
+    def asked(self, data, names, what=None):
+        """It writes what is right of a book on standard input; what is right, to be held against what is so by hand."""
+        names = [name.encode() if isinstance(name, str) else name for name in names]
+        right = answers.naming(data, names)
+        found = subprocess.run([path_of(self.name), "-", *names], input=data, capture_output=True, env={})
+        self.assertEqual((found.stdout.decode(), found.stderr, found.returncode), (right, b"", 0), what)
+        return right
+
+    def test_p1(self):
+        p1 = book_of("tests", "list", "p01.did")
+        for names, right in (
+            (["tree"], '"put"\n'), (["pair"], '"put"\n'), (["spare"], ""), ([], ""), (["put"], ""), (["tre"], ""), (["tree "], ""),
+            (["TREE"], ""), (["none", "spare", "tree"], '"put"\n'), (["tree", "tree"], '"put"\n'), (["-"], ""), ([""], ""),
+        ):
+            self.assertEqual(self.asked(p1, names, names), right, names)
+
+    def test_by_hand(self):
+        source = """type a = nat; type b = record { a; c }; type c = opt c; type d = text; type f = func (d) -> (); type unused = f;
+                    service : (b) -> { z : (a) -> (); y : (c) -> (b); x : () -> () query; w : f; v : (f) -> ();
+                                       u : (record { opt unused }) -> () }"""
+        book = bytes(mkbook.book(source))
+        for names, right in {
+            "": "", "a": "zy", "b": "y", "c": "y", "d": "wvu", "f": "vu", "unused": "u", "a d": "zywvu", "d a": "zywvu", "c c b": "y", "x y z": "",
+            "unused unknown a": "zyu", "a b c d f unused": "zywvu",
+        }.items():
+            positions = [method for method in "zyxwvu" if method in right]
+            # a book's methods stand in the order of the source
+            self.assertEqual(self.asked(book, names.split(), names), "".join(f'"{method}"\n' for method in positions), names)
+        for book, right in {
+            'file "m" main type a = nat; service : { m : (a) -> () } file "i" service type b = a; service : { n : (b) -> () }': '"m"\n"n"\n',
+            "service : { a : (nat) -> () }": "", "type a = nat; service : (a) -> { m : () -> () }": "",
+            "type a = nat; service : { a : () -> (a) }": '"a"\n',
+        }.items():
+            self.assertEqual(self.asked(bytes(mkbook.book(book)), ["a"], book), right, book)
+
+    def test_every_name(self):
+        """Every book of tests, asked for all of its names in another order, twice; and of tests/list for each of its first names alone."""
+        chance = random.Random(10)
+        for folder in (SOURCES, CHECK_SOURCES, LIST_SOURCES, LIMITS_SOURCES):
+            for name, text in mkbatch.sources(folder):
+                data = bytes(mkbook.book(text))
+                try:
+                    names = [name for name in answers.Book(data).names if b"\0" not in name]
+                except answers.Refused:
+                    names = []
+                for one in names[:3] if folder == LIST_SOURCES else []:
+                    self.asked(data, [one], (folder, name, one))
+                several = 2 * chance.sample(names, min(len(names), 300))
+                chance.shuffle(several)
+                self.asked(data, several, (folder, name))
+
+    def test_refusals(self):
+        """Whatever is asked, and where nothing is."""
+        for folder, name, refusal in (
+            ("check", "p03", '7 "a"'), ("check", "p06", '2 "b"'), ("list", "p04", "17 -"), ("check", "row-04-definition", "4 -"),
+            ("check", "p09-import", '14 "\\00a"'), ("list", "broken", "1 -"), ("check", "row-18-record", '18 "x"'),
+        ):
+            for names in ([], ["tree"], ["a", "b"]):
+                self.assertEqual(self.asked(book_of("tests", folder, name + ".did"), names, name), f"refused {refusal}\n")
+
+    def test_usage(self):
+        self.runs([], b"", f"usage: {self.name} FILE [NAME ..]\n")
+
+    def test_file_named(self):
+        """`-` is standard input, and `./-` a file."""
+        p1 = book_of("tests", "list", "p01.did")
+        with tempfile.TemporaryDirectory() as folder:
+            path = os.path.join(folder, "-")
+            with open(path, "wb") as file:
+                file.write(p1)
+            self.runs([path, "tree"], b'"put"\n', "")
+            self.runs(["-", "tree"], BROKEN.encode(), "")
+            self.runs([folder + "/--", "tree"], b"", f"{self.name}: {folder}/--: No such file or directory\n")
+
+    def test_odd_names(self):
+        """The bytes of a name are those of the argument; a method's outside 0x20 to 0x7E, the quote and the backslash are a backslash and two digits."""
+        source = r'''type "\01\1f\20!\"#[\\]}~\7f\80\ff" = nat; type "" = nat;
+                     service : { "\00\1f\20!\"#[\\]}~\7f\80\ff" : ("\01\1f\20!\"#[\\]}~\7f\80\ff") -> (); "" : ("") -> () }'''
+        book, odd = bytes(mkbook.book(source)), b'\x01\x1f !"#[\\]}~\x7f\x80\xff'
+        self.assertEqual(self.asked(book, [odd]), '"\\00\\1f !\\22#[\\5c]}~\\7f\\80\\ff"\n')
+        self.assertEqual(self.asked(book, [""]), '""\n')
+        self.assertEqual(self.asked(book, ["", odd]).count("\n"), 2)
+        for name in (odd[1:], odd[:-1], odd + b" ", b'"' + odd + b'"', b"\\01", b'""'):
+            self.assertEqual(self.asked(book, [name]), "")
+        every = bytes(range(1, 256))
+        spelled = "".join(f"\\{byte:02x}" for byte in every)
+        book = bytes(mkbook.book(f'type "{spelled}" = nat; service : {{ m : ("{spelled}") -> () }}'))
+        self.assertEqual(self.asked(book, [every]), '"m"\n')
+        self.assertEqual(self.asked(book, [every + b"\x01"]), "")
+
+    def test_zero_byte(self):
+        """A name with a zero byte is no argument, and its parts are other names."""
+        book = bytes(mkbook.book(r'type "a\00b" = nat; service : { m : ("a\00b") -> () }'))
+        for names in ([b"a"], [b"b"], [b"a", b"b"], [b"ab"]):
+            self.assertEqual(self.asked(book, names), "")
+
+    def test_many_names(self):
+        """However often they are asked, up to 262,144 bytes with one for each name."""
+        p1 = book_of("tests", "list", "p01.did")
+        self.assertEqual(self.asked(p1, ["tree"] * 20_000), '"put"\n')
+        self.assertEqual(self.asked(p1, ["spare"] * 25_000 + ["tree"]), '"put"\n')
+        self.assertEqual(self.asked(p1, [""] * 60_000), "")
+        self.assertEqual(self.asked(p1, ["x" * 131_071, "y" * 131_066, "tree"][::-1]), '"put"\n')
+        for names in (["x" * 131_071, "y" * 131_071, ""], ["x" * 131_071, "y" * 131_067, "tree"], ["tree", "x" * 131_071, "y" * 131_068],
+                      ["tree"] * 60_000):
+            with self.subTest(len(names)):
+                self.runs([os.path.join(ROOT, "crates", "list", "stdin"), *names], b"", f"{self.name}: the names: Argument list too long\n")
+
+    def test_largest(self):
+        """As long as a book may be, asked for every definition, and longer."""
+        book = book_of("bench", "full.did")
+        self.assertEqual(len(book), MOST)
+        names = [name for name in answers.Book(book).names if b"\0" not in name]
+        self.asked(book, names)
+        self.asked(book, names[:1])
+        self.writes(book + b"\0", BROKEN)
+        self.writes(book[:-1], BROKEN)
+        self.writes(book_of("tests", "layout", "length-65536.did"), "refused 17 -\n")
+
+    def test_many_methods(self):
+        """A thousand, all of which change; tests/list/large-methods-1024.did has as many as there can be."""
+        book = bytes(mkbook.book("type a = nat; service : { repeat 1000 { \"###\" : (a) -> (); } }"))
+        self.assertEqual(self.asked(book, ["a"]), "".join(f'"{number:03}"\n' for number in range(1000)))
+
+    def test_longest_output(self):
+        """Long names, three characters for each byte."""
+        book = bytes(mkbook.book(r'type a = nat; service : { repeat 230 { "\00" * 252 + "###" : (a) -> (); } }'))
+        self.assertGreater(len(self.asked(book, ["a"])), 170_000)
 
 
 if __name__ == "__main__":

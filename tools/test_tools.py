@@ -332,20 +332,22 @@ class Answers(unittest.TestCase):
         """By hand, what c/build.sh tries. Names: "" fork leaf pair put spare tree; a b c d init m main; "" r s t; "" a b c d m; "" f m000 m001 ..;
         "" a m; "" a b; "" n0000 .. \\ff; a000 .. a510 head m; a b c d init main."""
         p1 = {"check": "passed", "init-check": "passed", "list": "given 2 3 6", "marks": "given 1 6", "init": "given 0",
-              "draft": "given 2 3 6", "empty": "given 0", "values": "given many", "use-counts": "given 2 1 1", "uses": "given 1 0.0.0",
-              "alias": "given 1 6", "project": "given 1 0"}
+              "draft": "given 2 3 6", "empty": "given 0", "values": "given many", "use-counts": "given 2 1 1", "methods": "given 1 0",
+              "uses": "given 1 0.0.0", "alias": "given 1 6", "project": "given 1 0"}
         short, circle = "refused 16 needs", "refused 7 1"
         books = LIST_BOOKS | {"uses-most": MOST_USES}
         for (name, *asked), right in {
             ("p01", 6, 4, 4096): p1,
             ("p01", 5, 6, 4096): p1 | {"uses": "given 0", "alias": "given 1 5", "project": "refused 15 6"},
-            ("p01", 1024, 1024, 4096): p1 | {"uses": "given 0", "alias": "refused 3 1024", "values": "refused 3 1024", "project": "refused 15 1024"},
-            ("p01", 65535, 65535, 4096): p1 | {"uses": "given 0", "alias": "refused 3 65535", "values": "refused 3 65535",
+            ("p01", 1024, 1024, 4096): p1 | {"methods": "given 0", "uses": "given 0", "alias": "refused 3 1024", "values": "refused 3 1024",
+                                             "project": "refused 15 1024"},
+            ("p01", 65535, 65535, 4096): p1 | {"methods": "given 0", "uses": "given 0", "alias": "refused 3 65535", "values": "refused 3 65535",
                                                "project": "refused 15 65535"},
+            ("p01", 3, 65535, 1): {"methods": "given 1 0"}, ("p01", 5, 4, 0): {"methods": "given 0"},
             ("p01", 6, 4, 3): p1,
             ("p01", 6, 4, 2): p1 | {"uses": f"{short} 1"},
             ("p01", 6, 4, 1): p1 | {"list": f"{short} 2", "draft": f"{short} 2", "use-counts": f"{short} 2", "uses": f"{short} 1"},
-            ("p01", 6, 4, 0): p1 | {"list": f"{short} 2", "draft": f"{short} 2", "use-counts": f"{short} 2",
+            ("p01", 6, 4, 0): p1 | {"list": f"{short} 2", "draft": f"{short} 2", "use-counts": f"{short} 2", "methods": f"{short} 1",
                                     "marks": f"{short} 1", "uses": f"{short} 1", "project": f"{short} 1"},
             ("init-own", 0, 5, 4096): {"init": "given 3 3 2 1", "draft": "given 1 0", "marks": "given 0", "empty": "given 0",
                                        "values": "given many", "uses": "given 1 0.0.0", "alias": "given 1 0", "project": "given 1 0"},
@@ -357,6 +359,12 @@ class Answers(unittest.TestCase):
                                         "use-counts": "given 1 3143680", "uses": f"{short} 4097", "project": "given 1 3"},
             ("p10", 0, 0, 0): {"list": "given 0", "use-counts": "given 0"},
             ("p04", 0, 0, 0): {"list": "refused 17 -", "use-counts": "refused 17 -"},
+            ("methods-two", 1, 2, 3): {"methods": "given 3 0 1 2"}, ("methods-two", 2, 1, 2): {"methods": f"{short} 3"},
+            ("methods-two", 1, 1, 2): {"methods": "given 2 0 2"}, ("methods-two", 4, 2, 2): {"methods": "given 2 1 2"},
+            ("methods-two", 65535, 2, 1): {"methods": f"{short} 2"}, ("methods-class", 1, 2, 0): {"methods": "given 0"},
+            ("methods-no-actor", 0, 65535, 0): {"methods": "refused 17 -"},
+            ("large-methods-1024", 1023, 1022, 1): {"methods": "given 1 1023"}, ("large-methods-1024", 0, 1, 1023): {"methods": f"{short} 1024"},
+            ("large-methods-1024", 1, 1022, 1024): {"methods": "given 1024 " + " ".join(map(str, range(1024)))},
             ("uses-function", 1, 4, 3): {"use-counts": "given 3 1 1 0", "uses": "given 1 0.0.0"},
             ("uses-function", 1, 4, 2): {"use-counts": f"{short} 3", "uses": f"{short} 1"},
             ("large-use-counts-65536", 1, 0, 4): {"use-counts": "given 4 65536 65535 65535 0", "uses": f"{short} 4097"},
@@ -405,7 +413,7 @@ class Answers(unittest.TestCase):
 
     def test_numbered_limits(self):
         """P1 has 7 names, 10 nodes and 3 definitions. A limit too small is told before a name outside the table and a list too short."""
-        words = "check init-check list marks init draft empty values use-counts uses alias project".split()
+        words = "check init-check list marks init draft empty values use-counts methods uses alias project".split()
         for asked in ((6, 4, 4096), (65535, 65535, 4096), (6, 4, 0)):
             full = answers.numbered(LIST_BOOKS["p01"], *asked)
             for limits in ((7, 10, 3), (7, 4096, 512), (1024, 10, 512), (1024, 4096, 3), (1025, 4097, 513), (2**32 - 1,) * 3):
@@ -1104,6 +1112,181 @@ class UseCounts(unittest.TestCase):
         self.assertGreater(larger, 100)
 
 
+def sparse_interfaces(count):
+    """Books with nine definitions and eight methods that lead to few of them each, some below a class or of an import."""
+    random = Random(11)
+
+    def some(often):
+        return random.choice("abcdefghi") if random.random() < often else "nat"
+
+    def body(name):
+        return f"func ({some(0.7)}) -> ({some(0.2)})" if name in "fg" else random.choice(
+            ("nat", f"opt {some(1)}", f"record {{ {some(0.7)}; {some(0.3)} }}", f"service {{ x : f; y : ({some(0.5)}) -> () }}"))
+
+    def method(name):
+        return f"{name} : {random.choice('fg') if random.random() < 0.2 else f'({some(0.5)}) -> ({some(0.3)})'};"
+
+    for _ in range(count):
+        rows = [f"type {name} = {body(name)};" for name in "abcdefghi"]
+        methods = [method(name) for name in "klmnopqr"]
+        split = random.choice((4, 8))
+        more = f'file "i" service service : {{ {" ".join(methods[split:])} }}' if split < 8 else ""
+        arguments = random.choice(("", f"({some(1)}) -> "))
+        yield mkbook.book(f'file "s" main {" ".join(rows)} service : {arguments}{{ {" ".join(methods[:split])} }} {more}')
+
+
+class Methods(unittest.TestCase):
+    """Request 10 of document 02: which methods change with some definitions."""
+
+    def changed(self, source):
+        """Each name with which a method changes, with the positions."""
+        book = answers.Book(mkbook.book(source))
+        return " ".join(f"{book.names[name].decode()}:{','.join(map(str, positions))}" for name, positions in answers.all_methods(book))
+
+    def test_by_hand(self):
+        """Each name alone."""
+        for source, right in {
+            # nothing that a method leads to
+            "service : {}": "", "service : { m : () -> () }": "", "service : () -> {}": "", "type a = nat; service : {}": "",
+            "type a = nat; service : { m : (nat) -> (vec text) }": "", "type m = nat; service : { m : () -> () }": "",
+            # arguments and results, each of them, however often
+            "type a = nat; service : { m : (a) -> () }": "a:0", "type a = nat; service : { m : () -> (a) }": "a:0",
+            "type a = nat; service : { m : (a, a) -> (a) }": "a:0", "type a = nat; service : { m : (nat, text, a) -> () }": "a:0",
+            "type a = nat; service : { m : (nat) -> (text, a) }": "a:0", "type a = nat; service : { m : () -> (); n : (a) -> () }": "a:1",
+            "type a = nat; service : { m : (a) -> (); n : () -> (); o : () -> (a) }": "a:0,2",
+            "type a = nat; type b = nat; service : { z : (b) -> (); m : (a, b) -> (); n : () -> (a) }": "a:1,2 b:0,1",
+            "type a = nat; service : { m : (opt vec record { x : a }) -> (); n : () -> (variant { y; z : a }) }": "a:0,1",
+            # names on the way, those that come before them, and circles
+            "type a = b; type b = c; type c = nat; service : { m : (b) -> (); n : (a) -> (); o : (c) -> () }": "a:1 b:0,1 c:0,1,2",
+            "type a = opt a; service : { m : (a) -> (); n : () -> () }": "a:0",
+            "type a = opt b; type b = opt a; type c = opt a; service : { m : (a) -> (); n : (c) -> (); o : (b) -> () }": "a:0,1,2 b:0,1,2 c:1",
+            # the arguments of a class
+            "type a = nat; service : (a) -> { m : () -> () }": "", "type a = nat; service : (a, nat, a) -> { m : () -> (); n : (a) -> () }": "a:1",
+            "type a = b; type b = nat; service : (a) -> { m : (b) -> () }": "b:0", "type a = nat; service : () -> { m : (a) -> () }": "a:0",
+            "type f = func () -> (); service : (f) -> { m : f }": "",
+            # a method's own function, by name or by a chain of names
+            "type f = func () -> (); service : { m : f }": "", "type f = func (nat) -> (text); type g = f; service : { m : g; n : f }": "",
+            "type f = func (a) -> (); type a = nat; service : { m : f; n : () -> () ; o : f }": "a:0,2",
+            "type f = func (f) -> (); service : { m : f; n : () -> () }": "f:0", "type f = func () -> (g); type g = f; service : { m : f; n : g }":
+                "f:0,1 g:0,1",
+            "type g = f; type f = func (a) -> (); type a = g; service : { m : g }": "a:0 f:0 g:0",
+            "type f = func () -> (); service : { m : f; n : (f) -> (); o : () -> (opt f) }": "f:1,2",
+            "type f = func () -> (); type g = func (f) -> (); service : { m : f; n : g }": "f:1",
+            # functions and services inside
+            "type a = nat; service : { m : (func (a) -> ()) -> (); n : (func () -> (a)) -> () }": "a:0,1",
+            "type a = nat; type f = func (a) -> (); service : { m : (service { x : f }) -> (); n : () -> (service { x : () -> (a) }) }": "a:0,1 f:0",
+            "type s = service { x : f }; type f = func (a) -> (); type a = nat; service : { m : (s) -> (); n : f }": "a:0,1 f:0 s:0",
+            "type f = func (service { m : f }) -> (); service : { m : f; n : () -> () }": "f:0",
+            "type f = func (service { x : g }) -> (); type g = func () -> (service { y : f }); service : { m : f; n : g }": "f:0,1 g:0,1",
+            # an actor by name
+            "type s = service { m : (a) -> () }; type a = nat; service : s": "a:0", "type s = t; type t = service { m : () -> () }; service : s": "",
+            "type s = service { m : () -> (); n : (s) -> () }; service : s": "s:1",
+            "type s = service { m : () -> () }; service : (s) -> s": "",
+        }.items():
+            self.assertEqual(self.changed(source), right, source)
+
+    def test_files(self):
+        """Definitions of main and of imports, and the methods of the resolved actor; an init file is not read."""
+        for source, right in {
+            'file "m" main service : { m : (a) -> () } file "i" type type a = b; type b = nat; service : { n : (b) -> () }': "a:0 b:0",
+            'file "m" main type a = nat; service : { m : () -> (); n : (a) -> () } file "i" service service : { o : () -> (); p : (a) -> () }':
+                "a:1,3",
+            'file "m" main type a = nat; file "i" service service : { m : () -> (); n : () -> (a) }': "a:1",
+            'file "m" main type a = nat; service : (a) -> { m : () -> () } file "i" service service : { n : (a) -> () }': "a:1",
+            'file "m" main type a = nat; service : (a) -> {} file "i" service service : {}': "",
+            'file "m" main type f = func (a) -> (); type a = nat; service : { m : f } file "i" service type g = f; service : { n : g; o : f }':
+                "a:0,1,2",
+            'file "m" main type s = service { m : (s) -> () }; service : s file "i" service service : t type t = service { n : (s) -> () };':
+                "s:0,1",
+            'file "m" main type a = nat; service : { m : (a) -> () } file "i" init type b = opt b; args (a, b)': "a:0",
+            'file "m" main service : { m : () -> () } file "i" init type a = nat; args (a)': "",
+        }.items():
+            self.assertEqual(self.changed(source), right, source)
+
+    def test_lists(self):
+        """In any order, as often as they come, with numbers that are no definition's or outside the table, and longer than 65,536."""
+        book = answers.Book(mkbook.book(
+            "type a = nat; type b = nat; type c = b; service : { m : (a) -> (); n : () -> (); o : (b) -> (); p : (a, c) -> () }"))
+        self.assertEqual(book.names, [b"", b"a", b"b", b"c", b"m", b"n", b"o", b"p"])
+        for names, right in {
+            (): [], (1,): [0, 3], (2,): [2, 3], (3,): [3], (1, 2): [0, 2, 3], (2, 1): [0, 2, 3], (1, 3): [0, 3], (3, 2, 1): [0, 2, 3],
+            (2, 2, 2): [2, 3], (1, 2, 1): [0, 2, 3], (0,): [], (4, 5, 6, 7, 0): [], (8,): [], (1024,): [], (65535,): [], (65535, 8, 3, 1024): [3],
+            (1024,) * 70000 + (3,): [3], (3,) + (9,) * 70000: [3], tuple(range(65536)) * 2: [0, 2, 3], (65535,) * 100000: [],
+        }.items():
+            self.assertEqual(answers.methods(book, names), right, names[:5])
+
+    def test_refused(self):
+        """1, 24 and 18 come first, then what the check refuses, then 17, also of nothing; and 16, which counts positions, where there are any."""
+        fine, actor = "type a = nat; type b = opt a;", "service : { m : (b) -> (); n : () -> (a) }"
+        others = ("outside", "highest", "none", "all", "even", "odd")
+        for source, outcome in {
+            fine + actor: 'given 2 "a" 0 1 "b" 0', fine + "service : {}": "given 0", fine: "refused 17 -", "": "refused 17 -",
+            f'file "m" main {fine} file "i" type {actor}': "refused 17 -", fine + "type a = nat;": 'refused 2 "a"',
+            fine + actor + "type d = z;": 'refused 3 "z"', fine + "type d = class () -> {};": "refused 4 -",
+            fine + "type d = func () -> () query oneway;": "refused 5 -", fine + "type d = func () -> (nat) oneway;": "refused 6 -",
+            fine + "type d = d;": 'refused 7 "d"', fine + "type d = service { m : a };": "refused 8 -", fine + "service : { m : b }": 'refused 9 "m"',
+            fine + "service : a": "refused 10 -", f'file "m" main {fine} file "i" service': 'refused 12 "i"',
+            f'file "m" main {fine} file "i" service service : () -> {{}}': 'refused 13 "i"',
+            f'file "m" main {fine} {actor} file "i" service {actor}': 'refused 14 "m"', fine + actor + "truncate 1": "refused 1 -",
+            fine + "type d = variant { x : a; x : b };": 'refused 18 "x"', fine + actor + "type d = variant { x : a; 120 : b };": "refused 18 -",
+        }.items():
+            found = answers.outcomes(mkbook.book(source))
+            self.assertEqual(found["methods"], outcome, source)
+            self.assertEqual(found.get("methods-all-short"), "needs 2 refused 16 -" if outcome.startswith("given 2") else None, source)
+            if outcome.startswith("refused") and outcome != "refused 1 -":
+                self.assertEqual({found[f"methods-{asked}"] for asked in others}, {outcome}, source)
+        book = mkbook.book(fine + actor)
+        for limits, outcome in (((4, 8, 2), OVER), ((5, 7, 2), OVER), ((5, 8, 1), OVER), ((5, 8, 2), "given 2 0 1")):
+            self.assertEqual(answers.outcomes(book, limits)["methods-all"], outcome)
+        for places, outcome in {0: "refused 16 needs 2", 1: "refused 16 needs 2", 2: "given 2 0 1", 4096: "given 2 0 1"}.items():
+            self.assertIn(f"methods {outcome}", answers.numbered(book, 2, 1, places))
+        self.assertIn("methods given 1 0", answers.numbered(book, 2, 65535, 1))
+        self.assertIn("methods given 0", answers.numbered(book, 0, 65535, 0))
+        self.assertIn("methods refused 17 -", answers.numbered(mkbook.book(fine), 1, 2, 0))
+
+    def test_large(self):
+        """As many methods and definitions as there can be: all methods of one function, which leads to every definition; each method with a
+        definition of its own, of a chain of 512."""
+        book = answers.Book(mkbook.book(
+            "type f = func (repeat 2559 { a000, }) -> (); repeat 510 { type a### = a###+1; } type a510 = f;"
+            'service : { "" : f; f : f; repeat 511 { a### : f; m### : f; } }'))
+        self.assertEqual(book.counts, [1024, 4096, 512, 1])
+        self.assertEqual(answers.methods(book, [book.names.index(b"a510")]), [*range(1024)])
+        self.assertEqual([book.names[name] for name, _ in answers.all_methods(book)], [name for name in book.names if name[:1] in (b"a", b"f")])
+        book = answers.Book(mkbook.book(
+            'repeat 511 { type a### = opt a###+1; } type a511 = nat; service : { repeat 511 { m### : (a###) -> (); } "" : () -> (a511) }'))
+        self.assertEqual(book.counts, [1024, 2048, 512, 1])
+        found = dict(answers.all_methods(book))
+        self.assertEqual({book.names[name]: positions for name, positions in found.items()},
+                         {f"a{name:03}".encode(): [*range(name + 1)] for name in range(512)})
+        self.assertEqual(answers.methods(book, [*found]), [*range(512)])
+
+    def test_unions(self):
+        """Of stored and of random books: the answer to one name is the methods of its uses but for a class's arguments, and the answer to a list is
+        the union of the single ones."""
+        random, tried = Random(10), collections.Counter()
+        stored = [book for book in [*LIST_BOOKS.values(), *CHECK_BOOKS.values()] if len(book) < 3000]
+        for book in checked([*stored, *random_interfaces(700), *sparse_interfaces(700)]):
+            if answers.check(book)[1] is None:
+                for names in ([], [0], [65535]):
+                    self.assertEqual(asked(answers.methods, book, names), (17, None))
+                continue
+            numbers = [*range(len(book.names)), len(book.names), 1024, 65535]
+            single = {name: sorted({method for method, _, _ in answers.uses(book, name)} - {65535}) for name in numbers}
+            self.assertEqual([(name, single[name]) for name in numbers if single[name]], answers.all_methods(book))
+            for name, positions in single.items():
+                self.assertEqual(answers.methods(book, [name]), positions)
+                tried["one", min(len(positions), 2), len(answers.uses(book, name)) > len(positions)] += 1
+            for some in (numbers, [name for name in numbers if single[name]] or numbers):
+                names = random.choices(some, k=random.choice((0, 1, 2, 2, 3, 5, 20)))
+                union = sorted(set().union(*(single[name] for name in names)))
+                self.assertEqual(answers.methods(book, names), union)
+                tried["list", "none" if not union else "of one" if union in (single[name] for name in names) else "of more"] += 1
+            self.assertEqual(answers.methods(book, numbers), sorted(set().union(*single.values())))
+        self.assertGreater(min(tried.values()), 100, tried)
+        self.assertEqual(len(tried), 9, tried)
+
+
 class Limits(unittest.TestCase):
     """24, by request 14 of document 02: directly after 1 and before all else, in drafts too; layout and name take no limits."""
 
@@ -1129,9 +1312,9 @@ class Limits(unittest.TestCase):
         self.assertEqual(answers.outcomes(book, (6, 10, 3)) | {"name": None}, {
             "layout": "whole 7 10 3 1", "name": None,
             **{question: OVER for question in (
-                "check init-check list marks marks-back marks-outside marks-highest init draft empty values use-counts chains lookups "
+                "check init-check list marks marks-back marks-outside marks-highest init draft empty values use-counts methods chains lookups "
                 "uses-outside alias-outside alias-highest values-outside values-highest project-outside project-highest project-none project-all "
-                "project-every").split()},
+                "project-every methods-outside methods-highest methods-none methods-all methods-even methods-odd").split()},
             **{f'{word} "{name}"': OVER for word in ("uses", "alias", "project", "twice")
                for name in ("", *"fork leaf pair put spare tree".split())}})
 
@@ -1589,11 +1772,18 @@ class ListSources(unittest.TestCase):
             '// use-counts: total 0\n': {"use-counts": "given 0 total 0"},
             '// use-counts: repeat 2 { 1# } total 21\n': {"use-counts": "given 2 10 11 total 21"},
             '// use-counts: refused 17 -\n': {"use-counts": "refused 17 -"},
+            '// methods: "a" 0 2 "\\"" 1\n// methods-all: 0 1 2\n// methods-all-short: needs 3\n':
+                {"methods": 'given 2 "a" 0 2 "\\22" 1', "methods-all": "given 3 0 1 2", "methods-all-short": "needs 3 refused 16 -"},
+            '// methods: repeat 2 { "a#" # 1# }\n// methods-odd: repeat 2 { # }\n':
+                {"methods": 'given 2 "a0" 0 10 "a1" 1 11', "methods-odd": "given 2 0 1"},
+            '// methods: none\n// methods-none: none\n// methods-even: refused 17 -\n':
+                {"methods": "given 0", "methods-none": "given 0", "methods-even": "refused 17 -"},
         }.items():
             self.assertEqual(mkbatch.stated(head + lines), found, lines)
         for text in (head, head + "// uses-short: needs 3\n", head + "// check-short: needs 3\n",
                      head + "type a = nat;\n", head + "// list:\n", head + "// lists: none\n", "// list: none\n",
-                     head + "// list: none\n// list: none\n", head + "// uses: none\n", head + "// a remark\n// list: none\n"):
+                     head + "// list: none\n// list: none\n", head + "// uses: none\n", head + "// a remark\n// list: none\n",
+                     head + "// methods-short: needs 3\n", head + '// methods "a": 0\n'):
             with self.assertRaises(mkbook.SourceError, msg=text):
                 mkbatch.stated(text)
         with self.assertRaises(mkbook.SourceError):
@@ -1604,17 +1794,19 @@ class ListSources(unittest.TestCase):
             "layout whole 2 2 0 1\n", 'name given 4 "" "m" "" ""\n',
             "check passed\n", "init-check passed\n", "list given 0\n", "marks given 0\n", "marks-back given 0\n",
             "marks-outside refused 3 1024\n", "marks-highest refused 3 65535\n", "init given 0\n", "draft given 0\n", "empty given 0\n",
-            "values given 0\n", "use-counts given 0 total 0\n", "chains given 0\n", "lookups given 0 actor.0\n",
+            "values given 0\n", "use-counts given 0 total 0\n", "methods given 0\n", "chains given 0\n", "lookups given 0 actor.0\n",
             'uses "" given 0\n', 'alias "" refused 3 ""\n', 'project "" refused 15 ""\n', 'twice "" refused 15 ""\n',
             'uses "m" given 0\n', 'alias "m" refused 3 "m"\n', 'project "m" given 1 0\n', 'twice "m" refused 15 "m"\n',
             "uses-outside given 0\n", "alias-outside refused 3 1024\n", "alias-highest refused 3 65535\n",
             "values-outside refused 3 1024\n", "values-highest refused 3 65535\n",
             "project-outside refused 15 1024\n", "project-highest refused 15 65535\n", "project-none given 0\n", "project-all given 1 0\n",
-            "project-all-short needs 1 refused 16 -\n", 'project-every refused 15 ""\n')))
+            "project-all-short needs 1 refused 16 -\n", 'project-every refused 15 ""\n',
+            *(f"methods-{asked} given 0\n" for asked in ("outside", "highest", "none", "all", "even", "odd")))))
         self.assertEqual(replay.lines("a", answers.outcomes(b"")), [
             "a layout refused 1 -\n", 'a name given 2 "" ""\n',
             *(f"a {word} refused 1 -\n" for word in (
-                "check init-check list marks marks-back marks-outside marks-highest init draft empty values use-counts chains lookups").split())])
+                "check init-check list marks marks-back marks-outside marks-highest init draft empty values use-counts methods chains "
+                "lookups").split())])
 
     def test_tally(self):
         """By hand: P10's lines, those of a broken book, and P10's when a limit is passed, and a service of P10's method
@@ -1622,19 +1814,20 @@ class ListSources(unittest.TestCase):
         lines = list(replay.printed([("a", answers.outcomes(LIST_BOOKS["p10"])), ("b", answers.outcomes(b"")),
                                      ("c", answers.outcomes(LIST_BOOKS["p10"], (2, 1, 0))),
                                      ("d", answers.outcomes(CHECK_BOOKS["order-hash-alone"]))]))
-        refused = {1: 15, 3: 8, 15: 6, 16: 1, 18: 32, 24: 32}
+        refused = {1: 16, 3: 8, 15: 6, 16: 1, 18: 39, 24: 39}
         given = {"layout": 3, "name": 4, "check": 1, "init-check": 1, "project": 2}
-        words = "layout name check init-check list marks init draft empty values use-counts chains lookups uses alias project".split()
-        self.assertEqual(lines[-36:], [
+        words = "layout name check init-check list marks init draft empty values use-counts methods chains lookups uses alias project".split()
+        self.assertEqual(lines[-37:], [
             *(f"tally refused {number} {refused.get(number, 0)}\n" for number in (*range(1, 19), 24)),
             *(f"tally given {word} {given.get(word, 0)}\n" for word in words),
             "tally incomplete\n"])
-        self.assertFalse(lines[-37].startswith("tally "))
+        self.assertFalse(lines[-38].startswith("tally "))
         tally = answers.Tally()
         for question, word in (("marks", "marks"), ("marks-back", "marks"), ("uses-outside", "uses"), ('uses "a"', "uses"),
                                ('twice "-"', "project"), ("project-all", "project"), ("init", "init"), ("name", "name"),
                                ('alias "a"', "alias"), ("alias-highest", "alias"), ("chains", "chains"), ("lookups", "lookups"),
-                               ("values", "values"), ("values-outside", "values"), ("values-highest", "values"), ("use-counts", "use-counts")):
+                               ("values", "values"), ("values-outside", "values"), ("values-highest", "values"), ("use-counts", "use-counts"),
+                               ("methods", "methods"), ("methods-all", "methods"), ("methods-odd", "methods")):
             before = tally.given[word]
             tally.add(question, "given 1 x")
             tally.add(question, "given 0")
@@ -1669,7 +1862,7 @@ class Replay(unittest.TestCase):
     def test_tally(self):
         """Every refusal and every answer with entries is in the list."""
         tally = [line for line in self.lines.splitlines() if line.startswith("tally ")]
-        self.assertEqual(len(tally), 19 + 16 + 1)
+        self.assertEqual(len(tally), 19 + 17 + 1)
         self.assertEqual(tally[-1], "tally complete")
         for line in tally[:-1]:
             self.assertGreater(int(line.split()[-1]), 0, line)
@@ -1695,7 +1888,9 @@ class Replay(unittest.TestCase):
             "uses": {16, 17, *check, *given} - {1}, "project": {15, 17, "given", *check} - {1}, "twice": {15, 17, *check} - {1},
             "uses-outside": {17, "none", *check} - {1}, "project-outside": {15, 17, *check} - {1}, "project-highest": {15, 17, *check} - {1},
             "project-none": {17, "none", *check} - {1},
-            "project-all": {17, *check, *given} - {1}, "project-every": {15, 17, "given", *check} - {1},
+            "project-all": {17, *check, *given} - {1}, "project-every": {15, 17, "given", *check} - {1}, "methods": {17, *check, *given},
+            **{f"methods-{asked}": {17, "none", *check} - {1} for asked in ("outside", "highest", "none")},
+            **{f"methods-{asked}": {17, *check, *given} - {1} for asked in ("all", "even", "odd")},
             **{question: {"needs"} for question in SHORT}})
 
     def test_shapes(self):
@@ -1738,7 +1933,7 @@ class Replay(unittest.TestCase):
             if not name.startswith("limits/"):
                 self.assertEqual(limits, FULL, name)
         self.assertLess(len(self.records), 5_550_000)  # a book of 4,096 nodes has 49,000
-        self.assertLess(len(self.lines), 7_500_000)
+        self.assertLess(len(self.lines), 8_300_000)
 
     def test_layouts_and_checks(self):
         """Every book of tests/layout and of tests/check is there, with what its source says of the layout or of the two checks, and with
@@ -1810,8 +2005,8 @@ class Replay(unittest.TestCase):
             return found, {which: sum(words.values()) for which, words in told.items()}
 
         self.assertEqual(joined(rust), (right, {
-            "the Rust's": 44, "the oracle's own, the names crossed": 5, "the oracle's own, how many values": 1, "the oracle's own, 16": 7,
-            "the oracle's own, 3 for a number outside": 2, "the oracle's own, its reader of books": 2, "the oracle's own, layout broken": 16}))
+            "the Rust's": 51, "the oracle's own, the names crossed": 5, "the oracle's own, how many values": 1, "the oracle's own, 16": 8,
+            "the oracle's own, 3 for a number outside": 2, "the oracle's own, its reader of books": 2, "the oracle's own, layout broken": 17}))
         silent = [line if not line.startswith("a list ") else "a list unanswered ring\n" for line in rust if " list-short" not in line]
         self.assertEqual(joined(silent)[0], right)
         self.assertEqual(joined(silent)[1]["unanswered ring"], 2)
@@ -1842,7 +2037,7 @@ class Replay(unittest.TestCase):
         self.assertIn('a draft refused 18 "x"\n', right)
         self.assertIn("b draft refused 18 -\n", right)
         self.assertEqual({which: sum(words.values()) for which, words in told.items()}, {
-            "the oracle's own, its reader of books": 4, "the oracle's own, 18": 36 + 32})
+            "the oracle's own, its reader of books": 4, "the oracle's own, 18": 43 + 39})
 
     def test_joined_limits(self):
         """Each book of a batch is asked under its own limits, and 24 is no line of the Rust's."""
@@ -1850,13 +2045,13 @@ class Replay(unittest.TestCase):
         right = list(replay.printed(replay.answered(data)))
         self.assertIn("7-10-3 list given 2 \"pair\" \"tree\"\n", right)
         self.assertIn("6-10-3 list refused 24 -\n", right)
-        self.assertIn("tally refused 24 52\n", right)
+        self.assertIn("tally refused 24 59\n", right)
         told = collections.defaultdict(collections.Counter)
         found = list(replay.printed(replay.joined(data, "".join(line for line in right if not line.startswith("tally ")), told)))
         self.assertEqual(found, right)
         self.assertEqual({which: sum(words.values()) for which, words in told.items()}, {
-            "the Rust's": 88, "the oracle's own, the names crossed": 10, "the oracle's own, how many values": 2, "the oracle's own, 16": 14,
-            "the oracle's own, 3 for a number outside": 4, "the oracle's own, its reader of books": 6, "the oracle's own, 24": 52})
+            "the Rust's": 102, "the oracle's own, the names crossed": 10, "the oracle's own, how many values": 2, "the oracle's own, 16": 16,
+            "the oracle's own, 3 for a number outside": 4, "the oracle's own, its reader of books": 6, "the oracle's own, 24": 59})
 
 
 class Batch(unittest.TestCase):

@@ -33,6 +33,9 @@ const FIRST_AND_LAST: usize = 8;
 const OUTSIDE: usize = 1024;
 const HIGHEST: usize = 65535;
 
+/// Stands for the method in a use by an argument of the actor's class.
+const OF_CLASS: usize = 65535;
+
 /// Of every question about a book that is over its limits.
 pub const OVER_LIMIT: &str = "refused 24 -";
 
@@ -409,14 +412,25 @@ fn use_of(text: &str, methods: &[(String, Type)]) -> (String, String) {
         None => (1, place.strip_prefix("ret").expect("a result")),
     };
     if method == "init" {
-        return (format!("65535.{kind}.{index}"), text.into());
+        return (format!("{OF_CLASS}.{kind}.{index}"), text.into());
     }
     let own = &methods[method.parse::<usize>().expect("a position")].0;
     (format!("{method}.{kind}.{index}"), format!("{own}.{place}"))
 }
 
+/// The uses of each name that has any, METHOD.KIND.INDEX.
+type Rows = BTreeMap<String, Vec<String>>;
+
+/// The methods that the entries in the rows of these names are of, each once, ascending. An argument of the actor's class is no method's.
+fn methods_of(rows: &Rows, names: &[&str]) -> Vec<String> {
+    let entries = names.iter().filter_map(|name| rows.get(*name)).flatten();
+    let methods = entries.map(|entry| entry.split('.').next().and_then(|method| method.parse().ok()).expect("a position"));
+    let found: BTreeSet<usize> = methods.filter(|method| *method != OF_CLASS).collect();
+    found.into_iter().map(|method| method.to_string()).collect()
+}
+
 impl Texts<'_> {
-    fn uses(&self, checked: &Checked) -> Found<BTreeMap<String, Vec<String>>> {
+    fn uses(&self, checked: &Checked) -> Found<Rows> {
         let actor = checked.actor()?;
         let rust = chase_def_use(&checked.env, actor).map_err(|e| self.row(e))?;
         let env = TypeEnv(checked.env.0.iter().map(|(name, t)| (name.clone(), numbered(t))).collect());
@@ -438,7 +452,7 @@ impl Texts<'_> {
 
     /// How many uses each listed name has, the length of its row, and their sum. That has to be what `chase_type` comes to from the other side: how
     /// many names each class argument and each argument and result of a method leads to.
-    fn use_counts(&self, checked: &Checked, rows: &BTreeMap<String, Vec<String>>) -> Found<(Vec<String>, String)> {
+    fn use_counts(&self, checked: &Checked, rows: &Rows) -> Found<(Vec<String>, String)> {
         let (env, actor) = (&checked.env, checked.actor()?);
         let listed = chase_actor(env, actor).map_err(|e| self.row(e))?;
         let counts: Vec<usize> = listed.iter().map(|name| rows.get(*name).map_or(0, |row| row.len())).collect();
@@ -449,6 +463,18 @@ impl Texts<'_> {
             after += &format!(" but {other} from the other side");
         }
         Ok((counts.iter().map(|count| count.to_string()).collect(), after))
+    }
+
+    /// The methods that change with each name: those that the entries of its row are of.
+    fn methods(&self, rows: &Rows) -> String {
+        let mut entries = vec![];
+        for (number, name) in self.names.iter().enumerate() {
+            let positions = methods_of(rows, &[name]);
+            if !positions.is_empty() {
+                entries.push(format!(" {} {}", named(self.book, number), positions.join(" ")));
+            }
+        }
+        format!("given {}{}", entries.len(), entries.concat())
     }
 
     /// A listed name that is unbound is 3 by document 01, before `infer_rec` is asked: it panics there.
@@ -667,7 +693,7 @@ fn own_call(word: &str, checked: Checked) -> Option<()> {
             infer_rec(&env, &list.unwrap_or_default()).ok().map(drop)
         }
         "empty" => env.replace_empty().ok(),
-        "use-counts" | "uses" => chase_def_use(&env, actor.as_ref()?).ok().map(drop),
+        "use-counts" | "methods" | "uses" => chase_def_use(&env, actor.as_ref()?).ok().map(drop),
         "alias" => env.0.keys().try_for_each(|name| env.rec_find_type(name).map(drop)).ok(),
         "project" => {
             let names = env.as_service(actor.as_ref()?).ok()?.iter().map(|method| method.0.clone()).collect();
@@ -696,7 +722,7 @@ const DRAFT: &str = "draft";
 
 /// The questions that the Rust is asked, in the order of their lines, and whether each is asked again, with one place fewer than the entries
 /// that were given.
-const QUESTIONS: [(&str, Of, bool); 28] = [
+const QUESTIONS: [(&str, Of, bool); 35] = [
     ("check", Of::Book, false),
     ("init-check", Of::Book, false),
     ("list", Of::Book, true),
@@ -709,6 +735,7 @@ const QUESTIONS: [(&str, Of, bool); 28] = [
     ("empty", Of::Book, true),
     ("values", Of::Book, false),
     ("use-counts", Of::Book, true),
+    ("methods", Of::Book, false),
     ("chains", Of::Book, false),
     ("lookups", Of::Book, false),
     ("uses", Of::Name, true),
@@ -725,6 +752,12 @@ const QUESTIONS: [(&str, Of, bool); 28] = [
     ("project-none", Of::Whole, false),
     ("project-all", Of::Whole, true),
     ("project-every", Of::Whole, false),
+    ("methods-outside", Of::Whole, false),
+    ("methods-highest", Of::Whole, false),
+    ("methods-none", Of::Whole, false),
+    ("methods-all", Of::Whole, true),
+    ("methods-even", Of::Whole, false),
+    ("methods-odd", Of::Whole, false),
 ];
 
 fn words(of: Of) -> impl Iterator<Item = String> {
@@ -868,6 +901,8 @@ fn lines_of(texts: &Texts) -> Vec<Line> {
     let uses = guarded(STEPS, || texts.uses(known.clone()?));
     let use_counts = guarded(STEPS, || texts.use_counts(known.clone()?, uses.as_ref().map_err(|fail| fail.clone())?));
     saying.say_with("use-counts", None, use_counts);
+    let rows = uses.as_ref().map_err(|fail| fail.clone());
+    saying.tell("methods", None, rows.clone().map(|rows| texts.methods(rows)));
     saying.tell("chains", None, guarded(STEPS, || texts.chains()));
     saying.tell("lookups", None, guarded(STEPS, || texts.lookups(known.clone()?)));
 
@@ -906,6 +941,15 @@ fn lines_of(texts: &Texts) -> Vec<Line> {
     saying.say("project-none", None, project(vec![]));
     saying.say("project-all", None, projected.and_then(|names| project(names.into_iter().rev().collect())));
     saying.say("project-every", None, project(texts.names.iter().rev().cloned().collect()));
+    let methods = |asked: &[&str]| rows.clone().map(|rows| methods_of(rows, asked));
+    let every: Vec<&str> = texts.names.iter().rev().map(|name| name.as_str()).collect();
+    let numbered = |odd: usize| texts.names.iter().enumerate().rev().filter(move |name| name.0 % 2 == odd).map(|name| name.1.as_str());
+    saying.say("methods-outside", None, methods(&[&outside]));
+    saying.say("methods-highest", None, methods(&[&highest]));
+    saying.say("methods-none", None, methods(&[]));
+    saying.say("methods-all", None, methods(&every));
+    saying.say("methods-even", None, methods(&numbered(0).flat_map(|name| [name, name]).collect::<Vec<_>>()));
+    saying.say("methods-odd", None, methods(&numbered(1).collect::<Vec<_>>()));
     saying.lines
 }
 

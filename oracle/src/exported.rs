@@ -2,13 +2,15 @@
 //!
 //! Each question is asked with a lent list that is long enough, just long enough, one entry too short and empty. Every time the numbers
 //! beyond the result, or all after a refusal, have to be as they were, and those before and after the lent list too. Alias chains and values are
-//! asked without one. All this is asked under the limits of the book's record; each function is then asked under up to five limits and the largest,
-//! which have to agree. The lines `chains` and `lookups` are of functions that are not exported: they have nothing here.
+//! asked without one. Lists of names at random are asked for the methods that change with them, which have to be those of the single names. All this
+//! is asked under the limits of the book's record; each function is then asked under up to five limits and the largest, which have to agree. The
+//! lines `chains` and `lookups` are of functions that are not exported: they have nothing here.
 
 use crate::answer::asked_names;
 use crate::book::{quoted, Book, Limits};
+use crate::generate::Random;
 use crate::ours::{self, Answer, Question, NAMES, NO_NAME, OVER_LIMIT, SHORT};
-use std::collections::HashMap;
+use std::collections::{BTreeSet, HashMap};
 
 /// Stands in the lent list beforehand and around it; no entry has this number.
 const BEFORE: u16 = 40_000;
@@ -19,6 +21,9 @@ const LARGEST: Limits = [u32::MAX; 3];
 /// A question about a name is asked with every length of list for the names below this number and for the last one; for the others, of
 /// which only large books have any, with a list that is long enough alone.
 const EVERY_LENGTH: usize = 16;
+
+/// Names in the longest list that is asked for the methods that change with it: more than 16 bits count.
+const LONGEST: usize = 70_000;
 
 pub struct Said<'a> {
     bytes: &'a [u8],
@@ -61,7 +66,7 @@ impl Said<'_> {
                     total += u64::from(uses);
                 }
                 (_, [method, kind, index]) => text += &format!("{method}.{kind}.{index}"),
-                (Question::Project(_), _) => text += &entry[0].to_string(),
+                (Question::Project(_) | Question::Methods(_), _) => text += &entry[0].to_string(),
                 _ => text += &self.name(entry[0] as usize),
             }
         }
@@ -237,6 +242,70 @@ impl Said<'_> {
         [names, NO_NAME].into_iter().filter(|number| *number != NAMES).map(|number| number as u16).collect()
     }
 
+    /// Asks for the methods that change with a list of names, in lent lists of every length or in one that is long enough; gives the positions or the
+    /// refusal, and what is wrong.
+    fn changing(&mut self, asked: &[u16], every_length: bool) -> (Result<Vec<u16>, String>, &'static str) {
+        let question = Question::Methods(asked);
+        let (answer, entries, is_kept) = self.ask(question, question.places());
+        let entries = entries.to_vec();
+        let mut wrong = if is_kept { "" } else { " and more is written" };
+        if every_length {
+            let (more, short) = self.other_lengths(question, answer, &entries);
+            let right = (!entries.is_empty()).then(|| format!("needs {} refused {SHORT} -", entries.len()));
+            wrong = if !more.is_empty() { more } else if short != right { " but not 16 in a list one too short" } else { wrong };
+        }
+        match answer {
+            Answer::Given(_) => (Ok(entries), wrong),
+            Answer::Refused(number, low) => (Err(self.refused(number, low)), wrong),
+        }
+    }
+
+    /// The methods that change with each name alone; a name with which none does is left out. What is refused has to be so whatever is asked. Lists
+    /// of names at random, with repeats and numbers outside the table, have to be answered with the union of these.
+    fn methods(&mut self, names: usize) {
+        let (nothing, mut wrong) = self.changing(&[], true);
+        let (mut single, mut said) = (vec![vec![]; names], Vec::new());
+        for number in (0..names).filter(|number| nothing.is_ok() || [0, names / 2, names - 1].contains(number)) {
+            let every_length = number < EVERY_LENGTH || number + 1 == names;
+            let (found, more) = self.changing(&[number as u16], every_length);
+            wrong = if more.is_empty() { wrong } else { more };
+            match found {
+                Ok(found) if !found.is_empty() => {
+                    let positions: String = found.iter().map(|position| format!(" {position}")).collect();
+                    said.push(format!(" {}{positions}", self.name(number)));
+                    single[number] = found;
+                }
+                found if found != nothing => wrong = " but otherwise for a name",
+                _ => (),
+            }
+        }
+        for asked in self.lists(names) {
+            let union: BTreeSet<u16> = asked.iter().filter_map(|number| single.get(*number as usize)).flatten().copied().collect();
+            let right = nothing.clone().map(|_| union.into_iter().collect());
+            let (found, more) = self.changing(&asked, true);
+            wrong = if found != right { " but otherwise for a list" } else if more.is_empty() { wrong } else { more };
+        }
+        let line = match nothing {
+            Ok(found) if found.is_empty() => format!("given {}{}{wrong}", said.len(), said.concat()),
+            Ok(_) => "given for nothing".into(),
+            Err(refused) => refused + wrong,
+        };
+        self.lines.insert("methods".into(), line);
+    }
+
+    /// Lists of numbers: a few names; as many as there are names, so that some come more than once; these and any numbers; and a long one, of which
+    /// the last count.
+    fn lists(&self, names: usize) -> [Vec<u16>; 4] {
+        let seed = self.bytes.iter().fold(0, |seed: u64, byte| seed.wrapping_mul(31).wrapping_add(u64::from(*byte)));
+        let mut random = Random::of(seed, 10);
+        let few = 1 + random.below(4);
+        let mut list = |count: usize, outside: usize| -> Vec<u16> {
+            let mut number = || if random.percent(outside) { random.below(1 << 16) } else { random.below(names + 1) };
+            (0..count).map(|_| number() as u16).collect()
+        };
+        [list(few, 0), list(names, 0), list(2 * names, 30), [vec![NAMES as u16; LONGEST], list(few, 10)].concat()]
+    }
+
     /// Over a list, over it backwards and with a number outside the table after it.
     fn marks(&mut self, list: &[u16]) {
         self.say("marks", "", Question::Marks(list), true);
@@ -266,7 +335,9 @@ impl Said<'_> {
                 list = entries;
             }
         }
-        self.values(self.book.map_or(0, |book| book.names.len()));
+        let names = self.book.map_or(0, |book| book.names.len());
+        self.values(names);
+        self.methods(names);
         self.marks(&list);
         list
     }
@@ -325,11 +396,23 @@ impl Said<'_> {
         self.say("project-all", "", Question::Project(&offered), true);
         let every: Vec<u16> = (0..names as u16).rev().collect();
         self.say("project-every", "", Question::Project(&every), true);
+        self.say("methods-highest", "", Question::Methods(&[NO_NAME as u16]), true);
+        let (answer, _) = self.say("methods-outside", "", Question::Methods(&[NAMES as u16]), true);
+        for number in self.outside() {
+            self.hold("methods-outside", Question::Methods(&[number]), answer);
+        }
+        self.say("methods-none", "", Question::Methods(&[]), true);
+        self.say("methods-all", "", Question::Methods(&every), true);
+        let (even, odd): (Vec<u16>, Vec<u16>) = every.iter().partition(|number| *number % 2 == 0);
+        let twice: Vec<u16> = even.into_iter().flat_map(|number| [number, number]).collect();
+        self.say("methods-even", "", Question::Methods(&twice), true);
+        self.say("methods-odd", "", Question::Methods(&odd), true);
     }
 
     /// The questions about names have no lines in a broken book, so the line of the list is made wrong.
     fn of_broken(&mut self) {
-        for question in [Question::Uses(0), Question::Uses(NAMES as u16), Question::Project(&[0]), Question::Project(&[])] {
+        let of_lists = [Question::Project(&[0]), Question::Project(&[]), Question::Methods(&[0]), Question::Methods(&[])];
+        for question in [Question::Uses(0), Question::Uses(NAMES as u16)].into_iter().chain(of_lists) {
             self.hold("list", question, Answer::Refused(1, NO_NAME));
         }
         for number in [0, NAMES, NO_NAME] {
@@ -377,7 +460,8 @@ impl Said<'_> {
         let (_, list) = ours::OF_BOOK[0];
         let list = self.ask_under(LARGEST, list, list.places() * list.numbers()).1.to_vec();
         let names: Vec<u16> = (0..self.book.map_or(0, |book| book.names.len()) as u16).collect();
-        let of_names = [Question::Uses(0), Question::Project(&[]), Question::Project(&names)].map(|question| ("list", question));
+        let of_lists = [Question::Project(&[]), Question::Project(&names), Question::Methods(&[]), Question::Methods(&names)];
+        let of_names = [Question::Uses(0)].into_iter().chain(of_lists).map(|question| ("list", question));
         for (word, question) in ours::OF_BOOK.into_iter().chain([("marks", Question::Marks(&list))]).chain(of_names) {
             let numbers = question.places() * question.numbers();
             let (largest, entries, _) = self.ask_under(LARGEST, question, numbers);

@@ -1,20 +1,21 @@
 //! Random books from a seed. Book i of a seed is the same whatever the count.
 //!
 //! Three in four books are planned: definitions, services and actors that pass, and in some of them faults on purpose. The
-//! others are wild (whatever the layout allows) or of a special shape: long chains, deep trees, ladders, many uses, wide
-//! records. One planned book in six has little but records, variants, names and `empty` in its types, so that many names are empty, and one in six
-//! small primitives and few circles, so that many have a number of values. Labels may repeat in one book of eight and in wide ones, so that the Rust
-//! is asked of the others. Some are damaged afterwards. Half of them are asked under full limits.
+//! others are wild (whatever the layout allows), sparse (methods lead to few definitions each) or of a special shape: long
+//! chains, deep trees, ladders, many uses, wide records. One planned book in six has little but records, variants, names and
+//! `empty` in its types, so that many names are empty, and one in six small primitives and few circles, so that many have a
+//! number of values. Labels may repeat in one book of eight and in wide ones, so that the Rust is asked of the others. Some
+//! are damaged afterwards. Half of them are asked under full limits.
 
 use crate::book::{self, number_of, Book, Definition, File, Limits, Node, Record, FULL};
 use candid::idl_hash;
 use std::collections::{BTreeMap, BTreeSet, HashMap, HashSet};
 use std::io::Write;
 
-struct Random(u64);
+pub struct Random(u64);
 
 impl Random {
-    fn of(seed: u64, index: u64) -> Self {
+    pub fn of(seed: u64, index: u64) -> Self {
         let mut random = Random(seed ^ 0x5851_f42d_4c95_7f2d);
         random.0 = random.next() ^ index.wrapping_mul(0x2545_f491_4f6c_dd1d);
         random.next();
@@ -29,7 +30,7 @@ impl Random {
         x ^ (x >> 31)
     }
 
-    fn below(&mut self, limit: usize) -> usize {
+    pub fn below(&mut self, limit: usize) -> usize {
         (self.next() % limit as u64) as usize
     }
 
@@ -38,7 +39,7 @@ impl Random {
     }
 
     /// True in so many of a hundred cases.
-    fn percent(&mut self, percent: usize) -> bool {
+    pub fn percent(&mut self, percent: usize) -> bool {
         self.below(100) < percent
     }
 
@@ -1023,6 +1024,46 @@ impl Gen<'_> {
         Draft { rows, files: vec![(b"main".to_vec(), book::MAIN, actor)], extra: vec![] }
     }
 
+    /// The name of one of so many definitions, or in the other cases a primitive.
+    fn few(&mut self, count: usize, percent: usize) -> Tree {
+        if self.random.percent(percent) { name(format!("t{:02}", self.random.below(count)).as_bytes()) } else { leaf(2) }
+    }
+
+    fn function_of_few(&mut self, count: usize) -> Tree {
+        func(vec![self.few(count, 50)], if self.random.percent(50) { vec![self.few(count, 40)] } else { vec![] }, vec![])
+    }
+
+    /// Definitions that refer to few others and methods that lead to few of them each, so that lists of names have methods that none of them has
+    /// alone. Every fourth definition is a function; some are that of methods.
+    fn sparse(&mut self) -> Draft {
+        let count = self.random.between(4, 14);
+        let numbered = |kids: Vec<Tree>| kids.into_iter().enumerate().map(|(i, kid)| kid.labelled(Label::Number(i as u32))).collect();
+        let mut rows = Vec::new();
+        for i in 0..count {
+            let body = match self.random.below(5) {
+                _ if i % 4 == 3 => self.function_of_few(count),
+                0 | 1 => leaf(2),
+                2 => tree(book::OPT, vec![self.few(count, 100)]),
+                3 => tree(book::RECORD, numbered(vec![self.few(count, 60), self.few(count, 30)])),
+                _ => tree(book::SERVICE, vec![self.function_of_few(count).labelled(Label::Name(b"a".to_vec()))]),
+            };
+            rows.push(Row { name: format!("t{i:02}").into_bytes(), file: 0, tree: body });
+        }
+        let mut files = Vec::new();
+        for place in 0..*self.random.one(&[1, 1, 2, 3]) {
+            let mut kids = Vec::new();
+            for i in 0..self.random.between(0, 8) {
+                let method = if self.random.percent(20) { name(b"t03") } else { self.function_of_few(count) };
+                kids.push(method.labelled(Label::Name(format!("m{place}x{i}").into_bytes())));
+            }
+            let service = tree(book::SERVICE, kids);
+            let is_class = place == 0 && self.random.percent(30);
+            let actor = if is_class { tree(book::CLASS, vec![self.few(count, 100), service]) } else { service };
+            files.push((b"file".to_vec(), if place == 0 { book::MAIN } else { book::SERVICE_IMPORT }, Some(actor)));
+        }
+        Draft { rows, files, extra: vec![] }
+    }
+
     fn special(&mut self) -> Draft {
         let main =
             |rows: Vec<Row>, actor: Tree| Draft { rows, files: vec![(b"main".to_vec(), book::MAIN, Some(actor))], extra: vec![] };
@@ -1229,7 +1270,8 @@ pub fn run(seed: u64, count: u64, all_damaged: bool) -> i32 {
         let mut draft = match gen.random.below(400) {
             0 => gen.special(),
             1..=8 => gen.wide(),
-            9..=104 => gen.wild(),
+            9..=28 => gen.sparse(),
+            29..=104 => gen.wild(),
             _ => gen.planned(),
         };
         if put {

@@ -84,17 +84,19 @@ const USES: &str = "uses";
 const ALIAS: &str = "alias";
 const NUMBERS: &str = "values";
 const PROJECT: &str = "project";
+const METHODS: &str = "methods";
 
 /// The words of all questions.
 fn words() -> impl Iterator<Item = &'static str> {
     let verdicts = ours::VERDICTS.iter().map(|question| question.0);
-    verdicts.chain(ours::OF_BOOK.iter().map(|question| question.0)).chain([NUMBERS, MARKS, USES, ALIAS, PROJECT])
+    verdicts.chain(ours::OF_BOOK.iter().map(|question| question.0)).chain([NUMBERS, MARKS, USES, ALIAS, PROJECT, METHODS])
 }
 
-/// The names that values, uses, alias chains and projection are asked of: so many, the last one, and a number outside the table.
+/// The names that values, uses, alias chains, projection and methods are asked of: so many, the last one, and a number outside the table.
 const ASKED: usize = 32;
 
-/// Asks ours, so that nothing but an exported function runs on the stack. Marks are asked over the list, projection also of all methods.
+/// Asks ours, so that nothing but an exported function runs on the stack. Marks are asked over the list, projection also of all methods, and the
+/// methods that change also with all names.
 fn ask_ours(stack: &Stack, word: &str, bytes: &[u8], names: usize, out: &mut [u16]) {
     let mut ask = |question: Question| {
         stack.call(&mut || {
@@ -127,6 +129,10 @@ fn ask_ours(stack: &Stack, word: &str, bytes: &[u8], names: usize, out: &mut [u1
         PROJECT => {
             ask(Question::Project(&offered(bytes)));
             each.for_each(|name| ask(Question::Project(&[name])));
+        }
+        METHODS => {
+            ask(Question::Methods(&(0..names as u16).collect::<Vec<_>>()));
+            each.for_each(|name| ask(Question::Methods(&[name])));
         }
         _ => {
             ours::VERDICTS.iter().filter(|question| question.0 == word).for_each(|question| verdict(question.1));

@@ -19,6 +19,10 @@ extern "C" {
     ) -> u32;
     fn ludzepin_uses(book: *const u8, bytes: usize, names: u32, nodes: u32, definitions: u32, name: u16, out: *mut u16, numbers: usize) -> u64;
     fn ludzepin_use_counts(book: *const u8, bytes: usize, names: u32, nodes: u32, definitions: u32, out: *mut u32, places: usize) -> u64;
+    fn ludzepin_methods(
+        book: *const u8, bytes: usize, names: u32, nodes: u32, definitions: u32,
+        asked: *const u16, count: usize, out: *mut u16, places: usize,
+    ) -> u32;
     fn ludzepin_alias(book: *const u8, bytes: usize, names: u32, nodes: u32, definitions: u32, name: u16) -> u64;
     fn ludzepin_values(book: *const u8, bytes: usize, names: u32, nodes: u32, definitions: u32, name: u16) -> u64;
 }
@@ -115,6 +119,7 @@ pub enum Question<'a> {
     UseCounts,
     Uses(u16),
     Project(&'a [u16]),
+    Methods(&'a [u16]),
 }
 
 pub type Verdict = fn(&[u8], Limits) -> Answer;
@@ -152,6 +157,9 @@ impl Question<'_> {
                 Question::Project(asked) => {
                     of_half(ludzepin_project(at_book, bytes, names, nodes, definitions, at(asked), asked.len(), at_out, places))
                 }
+                Question::Methods(asked) => {
+                    of_half(ludzepin_methods(at_book, bytes, names, nodes, definitions, at(asked), asked.len(), at_out, places))
+                }
             }
         }
     }
@@ -168,7 +176,7 @@ impl Question<'_> {
     /// Entries that there is always room for; in uses those that answer_batch has room for.
     pub fn places(&self) -> usize {
         match self {
-            Question::Uses(_) | Question::Project(_) => METHODS,
+            Question::Uses(_) | Question::Project(_) | Question::Methods(_) => METHODS,
             _ => DEFINITIONS,
         }
     }

@@ -5,5 +5,6 @@ pub mod Marking
 pub mod Reaching
 pub mod Places
 pub mod Entries
+pub mod Methods
 pub mod Projecting
 pub mod Tallies

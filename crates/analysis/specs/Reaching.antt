@@ -1,5 +1,6 @@
--- Which names reach a name, and which rows tell one that does; and what the tables hold by which they are found. Definitions; assumes nothing.
+-- Which names reach one of some names, and which rows tell one that does; and what the tables hold by which they are found. Definitions; assumes nothing.
 use Rattle.std.specs.Prelude.{◌≡◌, ◌↔◌, ◌⊎◌, List, ℕ, suc, ◌+◌, ◌≤◌, ◌<◌, T, length, get_or, replicate}
+use mathlib.Core.List.{Memᴰ}
 use Rattle.format.specs.Book.{Definition}
 use Rattle.format.specs.Layout.{row_at, entry_at}
 use Rattle.environment.specs.Tables.{Nodes, Entries, definitions_in}
@@ -8,10 +9,14 @@ use Rattle.listing.specs.References.{Reaches}
 
 -- ---- What is answered
 
--- A flag for each name: set where the wanted name is it or is reached from it.
-pub record ReachAs (ds : List Definition) (wanted : ℕ) (flags : List ℕ) : Type 0 where
+-- A wanted name is m, or is reached from it.
+abbrev pub ReachesAny : List Definition → List ℕ → ℕ → Type 0
+ReachesAny ds wanted m = (n : ℕ) × Memᴰ n wanted × ((m ≡ n) ⊎ Reaches ds m n)
+
+-- A flag for each name: set where a wanted name is it or is reached from it.
+pub record ReachAs (ds : List Definition) (wanted flags : List ℕ) : Type 0 where
   pub long : length flags ≡ 1024
-  pub exact : (m : ℕ) → m < 1024 → T (is_set flags m) ↔ ((m ≡ wanted) ⊎ Reaches ds m wanted)
+  pub exact : (m : ℕ) → m < 1024 → T (is_set flags m) ↔ ReachesAny ds wanted m
 
 -- Row i is the name v.
 pub record IsName (ns : List ℕ) (i v : ℕ) : Type 0 where
@@ -90,7 +95,7 @@ pub record LinksAs (ns : List ℕ) (nodes : ℕ) (head next : List ℕ) : Type 0
 pub record KeptElse (ns : List ℕ) (nodes : ℕ) (old new : List ℕ) : Type 0 where
   pub kept : (i : ℕ) → ((v : ℕ) → i < nodes → IsName ns i v → ⊥) → get_or new i 0 ≡ get_or old i 0
 
--- The tables by which names that reach one are found are those of a book, whichever it is.
+-- The tables by which names that reach others are found are those of a book, whichever it is.
 pub record Linked (owners head next : List ℕ) : Type 0 where
   pub rows : List ℕ
   pub entries : List ℕ
@@ -101,8 +106,8 @@ pub record Linked (owners head next : List ℕ) : Type 0 where
   pub owned : OwnersAs rows entries definitions owners
   pub links : LinksAs rows nodes head next
 
--- For each row the first one from it on that is a name which is the wanted one or reaches it; nothing for what is no row.
-pub record NearestAs (ns es : List ℕ) (nodes definitions wanted : ℕ) (near : List ℕ) : Type 0 where
+-- For each row the first one from it on that is a name which is a wanted one or reaches one; nothing for what is no row.
+pub record NearestAs (ns es : List ℕ) (nodes definitions : ℕ) (wanted near : List ℕ) : Type 0 where
   pub flags : List ℕ
   pub reach : ReachAs (definitions_in ns es 0 definitions) wanted flags
   pub first : NearAs ns flags nodes near

@@ -5,6 +5,7 @@
 pub mod chase;
 pub mod def_use;
 pub mod hand;
+pub mod methods;
 mod places;
 pub mod project;
 pub mod reaching;

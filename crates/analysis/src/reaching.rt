@@ -1,4 +1,4 @@
-// Which names reach a name by references, and which rows tell one that does. The rows that are a name are linked once, each to the one
+// Which names reach one of some names by references, and which rows tell one that does. The rows that are a name are linked once, each to the one
 // before it, so that the definitions that refer to a name are found without going through all rows again.
 // find_nearest takes an admitted book; the others take its parts, read once, and ask what it gives (specs/Reaching.antt). Tables of rows are
 // lent, since a copy of one costs more than all else does on a small book.
@@ -88,17 +88,26 @@ fn owners(entries: &[u8], rows: &[u8], definitions: usize, owner: &mut ByRow)
     }
 }
 
-// Sets the flag of each name that is the wanted one or from which it is reached by references. The names that are flagged wait until the
-// definitions that refer to them are flagged too.
-fn reaching(owner: &ByRow, head: &ByName, next: &Links, wanted: usize) -> Flags
-    requires { Linked owner.now head.now next.now × (wanted < 1024) }
+// Sets the flag of each name that is a wanted one or from which one is reached by references. The names that are flagged wait until the
+// definitions that refer to them are flagged too. A wanted number that is no name's flags nothing.
+fn reaching(owner: &ByRow, head: &ByName, next: &Links, wanted: &[u16]) -> Flags
+    requires { Linked owner.now head.now next.now }
     ensures { (x : Linked owner.now head.now next.now) →
-        ReachAs (definitions_in x.rows x.entries 0 x.definitions) wanted result }
+        ReachAs (definitions_in x.rows x.entries 0 x.definitions) wanted.now result }
 {
     let mut flagged = [0; Limits::NAMES];
     let mut waiting = ArrayVec::<u16, { Limits::NAMES }>::new();
-    flagged[wanted] = 1;
-    waiting.push(wanted as u16);
+    'wanted: for w in wanted {
+        let i = *w as usize;
+        if Limits::NAMES <= i {
+            continue;
+        }
+        if flagged[i] == 1 {
+            continue;
+        }
+        flagged[i] = 1;
+        waiting.push(*w);
+    }
     'names: while let Some(m) = waiting.pop() {
         let mut link = head[m as usize];
         'rows: while let Some(row) = link.checked_sub(1) {
@@ -116,10 +125,11 @@ fn reaching(owner: &ByRow, head: &ByName, next: &Links, wanted: usize) -> Flags
     flagged
 }
 
-// Finds for each row of a book the first row from it on that is a name which is the wanted one or reaches it by references of main's definitions.
-pub fn find_nearest(book: AdmittedBook<'_>, main: usize, wanted: usize, near: &mut Near)
-    requires { (main ≤ book.contents.definitions) × (wanted < 1024) × (near.old ≡ no_places) }
-    ensures { NearestAs (nodes_part book.entry.bytes.now) (definitions_part book.entry.bytes.now) book.entry.contents.nodes main wanted near.new }
+// Finds for each row of a book the first row from it on that is a name which is a wanted one or reaches one by references of main's definitions. As
+// many names may be wanted as there are numbers, and each as often: they are looked for at once.
+pub fn find_nearest(book: AdmittedBook<'_>, main: usize, wanted: &[u16], near: &mut Near)
+    requires { (main ≤ book.contents.definitions) × (near.old ≡ no_places) }
+    ensures { NearestAs (nodes_part book.entry.bytes.now) (definitions_part book.entry.bytes.now) book.entry.contents.nodes main wanted.now near.new }
 {
     let nodes = book.contents.nodes;
     find_nearest_in(book.definitions(), book.nodes(), nodes, main, wanted, near);
@@ -132,11 +142,11 @@ pub fn find_nearest_in(
     rows: &[u8],
     nodes: usize,
     definitions: usize,
-    wanted: usize,
+    wanted: &[u16],
     near: &mut Near,
 )
-    requires { ((names : ℕ) × Defining rows.now entries.now names nodes definitions) × (wanted < 1024) × (near.old ≡ no_places) }
-    ensures { NearestAs rows.now entries.now nodes definitions wanted near.new }
+    requires { ((names : ℕ) × Defining rows.now entries.now names nodes definitions) × (near.old ≡ no_places) }
+    ensures { NearestAs rows.now entries.now nodes definitions wanted.now near.new }
 {
     let mut owner = [0; Limits::NODES];
     owners(entries, rows, definitions, &mut owner);

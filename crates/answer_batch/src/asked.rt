@@ -53,6 +53,7 @@ impl Asking<'_> {
         self.ask_again(b"empty", None, Question::Emptiness);
         self.ask_values(names);
         self.ask_use_counts();
+        self.ask_each_for_methods(names);
         self.ask_inner();
         self.ask_of_names(names, listed);
     }
@@ -127,8 +128,36 @@ impl Asking<'_> {
         self.tally.give_entries(Given::Values, found.len());
     }
 
+    // Each name in turn is asked alone for the methods that change with it: those that have some, with them. What is refused is so whatever is asked,
+    // as for nothing.
+    fn ask_each_for_methods(&mut self, names: u16) {
+        let mut out = [0; ROOM];
+        self.begin_word(b"methods");
+        if let Err(why) = questions::methods(self.book, self.limits, &[], &mut out) {
+            self.refuse(why);
+            return;
+        }
+        let changing = numbers_where(names, |number| {
+            questions::methods(self.book, self.limits, &[number], &mut out) != Ok(0)
+        });
+        self.lines.count(b"given ", changing.len());
+        for number in &changing {
+            self.lines.name(b" ", book::name(self.book, *number), b"");
+            match questions::methods(self.book, self.limits, &[*number], &mut out) {
+                Ok(count) => {
+                    for position in out.get(..count).unwrap_or(&[]) {
+                        self.lines.count(b" ", *position as usize);
+                    }
+                }
+                Err(_) => self.lines.write(b" refused"),
+            }
+        }
+        self.lines.write(b"\n");
+        self.tally.give_entries(Given::Methods, changing.len());
+    }
+
     // The questions about each name and about numbers that are no name's; the methods projected for none, for all names that have one, and for
-    // all names, the last first. A broken book has none and is not asked.
+    // all names, the last first; and those that change with several names. A broken book has none and is not asked.
     fn ask_of_names(&mut self, names: u16, is_listed: bool) {
         if names == 0 {
             return;
@@ -142,8 +171,27 @@ impl Asking<'_> {
         let taken = numbers_where(names, |number| is_asked(number) && self.ask_of(number));
         self.ask_outside();
         self.ask_again(b"project-all", None, Question::Projection(&turned(&taken)));
-        let every = numbers_where(names, |_| true);
-        self.project(b"project-every", None, &turned(&every));
+        let every = turned(&numbers_where(names, |_| true));
+        self.project(b"project-every", None, &every);
+        self.ask_for_methods(names, &every);
+    }
+
+    // The methods that change with a number that is no name's and with nothing; with any of all names, the last first; with those of even number,
+    // each asked twice, and with the others.
+    fn ask_for_methods(&mut self, names: u16, every: &[u16]) {
+        self.ask_methods(b"methods-outside", &[OUTSIDE]);
+        self.ask_methods(b"methods-highest", &[HIGHEST]);
+        self.ask_methods(b"methods-none", &[]);
+        self.ask_again(b"methods-all", None, Question::Methods(every));
+        let even = turned(&numbers_where(names, |number| number % 2 == 0));
+        let mut twice = Numbers::new();
+        for number in &even {
+            let _ = twice.try_push(*number);
+            let _ = twice.try_push(*number);
+        }
+        self.ask_methods(b"methods-even", &twice);
+        let odd = numbers_where(names, |number| number % 2 == 1);
+        self.ask_methods(b"methods-odd", &turned(&odd));
     }
 
     // The questions about a name. Answers whether it has a method.

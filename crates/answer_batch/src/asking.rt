@@ -21,6 +21,7 @@ pub(crate) enum Question<'a> {
     Emptiness,
     Uses(u16),
     Projection(&'a [u16]),
+    Methods(&'a [u16]),
 }
 
 impl Question<'_> {
@@ -33,6 +34,7 @@ impl Question<'_> {
             Question::Emptiness => questions::emptiness(book, limits, out),
             Question::Uses(name) => questions::uses(book, limits, name, out),
             Question::Projection(names) => questions::project(book, limits, names, out),
+            Question::Methods(names) => questions::methods(book, limits, names, out),
         }
     }
 
@@ -45,6 +47,7 @@ impl Question<'_> {
             Question::Emptiness => Given::Emptiness,
             Question::Uses(_) => Given::Uses,
             Question::Projection(_) => Given::Projection,
+            Question::Methods(_) => Given::Methods,
         }
     }
 
@@ -56,12 +59,14 @@ impl Question<'_> {
         }
     }
 
-    // An answer's numbers: a use is three with points between, and others are names but for those of a projection.
+    // An answer's numbers: a use is three with points between, and others are names but for positions of methods.
     fn print(self, lines: Lines, book: &[u8], numbers: &[u16]) {
         for (i, number) in numbers.iter().enumerate() {
             match self {
                 Question::Uses(_) if i % 3 != 0 => lines.count(b".", *number as usize),
-                Question::Uses(_) | Question::Projection(_) => lines.count(b" ", *number as usize),
+                Question::Uses(_) | Question::Projection(_) | Question::Methods(_) => {
+                    lines.count(b" ", *number as usize)
+                }
                 _ => lines.name(b" ", book::name(book, *number), b""),
             }
         }
@@ -220,6 +225,11 @@ impl Asking<'_> {
     // The methods projected for names. Answers how many there are.
     pub(crate) fn project(&mut self, word: &[u8], about: Option<u16>, names: &[u16]) -> usize {
         self.ask(word, about, Question::Projection(names))
+    }
+
+    // The methods that change with names.
+    pub(crate) fn ask_methods(&mut self, word: &[u8], names: &[u16]) {
+        self.ask(word, None, Question::Methods(names));
     }
 
     // Asks a question into a lent list and, where there are entries, once more with one place less, after the entries needed. Answers the numbers

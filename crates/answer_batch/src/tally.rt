@@ -16,6 +16,7 @@ pub(crate) enum Given {
     Emptiness,
     Values,
     UseCounts,
+    Methods,
     Chains,
     Lookups,
     Uses,
@@ -24,7 +25,7 @@ pub(crate) enum Given {
 }
 
 impl Given {
-    const COUNT: usize = 16;
+    const COUNT: usize = 17;
 
     // Each with its word, in the order in which they are printed.
     const ALL: [(Given, &'static [u8]); Given::COUNT] = [
@@ -39,6 +40,7 @@ impl Given {
         (Given::Emptiness, b"empty"),
         (Given::Values, b"values"),
         (Given::UseCounts, b"use-counts"),
+        (Given::Methods, b"methods"),
         (Given::Chains, b"chains"),
         (Given::Lookups, b"lookups"),
         (Given::Uses, b"uses"),

@@ -2,6 +2,7 @@
 --     p1-answers, p1-listed, p1-marked           the demand's sentences hold of it; its list is pair and tree, and tree is marked
 --     p1-in-three, p1-in-one                     what stands in lent lists of three places and of one
 --     p1-counts, p1-counts-in-three, p1-total    each has one use, and together they have two, from the other side too
+--     p1-methods, p1-unchanging, ..              put changes with tree and with pair, and no method with any other name
 --     p1-read, p1-labels, p1-list, p1-marks      its bytes, its labels, and what is answered, by computation
 --     p1-draft                                   the sentences hold of it as a draft
 --     p1-within, p1-over                         limits that take it, and limits that do not
@@ -40,6 +41,8 @@ use Rattle.listing.specs.Marks.{marks_over}
 use Rattle.listing.specs.DraftList.{draft_definitions}
 use Rattle.listing.specs.UseCounts.{use_counts, TotalOf, CountsDelivered, CountsSent}
 use Rattle.listing.proofs.UseCounts.{use-counts-say, counts-sent, counts-computed}
+use Rattle.listing.specs.Methods.{methods, MethodsSent}
+use Rattle.listing.proofs.MethodsUsing.{methods-say, methods-sent, methods-computed}
 use Rattle.listing.proofs.Examples.{drafted}
 use Rattle.listing.specs.Demand3.{Answers, DraftAnswers, Delivers, Sent, SentDraft}
 use Rattle.listing.proofs.Demand3.{sent-bytes, sent-draft-bytes}
@@ -124,6 +127,32 @@ p1-counts-in-three {x} {y} {z} {new} {r} h =
 
 pub p1-total : TotalOf p1 2
 p1-total = subst (λ (l : List ℕ). TotalOf p1 (sum l)) p1-counted p1-counts-sent.total
+
+-- ---- Its methods: put, at position 0, changes with tree, with pair and with both; none changes with spare, with leaf, which is no definition, or with
+-- 65,535, which is no name
+pub p1-methods : (methods p1 (6 ∷ []) ≡ given (0 ∷ [])) × (methods p1 (3 ∷ []) ≡ given (0 ∷ [])) × (methods p1 (3 ∷ 6 ∷ []) ≡ given (0 ∷ []))
+unfolding methods-computed samples-computed
+p1-methods = (refl, refl, refl)
+
+pub p1-unchanging : (methods p1 (5 ∷ []) ≡ given []) × (methods p1 (2 ∷ []) ≡ given []) × (methods p1 (65535 ∷ []) ≡ given []) × (methods p1 (5 ∷ 2 ∷ 65535 ∷ []) ≡ given [])
+unfolding methods-computed samples-computed
+p1-unchanging = (refl, refl, refl, refl)
+
+pub p1-methods-sent : (asked : List ℕ) → MethodsSent p1-source p1 asked
+p1-methods-sent = methods-sent p1-source p1 p1-admitted p1-passes has-actor
+
+p1-positions : (asked : List ℕ) {l : List ℕ} → methods p1 asked ≡ given l → (p1-methods-sent asked).positions ≡ l
+p1-positions asked e =
+    let x = p1-methods-sent asked in
+    same-given (sym ((methods-say p1 (admitted-fits p1-source p1-admitted) asked x.positions).1 x.is-given) ∙ e)
+
+pub p1-methods-in-two : {x y : ℕ} {new : List ℕ} {r : Answer} → HandedAs (on_bytes (λ b. methods b (3 ∷ 6 ∷ [])) p1-source) (x ∷ y ∷ []) new r →
+    (r ≡ Ok 1) × (new ≡ 0 ∷ y ∷ [])
+p1-methods-in-two {x} {y} {new} {r} h =
+    let asked : List ℕ = 3 ∷ 6 ∷ [] in
+    let sent = subst (λ (l : List ℕ). Delivers (HandedAs (on_bytes (λ b. methods b asked) p1-source)) (length l) l) (p1-positions asked p1-methods.2) (p1-methods-sent asked).sent in
+    let d = sent.enough h (omega arith) in
+    (d.answer, sym (take-append-drop 1 new) ∙ ap₂ ◌++◌ d.front d.rest)
 
 -- ---- As a draft: it has an actor, and no name is defined twice
 main-actor : main_actor p1 ≡ end → ⊥

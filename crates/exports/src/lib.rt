@@ -12,6 +12,7 @@ ghost use Rattle.listing.specs.DraftList.{draft_list};
 ghost use Rattle.listing.specs.Marks.{marks_over};
 ghost use Rattle.listing.specs.Uses.{uses};
 ghost use Rattle.listing.specs.UseCounts.{use_counts};
+ghost use Rattle.listing.specs.Methods.{methods};
 ghost use Rattle.listing.specs.Alias.{alias};
 ghost use Rattle.listing.specs.Project.{project};
 ghost use Rattle.listing.specs.Empty.{emptiness};
@@ -143,6 +144,22 @@ pub extern "C" fn ludzepin_project(
 {
     let limits = limits_of(names, nodes, definitions);
     codes::answer_code(questions::project(book, limits, asked, out))
+}
+
+// The positions of the methods with a use of any of these names; 4,096 places are always enough.
+#[unsafe(no_mangle)]
+pub extern "C" fn ludzepin_methods(
+    book: &[u8],
+    names: u32,
+    nodes: u32,
+    definitions: u32,
+    asked: &[u16],
+    out: &mut [u16],
+) -> u32
+    ensures { CodedAs (on_bytes (λ b. methods b asked.now) (book.now under limits_of names nodes definitions)) out.old out.new result }
+{
+    let limits = limits_of(names, nodes, definitions);
+    codes::answer_code(questions::methods(book, limits, asked, out))
 }
 
 // The uses of a name, three numbers for each entry; the answer counts entries.

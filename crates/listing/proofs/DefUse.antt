@@ -368,7 +368,7 @@ unfolding
     push_uses on_made push_walk chase_sites failed chase_method chase_methods chase_service chase_actor chase_def_use
 chased = chase_def_use
 
-abbrev method : ℕ → ℕ → Forest Node → Forest Node → Forest Node
+abbrev pub method : ℕ → ℕ → Forest Node → Forest Node → Forest Node
 method n arguments kids next = tree (record { kind = FuncT arguments []; label = labelled (Named n) }) kids next
 
 abbrev used : (m result i : ℕ) → Use

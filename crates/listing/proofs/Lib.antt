@@ -11,6 +11,7 @@ pub mod ReplaceEmpty
 pub mod Interface
 pub mod Sites
 pub mod Methods
+pub mod MethodNames
 pub mod Room
 pub mod Delivered
 pub mod List
@@ -22,6 +23,7 @@ pub mod Alias
 pub mod DefUse
 pub mod Totals
 pub mod UseCounts
+pub mod MethodsUsing
 pub mod Project
 pub mod Capped
 pub mod Numbers

@@ -74,7 +74,7 @@ first-count [] = omega arith
 first-count (f ∷ fs) = omega (arith, count-beside f.actor (actors fs))
 
 -- hashes that differ are no more than there are names, and one
-names-long : (f : Forest Node) → length (method_names f) ≡ breadth f
+pub names-long : (f : Forest Node) → length (method_names f) ≡ breadth f
 unfolding keys_of breadth
 names-long end = refl
 names-long (tree n kids next) = ap suc (names-long next)
@@ -88,7 +88,7 @@ bytes-listed (s ∷ names) (suc n) =
 hash-listed : (names : List (List ℕ)) (ns : List ℕ) (h : ℕ) → Memᴰ h (map (hash_of names) ns) → Memᴰ h (map label_number ([] ∷ names))
 hash-listed names ns h m = let f = Memᴰ.of_map (hash_of names) ns m in Memᴰ.cast (sym f.2) (Memᴰ.map label_number (bytes-listed names f.0))
 
-hashes-few : (names : List (List ℕ)) (f : Forest Node) → Distinct (hashes_of names f) → breadth f ≤ suc (length names)
+pub hashes-few : (names : List (List ℕ)) (f : Forest Node) → Distinct (hashes_of names f) → breadth f ≤ suc (length names)
 hashes-few names f h =
     omega (arith, pigeonhole h (map label_number ([] ∷ names)) (hash-listed names (method_names f)), names-long f, length-map (method_names f) (hash_of names), length-map ([] ∷ names) label_number)
 

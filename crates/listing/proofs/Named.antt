@@ -34,6 +34,7 @@ use Rattle.listing.specs.DraftList.{draft_definitions, draft_list, DraftRow}
 use Rattle.listing.specs.Marks.{marks_over, MarksRow}
 use Rattle.listing.specs.Uses.{uses, UsesRow}
 use Rattle.listing.specs.UseCounts.{use_counts}
+use Rattle.listing.specs.Methods.{methods, MethodsRow}
 use Rattle.listing.specs.Alias.{alias, AliasRow}
 use Rattle.listing.specs.Values.{values, ValuesRow}
 use Rattle.listing.specs.Project.{project, ProjectRow}
@@ -43,6 +44,7 @@ use Rattle.listing.specs.InitList as inits
 use Rattle.listing.specs.DraftList as drafts
 use Rattle.listing.specs.Marks as marks
 use Rattle.listing.specs.Uses as used
+use Rattle.listing.specs.Methods as changed
 use Rattle.listing.specs.Alias as aliased
 use Rattle.listing.specs.Values as counted
 use Rattle.listing.specs.Project as projected
@@ -53,6 +55,7 @@ use Rattle.listing.proofs.DraftList.{draft-in-row}
 use Rattle.listing.proofs.Marks.{marks-in-row}
 use Rattle.listing.proofs.Uses.{uses-in-row}
 use Rattle.listing.proofs.UseCounts.{refused-alike, bytes-refused-alike}
+use Rattle.listing.proofs.MethodsUsing.{methods-in-row}
 use Rattle.listing.proofs.Alias.{alias-in-row}
 use Rattle.listing.proofs.Values.{values-in-row}
 use Rattle.listing.proofs.Project.{listed-times, project-in-row}
@@ -97,6 +100,11 @@ module _ (b : Book) (fits : Fits b) (places : ℕ) where
   uses-row-names n (used.no_actor x) = λ u. nameless u
   uses-row-names n (used.short x) = λ u. nameless u
 
+  methods-row-names : (asked : List ℕ) {r : Refusal} → MethodsRow b asked places r → NamesPlace names r
+  methods-row-names asked (changed.checked x) = row-names b fits x
+  methods-row-names asked (changed.no_actor x) = λ u. nameless u
+  methods-row-names asked (changed.short x) = λ u. nameless u
+
   marks-row-names : (l : List ℕ) {r : Refusal} → MarksRow b l places r → NamesAsked Unbound names l r
   marks-row-names l (marks.checked x) = inl (row-names b fits x)
   marks-row-names l (marks.unbound {n = n} x) =
@@ -127,6 +135,9 @@ module _ (b : Book) (fits : Fits b) (places : ℕ) where
 
   pub uses-names : (n : ℕ) {r : Refusal} → fit places (uses b n) ≡ refused r → NamesPlace names r
   uses-names n e = uses-row-names n (uses-in-row b fits n places e)
+
+  pub methods-names : (asked : List ℕ) {r : Refusal} → fit places (methods b asked) ≡ refused r → NamesPlace names r
+  methods-names asked e = methods-row-names asked (methods-in-row b fits asked places e)
 
   pub marks-names : (l : List ℕ) {r : Refusal} → fit places (marks_over b l) ≡ refused r → NamesAsked Unbound names l r
   marks-names l e = marks-row-names l (marks-in-row b fits l places e)
@@ -168,6 +179,9 @@ module _ (bs : Source) (places : ℕ) {r : Refusal} where
 
   pub uses-bytes-names : (n : ℕ) → fit places (on_bytes (λ b. uses b n) bs) ≡ refused r → InRow bs (λ b. NamesPlace (length b.names)) r
   uses-bytes-names n = asked-row bs places (λ b. uses b n) (λ b. NamesPlace (length b.names)) (λ b fits. uses-names b fits places n)
+
+  pub methods-bytes-names : (asked : List ℕ) → fit places (on_bytes (λ b. methods b asked) bs) ≡ refused r → InRow bs (λ b. NamesPlace (length b.names)) r
+  methods-bytes-names asked = asked-row bs places (λ b. methods b asked) (λ b. NamesPlace (length b.names)) (λ b fits. methods-names b fits places asked)
 
   pub marks-bytes-names : (l : List ℕ) → fit places (on_bytes (λ b. marks_over b l) bs) ≡ refused r → InRow bs (λ b. NamesAsked Unbound (length b.names) l) r
   marks-bytes-names l = asked-row bs places (λ b. marks_over b l) (λ b. NamesAsked Unbound (length b.names) l) (λ b fits. marks-names b fits places l)

@@ -28,6 +28,7 @@ use Rattle.listing.specs.InitList.{init_list, InitListRow}
 use Rattle.listing.specs.Marks.{marks_over, MarksRow}
 use Rattle.listing.specs.Uses.{uses, UsesRow}
 use Rattle.listing.specs.UseCounts.{use_counts}
+use Rattle.listing.specs.Methods.{methods, MethodsRow}
 use Rattle.listing.specs.Alias.{alias, AliasRow}
 use Rattle.listing.specs.Values.{values, ValuesRow}
 use Rattle.listing.specs.Project.{project, ProjectRow}
@@ -36,6 +37,7 @@ use Rattle.listing.specs.List as listed
 use Rattle.listing.specs.InitList as inits
 use Rattle.listing.specs.Marks as marks
 use Rattle.listing.specs.Uses as used
+use Rattle.listing.specs.Methods as changed
 use Rattle.listing.specs.Alias as aliased
 use Rattle.listing.specs.Values as counted
 use Rattle.listing.specs.Project as projected
@@ -46,6 +48,7 @@ use Rattle.listing.proofs.InitList.{init-says}
 use Rattle.listing.proofs.Marks.{marks-unbound, marks-after}
 use Rattle.listing.proofs.Uses.{uses-after}
 use Rattle.listing.proofs.UseCounts.{given-alike}
+use Rattle.listing.proofs.MethodsUsing.{methods-after}
 use Rattle.listing.proofs.Alias.{alias-unbound, alias-after}
 use Rattle.listing.proofs.Values.{values-unbound, values-after}
 use Rattle.listing.proofs.Project.{project-absent, project-after}
@@ -121,6 +124,12 @@ module _ (b : Book) (fits : Fits b) (places : ℕ) where
   uses-refuses n (used.checked x) = checked-unanswered places (λ c. uses c n) (uses-after n) b fits x
   uses-refuses n (used.no_actor x) = refused-unanswered places (uses b n) (actor-lacks b _ x.0 x.1)
   uses-refuses n (used.short x) = short-unanswered places (uses b n) x
+
+  pub methods-refuses : (asked : List ℕ) {r : Refusal} → MethodsRow b asked places r → Unanswered places (methods b asked)
+  unfolding methods
+  methods-refuses asked (changed.checked x) = checked-unanswered places (λ c. methods c asked) (methods-after asked) b fits x
+  methods-refuses asked (changed.no_actor x) = refused-unanswered places (methods b asked) (actor-lacks b _ x.0 x.1)
+  methods-refuses asked (changed.short x) = short-unanswered places (methods b asked) x
 
   pub project-refuses : (names : List ℕ) {r : Refusal} → ProjectRow b names places r → Unanswered places (project b names)
   unfolding project

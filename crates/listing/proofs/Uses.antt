@@ -224,7 +224,7 @@ pub bound-inherited : (ds : List Definition) → ((d : Definition) → Memᴰ d 
 bound-inherited ds bodies = names-inherited ds (Defined ds) (λ n d q m e. bodies d m)
 
 -- What is reachable from a site is reachable from the actor.
-reach-on : {ds : List Definition} {actor t : Forest Node} {n : ℕ} → EachName (Reachable ds actor) t → Reachable ds t n → Reachable ds actor n
+pub reach-on : {ds : List Definition} {actor t : Forest Node} {n : ℕ} → EachName (Reachable ds actor) t → Reachable ds t n → Reachable ds actor n
 reach-on {n = n} h (direct m) = h n m
 reach-on h (reach.onward r f) = reach.onward (reach-on h r) f
 

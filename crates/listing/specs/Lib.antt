@@ -14,6 +14,7 @@ pub mod DraftList
 pub mod Marks
 pub mod Uses
 pub mod UseCounts
+pub mod Methods
 pub mod Alias
 pub mod Project
 pub mod Empty

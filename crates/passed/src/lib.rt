@@ -11,6 +11,7 @@ pub mod empty;
 pub mod init_list;
 pub mod list;
 pub mod marks;
+pub mod methods;
 pub mod project;
 pub mod use_counts;
 pub mod uses;

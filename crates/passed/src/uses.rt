@@ -32,12 +32,11 @@ impl CheckedBook<'_> {
         ensures { UsesAs (uses (book_of self.now) name) out.old out.new result }
     {
         let actor = self.actor()?;
-        let wanted = name as usize;
-        if Limits::NAMES <= wanted {
+        if Limits::NAMES <= name as usize {
             return Ok(0);
         }
         let mut near: Near = [0; Limits::NODES + 1];
-        analysis::reaching::find_nearest(self.book, self.main, wanted, &mut near);
+        analysis::reaching::find_nearest(self.book, self.main, &[name], &mut near);
         let searched = Searched {
             rows: self.book.nodes(),
             ends: &self.tables.ends,

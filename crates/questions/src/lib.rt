@@ -15,6 +15,7 @@ ghost use Rattle.listing.specs.DraftList.{draft_list};
 ghost use Rattle.listing.specs.Marks.{marks_over};
 ghost use Rattle.listing.specs.Uses.{uses};
 ghost use Rattle.listing.specs.UseCounts.{use_counts};
+ghost use Rattle.listing.specs.Methods.{methods};
 ghost use Rattle.listing.specs.Alias.{alias};
 ghost use Rattle.listing.specs.Project.{project};
 ghost use Rattle.listing.specs.Empty.{emptiness};
@@ -110,6 +111,14 @@ pub fn project(book: &[u8], limits: Limits, asked: &[u16], out: &mut [u16]) -> A
     ensures { HandedAs (on_bytes (λ b. project b asked.now) (book.now under limits)) out.old out.new result }
 {
     pass!(book, limits).project(asked, out)
+}
+
+// The positions of the methods with a use of any of these names, ascending, each once: the check's refusals, 17 and 16. Repeats, names without uses
+// and numbers that are no name's add nothing.
+pub fn methods(book: &[u8], limits: Limits, asked: &[u16], out: &mut [u16]) -> Answer
+    ensures { HandedAs (on_bytes (λ b. methods b asked.now) (book.now under limits)) out.old out.new result }
+{
+    pass!(book, limits).methods(asked, out)
 }
 
 // The names that are empty, whose definition has no value of finite height, ascending: the check's refusals and 16. No actor is needed.

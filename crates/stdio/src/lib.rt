@@ -1,6 +1,6 @@
-// For programs: a book's bytes from the file that the first argument names, or from standard input, and a text to standard output. What fails is
-// told on standard error, with its reason; what was read before is then no input.
-// Of a file or standard input no contract can say what is read; of a reader whose bytes are known, `fill` says that it was these.
+// For programs: a book's bytes from the file that the first argument names, or from standard input, the arguments after it, and a text to standard
+// output. What fails is told on standard error, with its reason; what was read before is then no input.
+// Of a file, standard input or the arguments no contract can say what is read; of a reader whose bytes are known, `fill` says that it was these.
 #![tactic(auto)]
 
 ghost use Rattle.std.specs.Prelude.{◌≡◌, length, IfOk, IfSome};
@@ -37,7 +37,10 @@ fn fill<'b, S: io::Read>(source: &mut S, buf: &'b mut [u8]) -> io::Result<&'b [u
     Ok(&buf[..done])
 }
 
-// The C library's number of a name that is too long.
+// The C library's number of arguments that are too many.
+const E2BIG: i32 = 7;
+
+// And of a name that is too long.
 const ENAMETOOLONG: i32 = 36;
 
 // A program, by the runtime that it was given and the name that it is called by in messages.
@@ -84,26 +87,82 @@ impl Program<'_> {
         self.or_tell(path, fill(&mut file, buf))
     }
 
+    // Reads standard input.
+    fn read_input<'b>(&self, buf: &'b mut [u8]) -> Option<&'b [u8]>
+        ensures { ReadAs result buf.old }
+    {
+        self.or_tell(b"standard input", fill(&mut self.rt.stdin(), buf))
+    }
+
+    // Tells how the program is called.
+    fn tell_usage(&self, arguments: &[u8]) {
+        self.tell(&[b"usage: ", self.name, arguments]);
+    }
+
+    // The first argument, or none where there is none. None outside is a failure, which was told.
+    fn first_argument<'p>(&self, room: &'p mut [u8]) -> Option<Option<&'p [u8]>> {
+        match self.rt.arg(1, room) {
+            Ok(size) => Some(Some(&room[..size])),
+            Err(FillError::NotPresent) => Some(None),
+            Err(FillError::TooLong) => {
+                let too_long = Error::from_raw_os_error(ENAMETOOLONG);
+                self.or_tell(b"the file's name", Err(too_long))
+            }
+        }
+    }
+
     // Reads the file that the program's argument names, or standard input where there is none: the part of the buffer that was read into, which is
     // all of the input unless the buffer is full. None is a failure, which was told.
     pub fn read<'b>(&self, buf: &'b mut [u8]) -> Option<&'b [u8]>
         ensures { ReadAs result buf.old }
     {
         if !matches!(self.rt.arg(2, &mut []), Err(FillError::NotPresent)) {
-            self.tell(&[b"usage: ", self.name, b" [FILE]"]);
+            self.tell_usage(b" [FILE]");
             return None;
         }
         let mut path = [0u8; 4096];
-        match self.rt.arg(1, &mut path) {
-            Ok(size) => self.read_file(&path[..size], buf),
-            Err(FillError::NotPresent) => {
-                self.or_tell(b"standard input", fill(&mut self.rt.stdin(), buf))
-            }
-            Err(FillError::TooLong) => {
-                let too_long = Error::from_raw_os_error(ENAMETOOLONG);
-                self.or_tell(b"the file's name", Err(too_long))
+        match self.first_argument(&mut path)? {
+            Some(path) => self.read_file(path, buf),
+            None => self.read_input(buf),
+        }
+    }
+
+    // The same for a program that takes names after the file's, which has to be there: `-` is standard input.
+    pub fn read_before_names<'b>(&self, buf: &'b mut [u8]) -> Option<&'b [u8]>
+        ensures { ReadAs result buf.old }
+    {
+        let mut path = [0u8; 4096];
+        match self.first_argument(&mut path)? {
+            Some(b"-") => self.read_input(buf),
+            Some(path) => self.read_file(path, buf),
+            None => {
+                self.tell_usage(b" FILE [NAME ..]");
+                None
             }
         }
+    }
+
+    // The names after the file's, each ended by a zero byte, which no argument has: the part of the buffer that they take. None where it is too short
+    // for all of them, which was told.
+    pub fn names<'b>(&self, buf: &'b mut [u8]) -> Option<&'b [u8]>
+        ensures { ReadAs result buf.old }
+    {
+        let mut done = 0;
+        for i in 2..usize::MAX {
+            match self.rt.arg(i, &mut buf[done..]) {
+                Ok(size) if done + size < buf.len() => {
+                    done += size;
+                    buf[done] = 0;
+                    done += 1;
+                }
+                Err(FillError::NotPresent) => break,
+                _ => {
+                    let too_many = Error::from_raw_os_error(E2BIG);
+                    return self.or_tell(b"the names", Err(too_many));
+                }
+            }
+        }
+        Some(&buf[..done])
     }
 
     // Writes a text to standard output. Answers how many bytes are known to be written: all, or none where it failed, which was told. A count and

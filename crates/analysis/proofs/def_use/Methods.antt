@@ -143,11 +143,11 @@ module _ (ns : List ℕ) (m : ℕ) where
 
 -- ---- At the end of a chain
 module _ {ns ends' near : List ℕ} {service : ℕ} (x : Served ns ends' near service) {node : ℕ} (h : node < x.ended.count) {e : Option ℕ} (is : e ≡ end_node ns ends' node) where
-  end-hits : (f : ℕ) → e ≡ Some f → HitsIn x.used ns near f (f + (row_at ns f).size)
+  pub end-hits : (f : ℕ) → e ≡ Some f → HitsIn x.used ns near f (f + (row_at ns f).size)
   unfolding served-at
   end-hits f z = hits-in x.known.hits (omega arith) (x.ended.nodes.tree f (end-inside (served-at x.ended node h) (sym z ∙ is))).ends
 
-  abbrev end-tested : EndTested ns near e
+  abbrev pub end-tested : EndTested ns near e
   end-tested = record { reached = alias_end x.definitions (tree_at ns node); is = end-reached x.ended h is x.definitions x.known.chains; used = x.used; hits = end-hits }
 
 -- ---- The sites of methods
@@ -257,7 +257,7 @@ module _ {ns ends' near services : List ℕ} {from until : ℕ} (x : Offered ns 
   abbrev offered-arguments : Tested ns near from until
   offered-arguments = record { used = x.used; hits = hits-in x.known.hits (omega arith) x.offer.inside }
 
-  abbrev offered-service : {s : ℕ} → s < length services → Served ns ends' near (get_or services s 0)
+  abbrev pub offered-service : {s : ℕ} → s < length services → Served ns ends' near (get_or services s 0)
   offered-service h = record { ended = offer-ended x.offer h; definitions = x.definitions; used = x.used; known = x.known }
 
 pub record ServicesLeft (ns ends' near services : List ℕ) (from until k : ℕ) (old mid : List ℕ) (at m s : ℕ) : Type 0 where

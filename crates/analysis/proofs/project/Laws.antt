@@ -280,53 +280,59 @@ services-start ns services left out e =
       goes = λ far l a. record { names = l; asking = a; same = λ g. refl };
     }
 
+-- a service, and its methods
+module _ {ns services : List ℕ} (y : Services ns services) {k : ℕ} (h : k < length services) where
+  abbrev node : ℕ
+  node = get_or services k 0
+
+  pub service-inside : node < y.nodes
+  service-inside = (y.service k h).0
+
+  pub service-within : Within ns (node + 1)
+  service-within = here-within (untabled y.all) service-inside
+
+  module _ (r : Row) (is : r ≡ row_at ns node) where
+    pub service-ends : (1 ≤ r.size) × (node + r.size ≤ 4096)
+    service-ends = rw is ((y.all.nodes.tree node service-inside).whole.one, omega (arith, (y.all.nodes.tree node service-inside).ends, y.all.nodes.few_nodes))
+
+    pub service-methods : (roots ends' : List ℕ) × Methods ns roots ends' (node + 1) (node + r.size)
+    service-methods =
+        let b = untabled y.all in
+        (blank_table, zero_table, subst (λ (z : Row). Methods ns blank_table zero_table (node + 1) (node + z.size)) (sym is) (kids-methods (here-trees b service-inside) (here-some b service-inside) (y.service k h).1))
+
 module _ {ns services : List ℕ} {v : Underway} {k : ℕ} {w : Underway} (x : ServicesLeft ns services v k w) (y : Services ns services) where
   module _ (h : k < length services) where
-    abbrev node : ℕ
-    node = get_or services k 0
+    abbrev at : ℕ
+    at = get_or services k 0
 
-    pub service-inside : node < y.nodes
-    service-inside = (y.service k h).0
-
-    pub service-within : Within ns (node + 1)
-    service-within = here-within (untabled y.all) service-inside
-
-    module _ (r : Row) (is : r ≡ row_at ns node) where
-      pub service-ends : (1 ≤ r.size) × (node + r.size ≤ 4096)
-      service-ends = rw is ((y.all.nodes.tree node service-inside).whole.one, omega (arith, (y.all.nodes.tree node service-inside).ends, y.all.nodes.few_nodes))
-
-      pub service-methods : (roots ends' : List ℕ) × Methods ns roots ends' (node + 1) (node + r.size)
-      service-methods =
-          let b = untabled y.all in
-          (blank_table, zero_table, subst (λ (z : Row). Methods ns blank_table zero_table (node + 1) (node + z.size)) (sym is) (kids-methods (here-trees b service-inside) (here-some b service-inside) (y.service k h).1))
-
-      pub service-room : AskedBy v.left → Room (node + r.size - (node + 1)) w
+    module _ (r : Row) (is : r ≡ row_at ns at) where
+      pub service-room : AskedBy v.left → Room (at + r.size - (at + 1)) w
       service-room a = record {
-        few = omega (arith, service-ends, x.near, y.few);
+        few = omega (arith, service-ends y h r is, x.near, y.few);
         fewer = x.fewer;
         names = x.names;
         asked = asked-on x.goes a;
       }
 
       pub services-on : {w' : Underway} →
-          MethodsTaken (node + r.size - (node + 1)) (siblings ns (node + 1) (node + r.size)) w w' → ServicesLeft ns services v (k + 1) w'
+          MethodsTaken (at + r.size - (at + 1)) (siblings ns (at + 1) (at + r.size)) w w' → ServicesLeft ns services v (k + 1) w'
       unfolding beside
       services-on {w'} t =
           record {
-            near = omega (arith, t.near, service-ends, x.near);
+            near = omega (arith, t.near, service-ends y h r is, x.near);
             fewer = t.fewer;
             names = t.kept ∙ x.names;
             held = t.held ∙ x.held;
             goes = λ far l a.
                 let s = x.goes far l a in
-                let u = subst (λ (m : ℕ). Projects m end w' (siblings ns (node + 1) (node + r.size)) w) x.held t.goes far s.names s.asking in
+                let u = subst (λ (m : ℕ). Projects m end w' (siblings ns (at + 1) (at + r.size)) w) x.held t.goes far s.names s.asking in
                 record {
                   names = u.names;
                   asking = u.asking;
                   same = λ g.
                       u.same (beside (methods_in ns (drop (k + 1) services)) g)
                       ∙ ap (λ (f : Forest Node). comes_to (length v.out) w (project_from w.at f s.names))
-                      (sym (ap (λ (f : Forest Node). beside f g) (services-some ns services h (y.all.nodes.tree node service-inside).whole is) ∙ beside-assoc (siblings ns (node + 1) (node + r.size)) (methods_in ns (drop (k + 1) services)) g))
+                      (sym (ap (λ (f : Forest Node). beside f g) (services-some ns services h (y.all.nodes.tree at (service-inside y h)).whole is) ∙ beside-assoc (siblings ns (at + 1) (at + r.size)) (methods_in ns (drop (k + 1) services)) g))
                       ∙ s.same g;
                 };
           }

@@ -1,8 +1,8 @@
--- References as rows that are names, and what the first such row tells of what is reachable. Assumes nothing.
+-- References as rows that are names, and what the first such row tells; what is reachable. Assumes nothing.
 --     references-rows      trees refer to a name exactly if one of their rows is that name
 --     refers-rows          a definition refers to a name exactly if a row of its body is that name
 --     reachable-says       what is reachable from trees is a name that they refer to, or is reached from one
---     near-reachable       by the table of first rows, whether a name is reachable from trees
+--     near-refers          by the table of first rows, whether trees refer to a name with its flag set
 use mathlib.Core.Path.{◌≡◌, refl, sym, ap, subst, ◌∙◌}
 use mathlib.Core.Logic.{◌↔◌, ◌⊎◌, inl, inr, ⊎_elim}
 use mathlib.Core.Bool.{Bool, true, false, cond}
@@ -22,11 +22,12 @@ use Rattle.format.specs.Layout.{row_at, entry_at, run, siblings}
 use Rattle.format.specs.References.{references}
 use Rattle.format.specs.Whole.{definition_at}
 use Rattle.format.proofs.References.{vars_of, references-siblings}
-use Rattle.environment.specs.Tables.{Nodes, definitions_in}
+use Rattle.environment.specs.Tables.{definitions_in}
 use Rattle.listing.specs.References.{Refers, Reachable, direct, onward, Way, last, step, Reaches}
 use Rattle.listing.proofs.Chases.{way-snoc}
-use Rattle.analysis.specs.Reaching.{ReachAs, IsName, NearAs, OwnedBy}
-use Rattle.analysis.proofs.reaching.Near.{name-small, HitBetween, near-says}
+use Rattle.book.specs.Tables.{is_set}
+use Rattle.analysis.specs.Reaching.{IsName, NearAs, OwnedBy}
+use Rattle.analysis.proofs.reaching.Near.{near-says}
 
 -- ---- Runs
 pub record InRun {A : Type 0} (f : ℕ → A) (n e : ℕ) (a : A) : Type 0 where
@@ -162,35 +163,16 @@ from {ds} {start} {n} (onward {m} r f) = go (from r)
 pub reachable-says : (ds : List Definition) (start : Forest Node) (n : ℕ) → Reachable ds start n ↔ From ds start n
 reachable-says ds start n = (from, λ q. ⊎_elim (λ e. direct (Memᴰ.cast (sym e) q.refers)) (λ w. way-on (direct q.refers) w.1) q.reaches)
 
--- With the flags of the names that reach n, the table of first rows tells whether n is reachable from the trees between i and e.
-pub near-reachable :
-    {ns flags near : List ℕ} {names nodes n : ℕ} {ds : List Definition} → Nodes ns names nodes → ReachAs ds n flags → NearAs ns flags nodes near →
-    (i e : ℕ) → i ≤ e → e ≤ nodes → T (ltb (get_or near i 0) e) ↔ Reachable ds (siblings ns i e) n
-near-reachable {ns} {flags} {near} {names} {nodes} {n} {ds} k reach table i e h until = (
-  λ t. (reachable-says ds (siblings ns i e) n).1 (there ((near-says table i e h until).0 t)),
-  λ r. (near-says table i e h until).1 (back ((reachable-says ds (siblings ns i e) n).0 r)),
+-- By the table of first rows, whether the trees between i and e refer to a name with its flag set.
+pub near-refers :
+    {ns flags near : List ℕ} {nodes : ℕ} → NearAs ns flags nodes near → (i e : ℕ) → i ≤ e → e ≤ nodes →
+    T (ltb (get_or near i 0) e) ↔ ((v : ℕ) × Memᴰ v (references (siblings ns i e)) × T (is_set flags v))
+near-refers {ns} {flags} {near} {nodes} table i e h until = (
+  λ t.
+      let b = (near-says table i e h until).0 t in
+      ((row_at ns b.row).value, (references-rows ns i e _ h).1 record { row = b.row; from = b.from; until = b.until; is = record { kind = b.hit.kind; value = refl } }, b.hit.flag),
+  λ x.
+      let a = (references-rows ns i e x.0 h).0 x.1 in
+      (near-says table i e h until).1
+      record { row = a.row; from = a.from; until = a.until; hit = record { kind = a.is.kind; flag = subst (λ (v : ℕ). T (is_set flags v)) (sym a.is.value) x.2 } },
 )
-  where
-    small : (j : ℕ) → j < e → (row_at ns j).kind ≡ 18 → (row_at ns j).value < 1024
-    small j l q = name-small k (omega arith) (row_at ns j) refl q
-
-    there : HitBetween ns flags i e → From ds (siblings ns i e) n
-    there b =
-        let v : ℕ = (row_at ns b.row).value in
-        record {
-          first = v;
-          refers = (references-rows ns i e v h).1 record { row = b.row; from = b.from; until = b.until; is = record { kind = b.hit.kind; value = refl } };
-          reaches = (reach.exact v (small b.row b.until b.hit.kind)).0 b.hit.flag;
-        }
-
-    back : From ds (siblings ns i e) n → HitBetween ns flags i e
-    back q =
-        let a = (references-rows ns i e q.first h).0 q.refers in
-        let v : ℕ = (row_at ns a.row).value in
-        let reaches : (v ≡ n) ⊎ Reaches ds v n = subst (λ (m : ℕ). (m ≡ n) ⊎ Reaches ds m n) (sym a.is.value) q.reaches in
-        record {
-          row = a.row;
-          from = a.from;
-          until = a.until;
-          hit = record { kind = a.is.kind; flag = (reach.exact v (small a.row a.until a.is.kind)).1 reaches };
-        }

@@ -6,6 +6,7 @@
 --     hands-short, hands-given  what is handed over
 use mathlib.Core.Path.{◌≡◌, refl, sym, ap, ap₂, subst, ◌∙◌}
 use mathlib.Core.Bool.{Bool}
+use mathlib.Core.List.Memᴰ
 use mathlib.Core.List.{List, [], ◌∷◌, ◌++◌, map, Memᴰ}
 use Prim.Native.Nat.{ℕ, zero, suc, ◌*◌, ◌/◌, ◌≤◌, ◌<◌}
 use native.Mathlib.Decide.{dec_lt}
@@ -27,6 +28,7 @@ use Rattle.environment.specs.Tables.{found_at}
 use Rattle.syntax.specs.Interfaces.{methods_in, InterfaceAs}
 use Rattle.refusals.specs.Handed.{Answer, Use, numbers, answer_of, uses_left, UsesAs}
 use Rattle.listing.specs.Sites.{Site, class_sites, method_sites, sites}
+use Rattle.listing.specs.References.{Reachable}
 use Rattle.listing.specs.Uses.{kept, entry_of, uses}
 use Rattle.refusals.specs.Outcome.{Outcome, refused, given, fit}
 use Rattle.listing.proofs.Uses.{passed-walks, uses-row, uses-answered, uses-undefined}
@@ -102,47 +104,47 @@ module _ {bs : List ℕ} {c : Contents} {a : Admitted bs c} {roots ends' : List 
         let same = followed ds (resolve_actor b) offers.serves in
         ap₂ (λ (f g : Forest Node). class_sites 0 f ++ method_sites ds 0 g) (same.0 ∙ sym offers.arguments.are) (same.1 ∙ sym offers.methods)
 
-    module _ {n : ℕ} (few : n < 1024) {flags near : List ℕ} (reach : ReachAs ds n flags) (table : NearAs rows flags (count (trees b)) near) where
+    abbrev pub offered : {flags near : List ℕ} → NearAs rows flags (count (trees b)) near → Offered rows ends' near i.from i.until i.services
+    offered {flags} table = record { nodes = _; offer = offer-in; definitions = ds; used = used_by flags; known = record { chains = x.chains; hits = used-hits x.all.nodes table } }
+
+    module _ {n : ℕ} (few : n < 1024) {flags near : List ℕ} (reach : ReachAs ds (n ∷ []) flags) (table : NearAs rows flags (count (trees b)) near) where
       uses-are : uses b n ≡ given (uses_by (used_by flags) offered_sites)
       unfolding uses_by
       uses-are =
           let row = uses-row ds (resolve_actor b) (passed-walks b (fits x) x.passed) n in
           let test : Site → Bool = λ s. used_by flags s.type in
           let same : (s : Site) → Memᴰ s (sites ds (resolve_actor b)) → row.used s ≡ test s = λ s m.
-          let u = used-says reach few names-small s.type in
+          let u = used-says reach names-small s.type (λ k i r. omega (arith, Memᴰ.eq_of_singleton i)) in
           let v = row.says s m in
-          same-test (row.used s) (test s) (λ t. u.1 (v.0 t), λ t. v.1 (u.0 t)) in
+          same-test (row.used s) (test s) (λ t. u.1 (n, Memᴰ.head refl, v.0 t), λ t. let y = u.0 t in v.1 (subst (Reachable ds s.type) (Memᴰ.eq_of_singleton y.1) y.2)) in
           uses-answered b (fits x) x.passed some n
           ∙ ap given
           (row.row-is ∙ ap (map entry_of) (kept-same row.used test (sites ds (resolve_actor b)) same) ∙ ap (λ (l : List Site). map entry_of (kept test l)) sites-are)
 
-      pub offered : Offered rows ends' near i.from i.until i.services
-      offered = record { nodes = _; offer = offer-in; definitions = ds; used = used_by flags; known = record { chains = x.chains; hits = used-hits reach few names-small x.all.nodes table } }
-
       -- so what is handed over is the question's
       pub uses-handed : {old new : List ℕ} {r : Answer} → UsesHanded rows ends' near i old new r → UsesAs (uses b n) old new r
-      unfolding offered
-      uses-handed h = uses-as uses-are (h.handed offered)
+      uses-handed h = uses-as uses-are (h.handed (offered table))
 
   -- ---- As the code has it
   pub main-within : p.main ≤ c.definitions
   main-within = omega (arith, x.within, definitions-count a)
 
-  module _ (some : resolve_actor b ≡ end → ⊥) {n : ℕ} (few : n < 1024) {near : List ℕ} (t : NearestAs rows (definitions_part bs) c.nodes p.main n near) where
-    reached : ReachAs ds n t.flags
-    reached = subst (λ (l : List Definition). ReachAs l n t.flags) (sym x.definitions) t.reach
+  module _ (some : resolve_actor b ≡ end → ⊥) {wanted near : List ℕ} (t : NearestAs rows (definitions_part bs) c.nodes p.main wanted near) where
+    pub reached : ReachAs ds wanted t.flags
+    reached = subst (λ (l : List Definition). ReachAs l wanted t.flags) (sym x.definitions) t.reach
 
-    first-rows : NearAs rows t.flags (count (trees b)) near
+    pub first-rows : NearAs rows t.flags (count (trees b)) near
     first-rows = subst (λ (k : ℕ). NearAs rows t.flags k near) (nodes-count a) t.first
 
-    module _ {ns : List ℕ} (here : ns ≡ rows) where
-      pub offered-here : Offered ns ends' near p.interface.from p.interface.until p.interface.services
-      offered-here =
-          subst (λ (l : List ℕ). Offered l ends' near p.interface.from p.interface.until p.interface.services) (sym here) (offered some few reached first-rows)
+    pub offered-here : {ns : List ℕ} → ns ≡ rows → Offered ns ends' near p.interface.from p.interface.until p.interface.services
+    offered-here here =
+        subst (λ (l : List ℕ). Offered l ends' near p.interface.from p.interface.until p.interface.services) (sym here) (offered some first-rows)
 
-      pub uses-here : {old new : List ℕ} {r : Answer} → UsesHanded ns ends' near p.interface old new r → UsesAs (uses b n) old new r
-      uses-here {old} {new} {r} h =
-          uses-handed some few reached first-rows (subst (λ (l : List ℕ). UsesHanded l ends' near p.interface old new r) here h)
+  module _ (some : resolve_actor b ≡ end → ⊥) {n : ℕ} (few : n < 1024) {near : List ℕ} (t : NearestAs rows (definitions_part bs) c.nodes p.main (n ∷ []) near)
+      {ns : List ℕ} (here : ns ≡ rows) where
+    pub uses-here : {old new : List ℕ} {r : Answer} → UsesHanded ns ends' near p.interface old new r → UsesAs (uses b n) old new r
+    uses-here {old} {new} {r} h =
+        uses-handed some few (reached some t) (first-rows some t) (subst (λ (l : List ℕ). UsesHanded l ends' near p.interface old new r) here h)
 
 -- ---- What is handed over
 module _ {o : Outcome (List Use)} {es : List Use} (is : o ≡ given es) {old : List ℕ} where

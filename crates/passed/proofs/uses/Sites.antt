@@ -1,6 +1,7 @@
 -- Which types use a name, and what an actor offers where its own alias is followed first. Assumes nothing.
 --     followed                  the same is offered
---     used-says, used-hits      a type uses a name exactly if one of its names has a flag; the table of first rows says the same
+--     used-says                 a wanted name is reachable from a type exactly if one of the type's names has a flag
+--     used-hits                 the table of first rows says the same
 use mathlib.Core.Path.{◌≡◌, refl, sym, ap, subst, ◌∙◌}
 use mathlib.Core.Logic.{◌↔◌, ⊎_elim}
 use mathlib.Core.Bool.{Bool, true, false, ◌||◌}
@@ -30,7 +31,7 @@ use Rattle.listing.specs.Uses.{kept}
 use Rattle.listing.specs.References.{Reachable, Way, last, step}
 use Rattle.analysis.specs.Reaching.{ReachAs, NearAs}
 use Rattle.analysis.specs.Entries.{Test, hit, HitsIn}
-use Rattle.analysis.proofs.reaching.Rows.{From, reachable-says, near-reachable}
+use Rattle.analysis.proofs.reaching.Rows.{From, reachable-says, near-refers}
 use Rattle.judgement.proofs.Walks.{is-service}
 use Rattle.environment.proofs.FuncEnds.{stays}
 use Rattle.judgement.proofs.Heads.{named-no-class}
@@ -97,31 +98,35 @@ way-defined : {ds : List Definition} {m n : ℕ} {l : List ℕ} → Way ds m l n
 way-defined (last q) = listed-defined q.listed q.named
 way-defined (step q w) = listed-defined q.listed q.named
 
--- by the flags of the names that reach n
+-- by these flags
 abbrev pub used_by : List ℕ → Test
 used_by flags t = any_set flags (references t)
 
-module _ {ds : List Definition} {n : ℕ} {flags : List ℕ} (reach : ReachAs ds n flags) (few : n < 1024) (small : (m : ℕ) → Defined ds m → m < 1024) where
-  first-small : {t : Forest Node} (x : From ds t n) → x.first < 1024
-  first-small x = ⊎_elim (λ e. omega (arith, e)) (λ w. small x.first (way-defined w.1)) x.reaches
+-- by the flags of the names that reach wanted ones: a wanted name is reachable from the type
+module _ {ds : List Definition} {wanted flags : List ℕ} (reach : ReachAs ds wanted flags) (small : (m : ℕ) → Defined ds m → m < 1024) where
+  first-small : {t : Forest Node} {n : ℕ} → n < 1024 → (x : From ds t n) → x.first < 1024
+  first-small few x = ⊎_elim (λ e. omega (arith, e)) (λ w. small x.first (way-defined w.1)) x.reaches
 
-  pub used-says : (t : Forest Node) → T (used_by flags t) ↔ Reachable ds t n
-  used-says t = (
+  pub used-says : (t : Forest Node) → ((n : ℕ) → Memᴰ n wanted → Reachable ds t n → n < 1024) → T (used_by flags t) ↔ ((n : ℕ) × Memᴰ n wanted × Reachable ds t n)
+  used-says t few = (
     λ h. let x = (any-says flags (references t)).0 h in
-        (reachable-says ds t n).1 record { first = x.name; refers = x.listed; reaches = (reach.exact x.name (set-small flags x.name reach.long x.set)).0 x.set },
-    λ r. let x = (reachable-says ds t n).0 r in
-        (any-says flags (references t)).1 record { name = x.first; listed = x.refers; set = (reach.exact x.first (first-small x)).1 x.reaches },
+        let y = (reach.exact x.name (set-small flags x.name reach.long x.set)).0 x.set in
+        (y.0, y.1, (reachable-says ds t y.0).1 record { first = x.name; refers = x.listed; reaches = y.2 }),
+    λ r. let x = (reachable-says ds t r.0).0 r.2 in
+        (any-says flags (references t)).1
+        record { name = x.first; listed = x.refers; set = (reach.exact x.first (first-small (few r.0 r.1 r.2) x)).1 (r.0, r.1, x.reaches) },
   )
 
-  -- the table of first rows says the same of each node's tree
-  pub used-hits : {ns near : List ℕ} {names nodes : ℕ} → Nodes ns names nodes → NearAs ns flags nodes near → HitsIn (used_by flags) ns near 0 nodes
-  unfolding hit
-  used-hits {ns} {near} {nodes = nodes} k table = record {
-    agrees = λ i l h.
-        let u = used-says (tree_at ns i) in
-        let e = near-reachable k reach table i (i + (row_at ns i).size) (omega arith) (k.tree i h).ends in
-        same-test (used_by flags (tree_at ns i)) (ltb (get_or near i 0) (i + (row_at ns i).size)) (λ t. e.1 (u.0 t), λ t. u.1 (e.0 t));
-  }
+-- the table of first rows says the same of each node's tree
+pub used-hits : {ns flags near : List ℕ} {names nodes : ℕ} → Nodes ns names nodes → NearAs ns flags nodes near → HitsIn (used_by flags) ns near 0 nodes
+unfolding hit
+used-hits {ns} {flags} {near} {nodes = nodes} k table = record {
+  agrees = λ i l h.
+      let a = any-says flags (references (tree_at ns i)) in
+      let e = near-refers table i (i + (row_at ns i).size) (omega arith) (k.tree i h).ends in
+      same-test (used_by flags (tree_at ns i)) (ltb (get_or near i 0) (i + (row_at ns i).size))
+      (λ t. let x = a.0 t in e.1 (x.name, x.listed, x.set), λ t. let x = e.0 t in a.1 record { name = x.0; listed = x.1; set = x.2 });
+}
 
 -- Tests that agree on sites keep the same.
 pub kept-same : (f g : Site → Bool) (ss : List Site) → ((s : Site) → Memᴰ s ss → f s ≡ g s) → kept f ss ≡ kept g ss

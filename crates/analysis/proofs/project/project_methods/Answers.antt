@@ -9,7 +9,7 @@ take_methods-requires c =
     let l = c.loop-s.invariant.left in
     let y = c.requires.0 in
     let h = c.loop-s-test.true in
-    rw (c.new.ensures.over.rows, c.new.ensures.over.until, c.new.ensures.at) (service-methods l y h _ c.at-t.ensures, service-room l y h _ c.at-t.ensures c.requires.1)
+    rw (c.new.ensures.over.rows, c.new.ensures.over.until, c.new.ensures.at) (service-methods y h _ c.at-t.ensures, service-room l y h _ c.at-t.ensures c.requires.1)
 
 pub loop-s-preserved : goal.loop-s-preserved
 loop-s-preserved c =

@@ -35,6 +35,6 @@ returns c =
       first = c.nearest.ensures.0;
       rest = λ i h. c.nearest.ensures.1.kept i (omega arith)
           ∙ c.link.ensures.1.kept i (λ v b n. omega arith)
-          ∙ ap (λ (t : List ℕ). get_or t i 0) p.2
+          ∙ ap (λ (t : List ℕ). get_or t i 0) p.1
           ∙ places-at i;
     }

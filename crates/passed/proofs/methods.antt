@@ -1,0 +1,2 @@
+-- Laws of the methods that change.
+pub mod Laws
