@@ -1,4 +1,5 @@
--- Which names reach one of some names, and which rows tell one that does; and what the tables hold by which they are found. Definitions; assumes nothing.
+-- Which names reach one of some names, and which rows tell one that does; and what the tables hold by which they are found. Definitions; assumes
+-- nothing.
 use Rattle.std.specs.Prelude.{◌≡◌, ◌↔◌, ◌⊎◌, List, ℕ, suc, ◌+◌, ◌≤◌, ◌<◌, T, length, get_or, replicate}
 use mathlib.Core.List.{Memᴰ}
 use Rattle.format.specs.Book.{Definition}

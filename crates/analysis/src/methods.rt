@@ -1,5 +1,5 @@
-// Which methods use one of some names: the positions of the methods that have an entry in one of the rows of `chase_def_use`, without the entries. One
-// test a method tells: a function is no name itself, so that what its tree uses its arguments and results do.
+// Which methods use one of some names: the positions of the methods that have an entry in one of their rows of `chase_def_use`, without the entries.
+// One test a method tells: a function is no name itself, so that what its tree uses its arguments and results do.
 ghost use Rattle.std.specs.Prelude.{◌≡◌, List, ℕ, ◌++◌, ◌+◌, ◌≤◌, IfSome};
 ghost use Rattle.arrayvec.specs.ArrayVec.{array_vec_len};
 ghost use Rattle.format.specs.Forest.{breadth};

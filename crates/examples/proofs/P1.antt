@@ -128,8 +128,8 @@ p1-counts-in-three {x} {y} {z} {new} {r} h =
 pub p1-total : TotalOf p1 2
 p1-total = subst (λ (l : List ℕ). TotalOf p1 (sum l)) p1-counted p1-counts-sent.total
 
--- ---- Its methods: put, at position 0, changes with tree, with pair and with both; none changes with spare, with leaf, which is no definition, or with
--- 65,535, which is no name
+-- ---- Its methods: put, at position 0, changes with tree, with pair and with both; none changes with spare, with leaf, which is no definition, or
+-- with 65,535, which is no name
 pub p1-methods : (methods p1 (6 ∷ []) ≡ given (0 ∷ [])) × (methods p1 (3 ∷ []) ≡ given (0 ∷ [])) × (methods p1 (3 ∷ 6 ∷ []) ≡ given (0 ∷ []))
 unfolding methods-computed samples-computed
 p1-methods = (refl, refl, refl)

@@ -1,6 +1,6 @@
 -- How many methods an actor of an admitted book offers at most: 1,025. Those of a service that stands in the book differ by name, since no label is
--- repeated, and those of one that imports have made by hash; a book has 1,024 names, and no name at all has a hash as well. Assumes that the book
--- fits and that its labels differ.
+-- repeated, and those of one that imports have made by hash. A book has 1,024 names; `hashes-few` allows for one hash more, that of a number outside
+-- the table, which no method of a book that fits has. Assumes that the book fits and that its labels differ.
 use mathlib.Core.Path.{◌≡◌, refl, sym, ap, subst}
 use mathlib.Core.Logic.{⊎_elim}
 use mathlib.Core.Bool.{Bool, true, false, cond}
